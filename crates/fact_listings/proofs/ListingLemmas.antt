@@ -1,6 +1,8 @@
 -- The facts that the rows of an answer tell are those of a listing.
 use Rattle.std.proofs.Common.{◌≡◌, ◌≢◌, ◌∙◌, ◌↔◌, ℕ, ◌*◌, true, false, List, [], ◌∷◌, ◌++◌, refl, sym, ap, ap₂, subst}
 use Rattle.std.proofs.Common.{map, cond, eqb, Contains, Option, Some, take}
+use Rattle.std.proofs.Math.Logic.{∥∥₁_elim}
+use mathlib.Core.HLevel.{⊥_prop}
 use Rattle.std.specs.List.{AllPairs, IsDistinct}
 use Rattle.std.specs.List.Sorted.{IsPermutation, IsSorted}
 use Rattle.std.proofs.lemmas.List.{length-map, map-append}
@@ -35,11 +37,10 @@ use Rattle.fact_listings.proofs.OrderLemmas.{columns_cmp, pairs_map, rows_rise}
 
 -- how a set stands in a table and in a content, and how a listing shows it
 pub record IsShownSet {X : Type 0} (values_of : X → Values) (row_of : X → Row) (letter_of : X → ℕ) (place : X → Place)
-    (Is : X → Type 0) (set : ℕ → Option X) (listed : Listed) (c : Content) : Type 0 where
+    (set : ℕ → Option X) (listed : Listed) (c : Content) : Type 0 where
   pub one : (a b : X) → values_of a ≡ values_of b → a ≡ b
   pub shows : (x : X) → marked row_of letter_of x ≡ row_shown (record { row = row_of x; place = place x })
   pub leads : (x : X) → column (values_of x) 0 ≡ natural (row_of x).serial
-  pub formed : (n : ℕ) (x : X) → set n ≡ Some x → Is x
   pub stands : (n : ℕ) (x : X) → set n ≡ Some x → StandsAt c.sets n (record { row = row_of x; place = place x })
   pub within : (x : X) → IsPlaceOf listed (place x)
   pub back : (n : ℕ) (row : Row) (at : Place) → StandsAt c.sets n (record { row = row; place = at })
@@ -58,8 +59,8 @@ abbrev shown_place : Values → ℕ
 shown_place v = place_of (column v 0)
 
 module _ {X : Type 0} (values_of : X → Values) (row_of : X → Row) (letter_of : X → ℕ) (place : X → Place)
-    (Is : X → Type 0) (set : ℕ → Option X) (listed : Listed) (c : Content)
-    (kind : IsShownSet values_of row_of letter_of place Is set listed c)
+    (set : ℕ → Option X) (listed : Listed) (c : Content)
+    (kind : IsShownSet values_of row_of letter_of place set listed c)
     (q : Question) (asked : Values) (app : Option (List ℕ)) (asks : AsksFor values_of row_of q asked app)
     (all : Tables) (facts : (v : Values) → Contains (map (shown q.table) (all q.table)) v ↔ IsOfSet values_of set v)
   where
@@ -106,20 +107,21 @@ module _ {X : Type 0} (values_of : X → Values) (row_of : X → Row) (letter_of
 
     -- ---- each serial once
 
-    shown_apart : HaveRowids (all q.table) → AllPairs (λ v w. shown_place v ≢ shown_place w)
+    shown_apart : ∥ HaveRowids (all q.table) ∥₁ → AllPairs (λ v w. shown_place v ≢ shown_place w)
         (map (shown q.table) (all q.table))
-    shown_apart have = distinct_apart shown_place (map (shown q.table) (all q.table))
-        (subst (IsDistinct eqb) (sym (map-map shown_place (shown q.table) (all q.table)
-        ∙ ap (λ f. map f (all q.table)) asks.own)) (distinct_rowids (all q.table) have))
+    shown_apart have i j d low within same = ∥∥₁_elim have ⊥_prop (λ have. distinct_apart shown_place
+        (map (shown q.table) (all q.table)) (subst (IsDistinct eqb) (sym (map-map shown_place (shown q.table)
+        (all q.table) ∙ ap (λ f. map f (all q.table)) asks.own)) (distinct_rowids (all q.table) have)) i j d low within
+        same)
 
-    rows_apart : (rows : List Values) → Answers q asked all rows → HaveRowids (all q.table)
+    rows_apart : (rows : List Values) → Answers q asked all rows → ∥ HaveRowids (all q.table) ∥₁
         → AllPairs (λ v w. shown_place v ≢ shown_place w) rows
     rows_apart rows a have = distinct_apart shown_place rows
         (IsDistinct-IsPermutation eqb flips _ _ (IsPermutation-map shown_place _ rows (same_rows rows a))
         (apart_distinct shown_place _
         (AllPairs-filter (λ v w. shown_place v ≢ shown_place w) (passes q asked) _ (shown_apart have))))
 
-    module _ (xs : List X) (a : Answers q asked all (map values_of xs)) (have : HaveRowids (all q.table)) where
+    module _ (xs : List X) (a : Answers q asked all (map values_of xs)) (have : ∥ HaveRowids (all q.table) ∥₁) where
       serials_apart : AllPairs (λ x y. (row_of x).serial ≢ (row_of y).serial) xs
       serials_apart =
           let apart = distinct_apart (λ (x : X). shown_place (values_of x)) xs
@@ -169,7 +171,7 @@ module _ {X : Type 0} (values_of : X → Values) (row_of : X → Row) (letter_of
     -- ---- what was handed out
 
     module _ {K : Type 0} (Takes Refuses : K → Shown → K → Type 0) (old new : K) where
-      pub hands_all : HaveRowids (all q.table) → (count : ℕ)
+      pub hands_all : ∥ HaveRowids (all q.table) ∥₁ → (count : ℕ)
           → TellsAll values_of row_of letter_of Takes (Answers q asked all) old new count
           → HandsAll Takes (ShowRows listed app c) old new count
       hands_all have count h = record {
@@ -187,25 +189,25 @@ module _ {X : Type 0} (values_of : X → Values) (row_of : X → Row) (letter_of
           let head : values_of x ≡ values_of fact = cc in
           (map show more, ap (λ y. show y ∷ map show more) (kind.one x fact head))
 
-      ends : (fault : ListedFault) (done more : List X) (rest : List Values) → map values_of more ≡ rest
+      ends : (Is : X → Type 0) (fault : ListedFault) (done more : List X) (rest : List Values) → map values_of more ≡ rest
           → EndsTelling Is values_of row_of letter_of Takes Refuses old done rest new fault
           → EndsSo Takes Refuses old (map show done) (map show more) new fault
-      ends Memory done more rest are taken = taken
-      ends Untold done more rest are (taken, _) = taken
-      ends (Sink fault) done more rest are (last, fact, later, is, taken, refused) =
+      ends Is Memory done more rest are taken = taken
+      ends Is Untold done more rest are (taken, _) = taken
+      ends Is (Sink fault) done more rest are (last, fact, later, is, taken, refused) =
           let (items, shows) = next_is more rest fact later are is in
           (last, show fact, items, shows, taken, refused)
-      ends (Store error) done more rest are taken = taken
+      ends Is (Store error) done more rest are taken = taken
 
       rest_told : (done : List X) (rest : List Values) → Answers q asked all (map values_of done ++ rest)
           → (row : Values) → Contains rest row → IsTold row
       rest_told done rest a row there =
           row_told (map values_of done ++ rest) a row (Contains-append_right (map values_of done) rest row there)
 
-      pub hands_part : HaveRowids (all q.table) → (fault : ListedFault)
+      pub hands_part : (Is : X → Type 0) → ∥ HaveRowids (all q.table) ∥₁ → (fault : ListedFault)
           → TellsPart Is values_of row_of letter_of Takes Refuses (Answers q asked all) old new fault
           → HandsPart Takes Refuses (ShowRows listed app c) old new fault
-      hands_part have fault h =
+      hands_part Is have fault h =
           let (more, are) = tells_each h.rest (rest_told h.done h.rest h.whole) in
           let both = map-append values_of h.done more ∙ ap (λ l. map values_of h.done ++ l) are in
           let a = subst (Answers q asked all) (sym both) h.whole in
@@ -213,15 +215,15 @@ module _ {X : Type 0} (values_of : X → Values) (row_of : X → Row) (letter_of
             done = map show h.done;
             rest = map show more;
             whole = subst (ShowRows listed app c) (map-append show h.done more) (is_listing (h.done ++ more) a have);
-            ends = ends fault h.done more h.rest are h.ends;
+            ends = ends Is fault h.done more h.rest are h.ends;
           }
 
-      pub each_tells : (fault : ListedFault)
+      pub each_tells : (Is : X → Type 0) → ((n : ℕ) (x : X) → set n ≡ Some x → Is x) → (fault : ListedFault)
           → TellsPart Is values_of row_of letter_of Takes Refuses (Answers q asked all) old new fault → fault ≢ Untold
-      each_tells Memory h e = cc
-      each_tells Untold h e =
+      each_tells Is formed Memory h e = cc
+      each_tells Is formed Untold h e =
           let (taken, (row, later, is, none)) = h.ends in
           let t = rest_told h.done h.rest h.whole row (subst (λ l. Contains l row) (sym is) (contains_first row later))
-          in none t.fact (kind.formed t.number t.fact t.has) t.is
-      each_tells (Sink fault) h e = cc
-      each_tells (Store error) h e = cc
+          in none t.fact (formed t.number t.fact t.has) t.is
+      each_tells Is formed (Sink fault) h e = cc
+      each_tells Is formed (Store error) h e = cc

@@ -1,6 +1,9 @@
 -- History and the deletions, as their tables have them and as a listing shows them.
 use Rattle.std.proofs.Common.{◌≡◌, ◌∙◌, ◌↔◌, ◌&&◌, ℕ, true, List, [], ◌∷◌, Some, None, refl, sym, ap, Equal, Ordering}
 use Rattle.std.proofs.Common.{Less, Greater, is_eq}
+use Rattle.std.proofs.Math.Logic.{∥∥₁_elim}
+use Rattle.std.proofs.Props.{props}
+use base.Stored.{Coded-set}
 use Rattle.std.specs.Cmp.Lexicographic.{nat_list_cmp_total, slice_cmp}
 use Rattle.std.specs.FinMap.{nat_cmp-IsAntisymmetric, slice_cmp-IsAntisymmetric}
 use Rattle.std.specs.Ordering.{nat_cmp}
@@ -9,29 +12,47 @@ use Rattle.sqlite.specs.declared.types.Value.TheVariants.{Text}
 use Rattle.sqlite_sql.specs.declared.ops.CompareOp.TheVariants.{Eq}
 use Rattle.occurrences.specs.Place.{reason_letter}
 use Rattle.occurrences.specs.Status.{status_letter}
+use Rattle.occurrences.specs.contracts.place.CurrentRow as current
+use Rattle.occurrences.specs.contracts.place.Deletion as deletion
+use Rattle.occurrences.specs.contracts.row.Row as row
+use Rattle.occurrences.specs.declared.place.CurrentRow.{CurrentRow}
 use Rattle.occurrences.specs.declared.place.Deletion.{Deletion}
 use Rattle.occurrences.specs.declared.place.Place.{Place}
 use Rattle.occurrences.specs.declared.place.Place.TheVariants.{LongTerm, Current, History, Deleted}
 use Rattle.occurrences.specs.declared.row.Row.{Row}
 use Rattle.occurrences.specs.declared.status.Status.TheVariants.{C}
-use Rattle.external_dependencies.specs.declared.rows.PlacedRow.{PlacedRow}
 use Rattle.planner_machine.specs.Content.{Content, Seat, alone, seat}
 use Rattle.planner_machine.specs.Shown.{InDeletions, InHistory, IsPlaceOf}
 use Rattle.planner_machine.specs.Sound.{IsSound}
 use Rattle.plan_store.proofs.PlaceLemmas.{stands_deleted, stands_history}
 use Rattle.table_facts.specs.Facts.{deletion_values, row_values}
-use Rattle.table_facts.proofs.Decoded.{one_deletion, one_row}
+use Rattle.table_facts.specs.Decoded.{deletion_of, row_of}
+use Rattle.table_facts.proofs.Decoded.{deletion_back as told_back, one_deletion, one_row, row_back}
 use Rattle.table_reading.specs.Cells.{IsNumberedRow}
+use Rattle.table_schema.specs.declared.tables.Table.TheVariants as table
 use Rattle.table_lookups.specs.Looks.{question}
 use Rattle.table_lookups.specs.Question.{is_so}
 use Rattle.table_lookups.specs.declared.looks.Look.TheVariants.{DeletionsListed, DeletionsOf, HistoryListed, HistoryOf}
-use Rattle.fact_lookups.proofs.SerialLemmas.{serial_of}
+use Rattle.fact_lookups.proofs.SerialLemmas.{completed_formed, deleted_formed}
 use Rattle.fact_lookups.proofs.TestLemmas.{alone_of, of_alone, so_texts}
+use Rattle.fact_listings.proofs.KnownLemmas.{IsReadSet}
 use Rattle.fact_listings.proofs.ListingLemmas.{AsksFor, IsShownSet}
 
 -- ---- the sets
 
-module _ (c : Content) (sound : IsSound c) where
+deletion_set : IsSet Deletion
+deletion_set = Coded-set deletion.the_row.coded
+
+row_set : IsSet Row
+row_set = Coded-set row.the_row.coded
+
+current_set : IsSet CurrentRow
+current_set = Coded-set current.the_row.coded
+
+seat_set : IsSet Seat
+seat_set = hlevel (props, row_set, current_set, deletion_set)
+
+module _ (c : Content) (sound : ∥ IsSound c ∥₁) where
   deletion_back : (n : ℕ) (row : Row) (at : Place) → seat c.sets n ≡ alone row at → IsPlaceOf InDeletions at
       → (x : Deletion) × (c.sets.deletions n ≡ Some x) × (x.row ≡ row) × (Deleted x.reason ≡ at)
   deletion_back n row LongTerm stands is = absurd is
@@ -49,34 +70,46 @@ module _ (c : Content) (sound : IsSound c) where
 
   pub deletions_shown : IsShownSet deletion_values (λ (d : Deletion). d.row)
       (λ (d : Deletion). reason_letter d.reason) (λ (d : Deletion). Deleted d.reason)
-      (λ (d : Deletion). IsNumberedRow d.row) c.sets.deletions InDeletions c
+      c.sets.deletions InDeletions c
   deletions_shown = record {
     one = one_deletion;
     shows = λ d. refl;
     leads = λ d. refl;
-    formed = λ n d has.
-        let placed : PlacedRow = record { row = d.row; place = Deleted d.reason } in
-        let stands = stands_deleted c.sets sound.serials n d has in
-        (sound.ranges.rows n placed stands, serial_of c sound n placed stands);
-    stands = stands_deleted c.sets sound.serials;
+    stands = λ n d has. ∥∥₁_elim sound (seat_set _ _) (λ is. stands_deleted c.sets is.serials n d has);
     within = λ d. tt;
     back = deletion_back;
   }
 
   pub history_shown : IsShownSet row_values (λ (row : Row). row) (λ (row : Row). status_letter C)
-      (λ (row : Row). History) IsNumberedRow c.sets.history InHistory c
+      (λ (row : Row). History) c.sets.history InHistory c
   history_shown = record {
     one = one_row;
     shows = λ row. refl;
     leads = λ row. refl;
-    formed = λ n row has.
-        let placed : PlacedRow = record { row = row; place = History } in
-        let stands = stands_history c.sets sound.serials n row has in
-        (sound.ranges.rows n placed stands, serial_of c sound n placed stands);
-    stands = stands_history c.sets sound.serials;
+    stands = λ n row has. ∥∥₁_elim sound (seat_set _ _) (λ is. stands_history c.sets is.serials n row has);
     within = λ row. tt;
     back = history_back;
   }
+
+pub deletions_read : IsReadSet table.Deletion deletion_values deletion_of (λ (d : Deletion). d.row.serial)
+    (λ (d : Deletion). IsNumberedRow d.row) (λ (c : Content). c.sets.deletions)
+deletions_read = record {
+  is_set = deletion_set;
+  back = told_back;
+  facts = λ all c is. is.facts table.Deletion;
+  own = λ c tellable. tellable.deletions;
+  formed = deleted_formed;
+}
+
+pub history_read : IsReadSet table.History row_values row_of (λ (row : Row). row.serial) IsNumberedRow
+    (λ (c : Content). c.sets.history)
+history_read = record {
+  is_set = row_set;
+  back = row_back;
+  facts = λ all c is. is.facts table.History;
+  own = λ c tellable. tellable.history;
+  formed = completed_formed;
+}
 
 -- ---- the questions
 

@@ -39,23 +39,28 @@ StopsFor old new Untold = IsUnchanged old new
 StopsFor old new (Sink _) = IsUnchanged old new
 StopsFor old new (Store e) = MayFail old new e
 
--- where the disk gives back what was written, and the tables of the plan have a sound content
-abbrev pub OfContent : State → State → (Content → Type 0) → Type 0
-OfContent old new Is = HasCleanDisk new → HasTables old.now.schema → (c : Content)
-    → IsContentOf (tables_of old.now.trees) c → IsSound c → Is c
+-- the tables of the plan have the content, which is sound, and each row stands in this table once
+pub record HoldsContent (s : State) (t : Table) (c : Content) : Type 0 where
+  pub schema : HasTables s.now.schema
+  pub content : IsContentOf (tables_of s.now.trees) c
+  pub sound : IsSound c
+  pub rowids : HaveRowids (tables_of s.now.trees t)
 
--- Over the tables of a plan that have a sound content each row tells its fact; and where each row stands in this table
--- once, an Ok is the number of all items of the listing, which the sink took in its order, and an error means that it
--- took the first of them and, where it is to blame, refused the next. Whatever the tables have, nothing is changed by an
--- Ok; it fails by the sink, for want of memory, for a row that tells no fact or for one of the common causes, and no more
--- is undone than was not committed; a crash finds what it found before.
+-- where the disk gives back what was written, and the tables have the content, be it known as a mere fact
+abbrev pub OfContent : State → State → Table → (Content → Type 0) → Type 0
+OfContent old new t Is = HasCleanDisk new → (c : Content) → ∥ HoldsContent old t c ∥₁ → Is c
+
+-- Over the tables of a plan that have a sound content, with each row in this table once, each row tells its fact, an Ok
+-- is the number of all items of the listing, which the sink took in its order, and an error means that it took the first
+-- of them and, where it is to blame, refused the next. Whatever the tables have, nothing is changed by an Ok; it fails by
+-- the sink, for want of memory, for a row that tells no fact or for one of the common causes, and no more is undone than
+-- was not committed; a crash finds what it found before.
 pub record Lists {S K : Type 0} (g : Ghosts S) (old new : Held S) (t : Table) (Takes Refuses : K → Shown → K → Type 0)
     (before after : K) (IsWhole : Content → List Shown → Type 0) (result : Result ℕ ListedFault) : Type 0 where
-  pub all : OfContent (state g old) (state g new) (λ c. HaveRowids (tables_of (state g old).now.trees t)
-      → IfOk result (HandsAll Takes (IsWhole c) before after))
-  pub part : OfContent (state g old) (state g new) (λ c. HaveRowids (tables_of (state g old).now.trees t)
-      → IfErr result (HandsPart Takes Refuses (IsWhole c) before after))
-  pub told : OfContent (state g old) (state g new) (λ c. IfErr result (λ fault. fault ≢ Untold))
+  pub all : OfContent (state g old) (state g new) t (λ c. IfOk result (HandsAll Takes (IsWhole c) before after))
+  pub part : OfContent (state g old) (state g new) t
+      (λ c. IfErr result (HandsPart Takes Refuses (IsWhole c) before after))
+  pub told : OfContent (state g old) (state g new) t (λ c. IfErr result (λ fault. fault ≢ Untold))
   pub same : HasCleanDisk (state g new) → HasTables (state g old).now.schema
       → IfOk result (λ _. IsUnchanged (state g old) (state g new))
   pub fails : HasCleanDisk (state g new) → HasTables (state g old).now.schema

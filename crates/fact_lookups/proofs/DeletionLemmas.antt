@@ -13,14 +13,11 @@ use Rattle.sqlite_keyed.proofs.ListLemmas.{map-map}
 use Rattle.sqlite_sql.specs.declared.ops.CompareOp.TheVariants.{Eq}
 use Rattle.occurrences.specs.Place.{reason_letter}
 use Rattle.occurrences.specs.declared.place.Deletion.{Deletion}
-use Rattle.occurrences.specs.declared.place.Place.TheVariants.{Deleted}
 use Rattle.occurrences.specs.declared.place.Reason.{Reason}
 use Rattle.occurrences.specs.declared.place.Reason.TheVariants.{Operator, Withdrawn, Plan}
-use Rattle.external_dependencies.specs.declared.rows.PlacedRow.{PlacedRow}
 use Rattle.planner_machine.specs.Content.{Content}
 use Rattle.planner_machine.specs.Sound.{IsSound}
 use Rattle.definition_records.proofs.RisingLemmas.{Contains-map, Contains-map_back}
-use Rattle.plan_store.proofs.PlaceLemmas.{stands_deleted}
 use Rattle.table_schema.specs.Rows.{HaveRowids, Tables, shown}
 use Rattle.table_schema.specs.declared.tables.Table.TheVariants as table
 use Rattle.table_lookups.specs.Finding.{natural}
@@ -39,7 +36,7 @@ use Rattle.fact_lookups.specs.Telling.{TellsNot}
 use Rattle.fact_lookups.specs.declared.faults.LookupFault.{LookupFault}
 use Rattle.fact_lookups.specs.declared.faults.LookupFault.TheVariants.{Memory, Untold, Store}
 use Rattle.fact_lookups.proofs.RowLemmas.{asked_is, is_asked}
-use Rattle.fact_lookups.proofs.SerialLemmas.{serial_of}
+use Rattle.fact_lookups.proofs.SerialLemmas.{deleted_formed}
 use Rattle.fact_lookups.proofs.TestLemmas.{both_of, is_late, late_is, of_both, so_texts}
 
 -- ---- the tests
@@ -136,7 +133,5 @@ module _ (all : Tables) (c : Content) (is : IsContentOf all c) (moment : ℕ) (r
   deletion_is_told sound Memory tells e = cc
   deletion_is_told sound Untold (row, there, none) e =
       let (d, gone, values) = row_is row there in
-      let placed : PlacedRow = record { row = d.row; place = Deleted d.reason } in
-      let stands = stands_deleted c.sets sound.serials gone.serial d gone.is in
-      none d (sound.ranges.rows gone.serial placed stands, serial_of c sound gone.serial placed stands) (sym values)
+      none d (deleted_formed c sound gone.serial d gone.is) (sym values)
   deletion_is_told sound (Store error) tells e = tells

@@ -3,12 +3,15 @@ use Rattle.std.specs.Prelude.{◌≢◌, ⊤, Result, Ok, Err, IfErr, IfOk, OnOk
 use Rattle.sqlite.specs.Held.{Held, state}
 use Rattle.sqlite.specs.State.{IsUnchanged, State}
 use Rattle.sqlite.specs.Store.{Ghosts}
+use Rattle.sqlite.specs.declared.error.Error.{Error}
 use Rattle.planner_machine.specs.Content.{Content}
 use Rattle.planner_machine.specs.Sound.{IsSound}
 use Rattle.table_schema.specs.Rows.{Tables, tables_of}
+use Rattle.table_schema.proofs.ResultLemmas.{if_err, if_ok}
 use Rattle.table_facts.specs.Content.{IsContentOf}
 use Rattle.table_lookups.specs.Finding.{Finds}
 use Rattle.fact_lookups.specs.Finding.{FindsFact, StopsFor}
+use Rattle.fact_lookups.specs.Telling.{TellsTables}
 use Rattle.fact_lookups.specs.declared.faults.LookupFault.{LookupFault}
 use Rattle.fact_lookups.specs.declared.faults.LookupFault.TheVariants.{Memory, Untold, Store}
 
@@ -22,12 +25,15 @@ holds_ok : {T : Type 0} (result : Result T LookupFault) (P : Type 0) → P → O
 holds_ok (Ok x) P is = is
 holds_ok (Err fault) P is = tt
 
+pub stops_for : (fault : LookupFault) (old new : State) → IsOfRow fault → IsUnchanged old new → StopsFor old new fault
+stops_for Memory old new of_row same = same
+stops_for Untold old new of_row same = same
+stops_for (Store e) old new of_row same = absurd of_row
+
 stops : {T : Type 0} (result : Result T LookupFault) (old new : State) → IfErr result IsOfRow → IsUnchanged old new
     → IfErr result (StopsFor old new)
 stops (Ok x) old new of_row same = tt
-stops (Err Memory) old new of_row same = same
-stops (Err Untold) old new of_row same = same
-stops (Err (Store e)) old new of_row same = absurd of_row
+stops (Err fault) old new of_row same = stops_for fault old new of_row same
 
 module _ {S T R : Type 0} (g : Ghosts S) (old new : Held S) (rows : R) (IsRows : Tables → R → Type 0)
     (asked : Finds g old new (Ok rows) IsRows) (IsFound : Content → T → Type 0) (result : Result T LookupFault) where
@@ -45,4 +51,35 @@ module _ {S T R : Type 0} (g : Ghosts S) (old new : Held S) (rows : R) (IsRows :
     leaves = asked.leaves;
     mode = asked.mode;
     survives = asked.survives;
+  }
+
+-- the tables could not be asked
+pub not_found : {S T R : Type 0} (g : Ghosts S) (old new : Held S) (error : Error) (IsRows : Tables → R → Type 0)
+    → Finds g old new (Err error) IsRows → (IsFound : Content → T → Type 0)
+    → FindsFact g old new (Err (Store error)) IsFound
+not_found g old new error IsRows asked IsFound = record {
+  found = λ _ _ _ _ _. tt;
+  told = λ _ _ _ _ _ e. cc;
+  same = λ _ _. tt;
+  fails = asked.fails;
+  leaves = asked.leaves;
+  mode = asked.mode;
+  survives = asked.survives;
+}
+
+-- what all rows of a table tell
+module _ {S T : Type 0} (g : Ghosts S) (old new : Held S) (result : Result T LookupFault) (IsTold : Tables → T → Type 0)
+    (IsUntold : Tables → Type 0) (IsFound : Content → T → Type 0)
+    (found : (all : Tables) (c : Content) → IsContentOf all c → (x : T) → IsTold all x → IsFound c x)
+    (told : (all : Tables) (c : Content) → IsContentOf all c → IsSound c → IsUntold all → ⊥) where
+  pub finds_told : TellsTables g old new result IsTold IsUntold → FindsFact g old new result IsFound
+  finds_told tells = record {
+    found = λ clean has c is sound. if_ok result _ _ (found _ c is) (tells.told clean has);
+    told = λ clean has c is sound. if_err result _ _ (λ fault untold e. told _ c is sound (untold e))
+        (tells.untold clean has);
+    same = tells.same;
+    fails = tells.fails;
+    leaves = tells.leaves;
+    mode = tells.mode;
+    survives = tells.survives;
   }

@@ -2,5 +2,8 @@ pub mod FindLemmas
 pub mod TestLemmas
 pub mod RowLemmas
 pub mod SerialLemmas
-pub mod JobLemmas
+pub mod NumberLemmas
+pub mod LastLemmas
 pub mod DeletionLemmas
+pub mod AllLemmas
+pub mod CollectLemmas

@@ -7,7 +7,7 @@ use Rattle.keyed_lists.proofs.KeyLemmas.{contains_filter, filter_contains}
 use Rattle.table_schema.specs.Rows.{Tables, shown}
 use Rattle.table_lookups.specs.Question.{Question, asked_for, passes}
 use Rattle.table_facts.specs.Content.{IsOfSet}
-use Rattle.fact_lookups.specs.Telling.{TellsNot}
+use Rattle.fact_lookups.specs.Telling.{HasUntold, TellsNone, TellsNot}
 use Rattle.fact_lookups.specs.declared.faults.LookupFault.{LookupFault}
 use Rattle.fact_lookups.specs.declared.faults.LookupFault.TheVariants.{Memory, Untold, Store}
 use Rattle.fact_lookups.proofs.FindLemmas.{IsOfRow}
@@ -18,6 +18,25 @@ pub is_of_row : {X : Type 0} (Is : X → Type 0) (values_of : X → Row) (rows :
 is_of_row Is values_of rows Memory tells = tt
 is_of_row Is values_of rows Untold tells = tt
 is_of_row Is values_of rows (Store error) tells = tells
+
+pub none_of_row : {X : Type 0} (Is : X → Type 0) (values_of : X → Row) (row : Row) (fault : LookupFault)
+    → TellsNone Is values_of row fault → IsOfRow fault
+none_of_row Is values_of row Memory tells = tt
+none_of_row Is values_of row Untold tells = tt
+none_of_row Is values_of row (Store error) tells = tells
+
+-- one of the rows tells nothing
+pub none_among : {X : Type 0} (Is : X → Type 0) (values_of : X → Row) (rows : List Row) (row : Row) → Contains rows row
+    → (fault : LookupFault) → TellsNone Is values_of row fault → TellsNot Is values_of rows fault
+none_among Is values_of rows row there Memory tells = tt
+none_among Is values_of rows row there Untold tells = (row, there, tells)
+none_among Is values_of rows row there (Store error) tells = tells
+
+pub untold_of : {X : Type 0} (Is : X → Type 0) (values_of : X → Row) (rows : List Row) (fault : LookupFault)
+    → TellsNot Is values_of rows fault → fault ≡ Untold → HasUntold Is values_of rows
+untold_of Is values_of rows Memory tells e = absurd (let k = e in cc)
+untold_of Is values_of rows Untold tells e = tells
+untold_of Is values_of rows (Store error) tells e = absurd tells
 
 -- something that the set has, and whose values pass
 pub record IsAsked {X : Type 0} (q : Question) (asked : Row) (values_of : X → Row) (set : ℕ → Option X) (row : Row)

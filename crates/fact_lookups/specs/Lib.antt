@@ -1,3 +1,4 @@
 pub mod Telling
 pub mod Finding
 pub mod Deletions
+pub mod Last

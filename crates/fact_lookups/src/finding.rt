@@ -1,19 +1,27 @@
-// Facts are found by a number or a moment.
+// Facts are found by a number, by a name and a moment, or all of a table.
 
 ghost use Rattle.std.specs.Prelude.{◌≡◌, ◌<◌, ◌^◌};
 ghost use Rattle.sqlite.specs.Held.{state};
+ghost use Rattle.keyed_lists.specs.Rows.{of_deletion, of_row};
+ghost use Rattle.plan_store.specs.Parts.{ListsAll};
 ghost use Rattle.table_schema.specs.Rows.{tables_of};
 ghost use Rattle.fact_lookups.specs.Deletions.{AreGoneFrom};
 ghost use Rattle.fact_lookups.specs.Finding.{FindsFact};
+ghost use Rattle.fact_lookups.specs.Last.{IsLastRow};
 
+use crate::collecting::tell_all;
 use crate::faults::LookupFault;
-use crate::telling::{tell_each, tell_first};
-use occurrences::Deletion;
+use crate::telling::{tell_each, tell_found, tell_row};
+use occurrences::{Deletion, Row, Serial};
 use planner_machine::Job;
 use sqlite::{Alter, Connection};
 use std::alloc::Global;
 use table_facts::answer_is_small;
-use table_lookups::{job_of_number, operator_deletions_from};
+use table_lookups::{
+    deletion_of_serial, history_of_serial, job_of_number, last_of, operator_deletions_from,
+};
+use table_schema::Table;
+use work_calendars::App;
 
 /// The job that is kept under the number, if there is one.
 pub fn kept_job<S: Alter>(
@@ -24,16 +32,62 @@ pub fn kept_job<S: Alter>(
     requires { number < 2 ^ 63 }
     ensures { FindsFact S.Store conn.old conn.new result (λ c found. found ≡ c.jobs number) }
 {
-    let rows = match job_of_number(conn, number) {
-        Ok(rows) => rows,
-        Err(error) => return Err(LookupFault::Store(error)),
-    };
-    match tell_first::<Job>(alloc, &rows) {
+    let found = job_of_number(conn, number);
+    match tell_found::<Job>(alloc, found) {
         Ok(Some(job)) => {
             answer_is_small(&job.reply);
             Ok(Some(job))
         }
         Ok(None) => Ok(None),
+        Err(fault) => Err(fault),
+    }
+}
+
+/// The row that stands in history under the serial, if there is one.
+pub fn completed_row<S: Alter>(
+    alloc: Global,
+    conn: &mut Connection<S>,
+    serial: Serial,
+) -> Result<Option<Row>, LookupFault>
+    ensures { FindsFact S.Store conn.old conn.new result (λ c found.
+        found ≡ c.sets.history serial) }
+{
+    let found = history_of_serial(conn, serial.get());
+    tell_found::<Row>(alloc, found)
+}
+
+/// The deletion of the serial, if there is one.
+pub fn deleted_row<S: Alter>(
+    alloc: Global,
+    conn: &mut Connection<S>,
+    serial: Serial,
+) -> Result<Option<Deletion>, LookupFault>
+    ensures { FindsFact S.Store conn.old conn.new result (λ c found.
+        found ≡ c.sets.deletions serial) }
+{
+    let found = deletion_of_serial(conn, serial.get());
+    tell_found::<Deletion>(alloc, found)
+}
+
+/// Of the application's rows of history the one that arrives last at the moment or before it, if there is one.
+pub fn last_completed<S: Alter>(
+    alloc: Global,
+    conn: &mut Connection<S>,
+    app: &App,
+    moment: u32,
+) -> Result<Option<Row>, LookupFault>
+    ensures { FindsFact S.Store conn.old conn.new result (λ c found.
+        IsLastRow c.sets.history app.now moment found) }
+{
+    let found = match last_of(conn, app.as_str(), moment) {
+        Ok(found) => found,
+        Err(error) => return Err(LookupFault::Store(error)),
+    };
+    let Some(cells) = found else {
+        return Ok(None);
+    };
+    match tell_row::<Row>(alloc, &cells) {
+        Ok(row) => Ok(Some(row)),
         Err(fault) => Err(fault),
     }
 }
@@ -52,4 +106,26 @@ pub fn deletions_from<S: Alter>(
         Err(error) => return Err(LookupFault::Store(error)),
     };
     tell_each::<Deletion>(alloc, &rows)
+}
+
+/// All rows of history, in some order.
+pub fn completed_rows<S: Alter>(
+    alloc: Global,
+    conn: &mut Connection<S>,
+) -> Result<Vec<Row>, LookupFault>
+    ensures { FindsFact S.Store conn.old conn.new result (λ c found.
+        ListsAll of_row found.items c.sets.history) }
+{
+    tell_all::<Row, S>(alloc, conn, Table::History)
+}
+
+/// All deletions, in some order.
+pub fn deleted_rows<S: Alter>(
+    alloc: Global,
+    conn: &mut Connection<S>,
+) -> Result<Vec<Deletion>, LookupFault>
+    ensures { FindsFact S.Store conn.old conn.new result (λ c found.
+        ListsAll of_deletion found.items c.sets.deletions) }
+{
+    tell_all::<Deletion, S>(alloc, conn, Table::Deletion)
 }

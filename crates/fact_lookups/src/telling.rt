@@ -1,25 +1,42 @@
 // What the rows of an answer tell.
 
 ghost use Rattle.std.specs.Prelude.{◌≡◌, map, IfErr, IfOk};
-ghost use Rattle.fact_lookups.specs.Telling.{TellsFirst, TellsNot};
+ghost use Rattle.fact_lookups.specs.Telling.{TellsFound, TellsNone, TellsNot};
 
 use crate::faults::LookupFault;
-use sqlite::Row;
+use sqlite::{Error, Row};
 use std::alloc::{AllocError, Global};
 use table_reading::Told;
 
-/// What the first row tells; `None` where there is none.
-pub(crate) fn tell_first<X: Told>(alloc: Global, rows: &[Row]) -> Result<Option<X>, LookupFault>
-    ensures told { IfOk result (TellsFirst X.values rows.now) }
-    ensures untold { IfErr result (TellsNot X.has_form X.values rows.now) }
+/// What the row tells.
+pub(crate) fn tell_row<X: Told>(alloc: Global, row: &Row) -> Result<X, LookupFault>
+    ensures told { IfOk result (λ x. X.values x ≡ row.now) }
+    ensures untold { IfErr result (TellsNone X.has_form X.values row.now) }
 {
+    match X::tell(alloc, row) {
+        Ok(Some(fact)) => Ok(fact),
+        Ok(None) => Err(LookupFault::Untold),
+        Err(AllocError) => Err(LookupFault::Memory),
+    }
+}
+
+/// What the first of the rows tells that were found; `None` where there is none.
+pub(crate) fn tell_found<X: Told>(
+    alloc: Global,
+    found: Result<Vec<Row>, Error>,
+) -> Result<Option<X>, LookupFault>
+    ensures { TellsFound X.has_form X.values found result }
+{
+    let rows = match found {
+        Ok(rows) => rows,
+        Err(error) => return Err(LookupFault::Store(error)),
+    };
     let Some(row) = rows.first() else {
         return Ok(None);
     };
-    match X::tell(alloc, row) {
-        Ok(Some(fact)) => Ok(Some(fact)),
-        Ok(None) => Err(LookupFault::Untold),
-        Err(AllocError) => Err(LookupFault::Memory),
+    match tell_row(alloc, row) {
+        Ok(fact) => Ok(Some(fact)),
+        Err(fault) => Err(fault),
     }
 }
 
@@ -32,14 +49,13 @@ pub(crate) fn tell_each<X: Told + Drop>(alloc: Global, rows: &[Row]) -> Result<V
         return Err(LookupFault::Memory);
     };
     for row in rows {
-        match X::tell(alloc, row) {
-            Ok(Some(fact)) => {
+        match tell_row(alloc, row) {
+            Ok(fact) => {
                 if xs.push(fact).is_err() {
                     return Err(LookupFault::Memory);
                 }
             }
-            Ok(None) => return Err(LookupFault::Untold),
-            Err(AllocError) => return Err(LookupFault::Memory),
+            Err(fault) => return Err(fault),
         }
     }
     Ok(xs)

@@ -10,6 +10,7 @@ mod MoveLemmas
 mod NotedLemmas
 mod OrderLemmas
 pub mod PairLemmas
+mod PartLemmas
 pub mod PlaceLemmas
 mod SeatedLemmas
 mod SerialLemmas

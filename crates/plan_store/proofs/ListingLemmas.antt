@@ -108,7 +108,7 @@ module _ {X : Type 0} (row_of : X → Row) where
             )
       ]
 
-  sorted_rows : (xs : List X) → HasEachOnce row_of xs → (ys : List X) × AllPairs Before ys
+  pub sorted_rows : (xs : List X) → HasEachOnce row_of xs → (ys : List X) × AllPairs Before ys
       × ((x : X) → Contains ys x ↔ Contains xs x)
   sorted_rows [] once = ([], none_rise, λ x. (λ there. there, λ there. there))
   sorted_rows (x ∷ xs) once =
@@ -157,7 +157,7 @@ module _ {X : Type 0} (row_of : X → Row) where
         (map (shown_as row_of letter_of is_plain) ys)
     shows_part ys is = shows_sorted ys (is.rising part_rows) is.same
 
-    pub shows_some : (items : List Shown) × ShowsSet row_of letter_of is_plain xs app items
+    shows_some : (items : List Shown) × ShowsSet row_of letter_of is_plain xs app items
     shows_some = let (ys, rise, same) = sorted_rows part (once_from_rows row_of part part_rows) in
         (map (shown_as row_of letter_of is_plain) ys, shows_sorted ys rise same)
 

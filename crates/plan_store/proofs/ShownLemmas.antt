@@ -434,6 +434,7 @@ module _ {X K : Type 0} (Takes Refuses : K → Shown → K → Type 0) (old new 
     ends = h.ends;
   }
 
+-- the pairs of a content, each with both its rows
 pub lists_links : (c : Content) (app : Option (List ℕ)) → AreNumbered c.sets → IsRising pair_cmp c.pairs
     → ListsPairs app c (links_at c.sets app c.pairs)
 lists_links c app numbered rises = record {

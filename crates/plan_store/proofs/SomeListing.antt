@@ -1,54 +1,172 @@
--- There is a listing of what is kept, also where none is made.
-use Rattle.std.proofs.Common.{◌≡◌, ◌↔◌, ℕ, Bool, true, false, List, filter, map, refl, Option, None, Some}
+-- There is a listing of a content, also where none is made.
+use Rattle.std.proofs.Common.{◌≡◌, ◌↔◌, ◌⊎◌, ◌∙◌, ℕ, zero, suc, ◌≤◌, Bool, true, false, List, [], ◌∷◌, arith, filter}
+use Rattle.std.proofs.Common.{get_or, inl, inr, map, refl, subst, sym, Option, None, Some}
 use Rattle.std.specs.Prelude.{nat_eq}
 use Rattle.std.specs.Cmp.Lexicographic.{bytes_decides, pointwise}
 use Rattle.std.specs.List.{Contains}
 use Rattle.std.specs.declared.cmp.Ordering.TheVariants.{Less}
-use Rattle.std.proofs.lemmas.List.Kept.{AllPairs-filter}
-use Rattle.occurrences.specs.Place.{reason_letter}
-use Rattle.occurrences.specs.Status.{status_letter}
-use Rattle.occurrences.specs.declared.place.CurrentRow.{CurrentRow}
-use Rattle.occurrences.specs.declared.place.Deletion.{Deletion}
+use Rattle.std.proofs.lemmas.Bool.{cases_eq}
+use Rattle.std.proofs.lemmas.List.Elements.{Contains-get_or}
+use Rattle.std.proofs.lemmas.List.Kept.{AllPairs-cons, AllPairs-filter}
+use Rattle.occurrences.specs.declared.place.Place.{Place}
+use Rattle.occurrences.specs.declared.place.Place.TheVariants.{LongTerm, Current, History, Deleted}
 use Rattle.occurrences.specs.declared.row.Row.{Row}
-use Rattle.occurrences.specs.declared.status.Status.TheVariants.{C}
-use Rattle.external_dependencies.specs.Arrival.{arrival_cmp}
-use Rattle.external_dependencies.specs.Nearest.{arrival_of}
 use Rattle.external_dependencies.specs.Link.{link_cmp}
 use Rattle.external_dependencies.specs.Pair.{pair_cmp}
 use Rattle.external_dependencies.specs.Rising.{IsRising}
 use Rattle.external_dependencies.specs.declared.links.Link.{Link}
-use Rattle.planner_machine.specs.Content.{Content}
-use Rattle.planner_machine.specs.Shown.{IsOfApp, ListsLinks}
+use Rattle.external_dependencies.specs.declared.rows.PlacedRow.{PlacedRow}
+use Rattle.planner_machine.specs.Content.{Content, Sets, StandsAt}
+use Rattle.planner_machine.specs.Shown.{CurrentPlan, InDeletions, InHistory, IsListed, IsOfApp, IsPlaceOf, Listed}
+use Rattle.planner_machine.specs.Shown.{ListsLinks, ListsRows, LongTermPlan}
 use Rattle.planner_machine.specs.Sound.{AreNumbered}
-use Rattle.keyed_lists.specs.Rows.{AreRows, of_current, of_deletion, of_row}
-use Rattle.keyed_lists.proofs.KeyLemmas.{contains_filter, filter_contains}
-use Rattle.plan_store.specs.Contents.{content_of}
-use Rattle.plan_store.specs.Listed.{is_of_app, links_at, ShowsSet}
-use Rattle.plan_store.specs.Listings.{IsListing, in_force_shown, link_shown, Shown}
-use Rattle.plan_store.specs.declared.contents.Content.{Content as Kept}
+use Rattle.planner_machine.proofs.SeatLemmas.{not_empty, one_place}
+use Rattle.keyed_lists.specs.Rows.{HasEachOnce}
+use Rattle.keyed_lists.proofs.KeyLemmas.{contains_cases, contains_filter, contains_first, contains_later}
+use Rattle.keyed_lists.proofs.KeyLemmas.{filter_contains, nothing}
+use Rattle.plan_store.specs.Listed.{is_of_app, links_at}
+use Rattle.plan_store.specs.Listings.{IsListing, ShowRows, Shown, in_force_shown, link_shown, row_shown}
 use Rattle.plan_store.specs.declared.listings.What.{What}
 use Rattle.plan_store.specs.declared.listings.What.TheVariants as Whats
-use Rattle.plan_store.proofs.ListingLemmas.{shows_some}
-use Rattle.plan_store.proofs.ShownLemmas.{app_tests, lists_links, shows_cp, shows_deletions, shows_history, shows_ltp}
-use Rattle.plan_store.proofs.ShownLemmas.{tests_app}
+use Rattle.plan_store.proofs.ListingLemmas.{sorted_rows}
+use Rattle.plan_store.proofs.ShownLemmas.{app_tests, lists_links, tests_app}
+use Rattle.plan_store.proofs.ViewLemmas.{issued_from}
 
-module _ {X : Type 0} (row_of : X → Row) (letter_of : X → ℕ) (is_plain : Bool) (xs : List X) (rows : AreRows row_of xs)
-    (app : Option (List ℕ)) where
-  abbrev of_app : X → Bool
-  of_app x = is_of_app app (row_of x)
+-- the place is one of the set, or it isn't
+is_place : (listed : Listed) (place : Place) → IsPlaceOf listed place ⊎ (IsPlaceOf listed place → ⊥)
+is_place LongTermPlan LongTerm = inl tt
+is_place LongTermPlan (Current status) = inr (λ is. is)
+is_place LongTermPlan History = inr (λ is. is)
+is_place LongTermPlan (Deleted reason) = inr (λ is. is)
+is_place CurrentPlan LongTerm = inr (λ is. is)
+is_place CurrentPlan (Current status) = inl tt
+is_place CurrentPlan History = inr (λ is. is)
+is_place CurrentPlan (Deleted reason) = inr (λ is. is)
+is_place InHistory LongTerm = inr (λ is. is)
+is_place InHistory (Current status) = inr (λ is. is)
+is_place InHistory History = inl tt
+is_place InHistory (Deleted reason) = inr (λ is. is)
+is_place InDeletions LongTerm = inr (λ is. is)
+is_place InDeletions (Current status) = inr (λ is. is)
+is_place InDeletions History = inr (λ is. is)
+is_place InDeletions (Deleted reason) = inl tt
 
-  part_all : (x : X) → Contains (filter of_app xs) x ↔ (Contains xs x × IsOfApp app (row_of x).key.app)
-  part_all x = (
-    (λ there.
-        let k = contains_filter of_app xs x there in
-        (k.0, tests_app app (row_of x) k.1)),
-    λ both. filter_contains of_app xs x both.0 (app_tests app (row_of x) both.1),
+-- a listing of a set
+module _ (s : Sets) (numbered : AreNumbered s) (listed : Listed) (app : Option (List ℕ)) where
+  abbrev row_of : PlacedRow → Row
+  row_of p = p.row
+
+  -- it is listed, and of the serials up to that
+  abbrev IsUpTo : ℕ → PlacedRow → Type 0
+  IsUpTo n p = (p.row.serial ≤ n) × IsListed listed app s p
+
+  -- these are all that are
+  record ListsUpTo (n : ℕ) (ps : List PlacedRow) : Type 0 where
+    once : HasEachOnce row_of ps
+    exactly : (p : PlacedRow) → Contains ps p ↔ IsUpTo n p
+
+  abbrev Passes : PlacedRow → Type 0
+  Passes p = IsPlaceOf listed p.place × IsOfApp app p.row.key.app
+
+  passes : (p : PlacedRow) → Passes p ⊎ (Passes p → ⊥)
+  passes p = elim (is_place listed p.place) [
+    | inr other ↦ inr (λ both. other both.0)
+    | inl is ↦ elim (is_of_app app p.row) as (λ b. is_of_app app p.row ≡ b → Passes p ⊎ (Passes p → ⊥)) [
+      | true ↦ λ e. inl (is, tests_app app p.row e)
+      | false ↦ λ e. inr (λ both. let yes = app_tests app p.row both.1 in let no : ⊥ = cc in no)
+    ] refl
+  ]
+
+  -- one serial more
+  module _ (n : ℕ) (p : PlacedRow) (at : StandsAt s (suc n) p) (ps : List PlacedRow) (lists : ListsUpTo n ps) where
+    numbers : p.row.serial ≡ suc n
+    numbers = numbered.numbered (suc n) p at
+
+    -- what is listed under it is this row
+    same_row : (q : PlacedRow) → IsListed listed app s q → q.row.serial ≡ suc n → p ≡ q
+    same_row q (serial, at', place, of_app) e =
+        let is_serial : serial ≡ suc n = sym (numbered.numbered serial q at') ∙ e in
+        one_place s (suc n) p q at (subst (λ k. StandsAt s k q) is_serial at')
+
+    with_next : Passes p → ListsUpTo (suc n) (p ∷ ps)
+    with_next both = record {
+      once = AllPairs-cons (λ x y. x.row.serial ≡ y.row.serial → ⊥) p ps
+          (λ k d lt same.
+          let upto = ((lists.exactly (get_or ps k d)).0 (Contains-get_or ps k d lt)).0 in
+          omega (arith, numbers)) lists.once;
+      exactly = λ q. (to q, from q);
+    }
+      where
+        to : (q : PlacedRow) → Contains (p ∷ ps) q → IsUpTo (suc n) q
+        to q there = elim (contains_cases p q ps there) [
+          | inl same ↦ subst (IsUpTo (suc n)) same (omega (arith, numbers), (suc n, at, both.0, both.1))
+          | inr later ↦ let is = (lists.exactly q).0 later in (omega arith, is.1)
+        ]
+
+        from : (q : PlacedRow) → IsUpTo (suc n) q → Contains (p ∷ ps) q
+        from q (le, is) = elim (cases_eq q.row.serial (suc n)) [
+          | inl e ↦ subst (Contains (p ∷ ps)) (same_row q is e) (contains_first p ps)
+          | inr other ↦ contains_later p q ps ((lists.exactly q).1 (omega arith, is))
+        ]
+
+    without_next : (Passes p → ⊥) → ListsUpTo (suc n) ps
+    without_next fails = record { once = lists.once; exactly = λ q. (to q, from q) }
+      where
+        to : (q : PlacedRow) → Contains ps q → IsUpTo (suc n) q
+        to q there = let is = (lists.exactly q).0 there in (omega arith, is.1)
+
+        from : (q : PlacedRow) → IsUpTo (suc n) q → Contains ps q
+        from q (le, is) = elim (cases_eq q.row.serial (suc n)) [
+          | inl e ↦
+              let (serial, at', place, of_app) = is in
+              absurd (fails (subst Passes (sym (same_row q is e)) (place, of_app)))
+          | inr other ↦ (lists.exactly q).1 (omega arith, is)
+        ]
+
+  lists_upto : (n : ℕ) → n ≤ s.issued → (ps : List PlacedRow) × ListsUpTo n ps
+  lists_upto zero within = (
+    [],
+    record {
+      once = λ i j d below lt. absurd (omega arith);
+      exactly = λ p. (
+        λ there. absurd (nothing p there),
+        λ (le, is).
+            let e : p.row.serial ≡ is.0 = numbered.numbered is.0 p is.1 in
+            absurd (not_empty s is.0 p is.1 (numbered.unissued is.0 (inl (omega arith)))),
+      );
+    },
   )
+  lists_upto (suc n) within =
+      let (ps, lists) = lists_upto n (omega arith) in
+      let (p, at) = numbered.placed (suc n) (omega arith) within in
+      elim (passes p) [
+        | inl both ↦ (p ∷ ps, with_next n p at ps lists both)
+        | inr fails ↦ (ps, without_next n p at ps lists fails)
+      ]
 
-  some_set : (items : List Shown) × ShowsSet row_of letter_of is_plain xs app items
-  some_set = shows_some row_of letter_of is_plain xs rows app (filter of_app xs)
-      (AllPairs-filter (λ x y. arrival_cmp (arrival_of (row_of x)) (arrival_of (row_of y)) ≡ Less) of_app xs rows.keyed)
-      part_all
+  some_rows : (rows : List PlacedRow) × ListsRows listed app s rows
+  some_rows =
+      let (ps, lists) = lists_upto s.issued (omega arith) in
+      let (ys, rise, same) = sorted_rows row_of ps lists.once in (
+        ys,
+        record {
+          rising = rise;
+          exactly = λ p. (
+            λ there. ((lists.exactly p).0 ((same p).0 there)).1,
+            λ is. (same p).1 ((lists.exactly p).1 (issued p is, is)),
+          );
+        },
+      )
+    where
+      issued : (p : PlacedRow) → IsListed listed app s p → p.row.serial ≤ s.issued
+      issued p (serial, at, place, of_app) =
+          let within = issued_from s numbered serial (not_empty s serial p at) in
+          omega (arith, numbered.numbered serial p at)
+
+some_set : (c : Content) → AreNumbered c.sets → (listed : Listed) (app : Option (List ℕ))
+    → (items : List Shown) × ShowRows listed app c items
+some_set c numbered listed app =
+    let (rows, lists) = some_rows c.sets numbered listed app in (map row_shown rows, (rows, lists, refl))
 
 -- the lists of one application, or all
 abbrev is_app : Option (List ℕ) → List ℕ → Bool
@@ -73,36 +191,15 @@ some_lists c app rises =
       );
     }
 
-pub some_listing : (kept : Kept) → AreNumbered (content_of kept).sets → IsRising pair_cmp kept.pairs
-    → IsRising link_cmp kept.in_force
-    → (app : Option (List ℕ)) (what : What) → (items : List Shown) × IsListing what app (content_of kept) items
-some_listing kept numbered rises lists app Whats.Ltp =
-    let (items, shows) = some_set of_row (λ (_ : Row). status_letter C) true kept.ltp.items kept.ltp_rows app in (
-      items,
-      shows_ltp (content_of kept) numbered (λ (_ : Row). status_letter C) kept.ltp.items kept.ltp_rows (λ _. refl) app
-          items shows,
-    )
-some_listing kept numbered rises lists app Whats.Cp =
-    let (items, shows) = some_set of_current (λ (x : CurrentRow). status_letter x.status) false kept.cp.items
-    kept.cp_rows app in (
-      items,
-      shows_cp (content_of kept) numbered kept.cp.items kept.cp_rows (λ _. refl) app items shows,
-    )
-some_listing kept numbered rises lists app Whats.History =
-    let (items, shows) = some_set of_row (λ (_ : Row). status_letter C) false kept.history.items kept.history_rows app
-    in (
-      items,
-      shows_history (content_of kept) numbered kept.history.items kept.history_rows (λ _. refl) app items shows,
-    )
-some_listing kept numbered rises lists app Whats.Deletions =
-    let (items, shows) = some_set of_deletion (λ (x : Deletion). reason_letter x.reason) false kept.deletions.items
-    kept.deletion_rows app in (
-      items,
-      shows_deletions (content_of kept) numbered kept.deletions.items kept.deletion_rows (λ _. refl) app items shows,
-    )
-some_listing kept numbered rises lists app Whats.Dependencies =
-    let links = links_at (content_of kept).sets app kept.pairs in
-    (map link_shown links, (links, lists_links (content_of kept) app numbered rises, refl))
-some_listing kept numbered rises lists app Whats.Links =
-    let links = filter (λ (link : Link). is_app app link.app) kept.in_force in
-    (map in_force_shown links, (links, some_lists (content_of kept) app lists, refl))
+pub some_listing : (c : Content) → AreNumbered c.sets → IsRising pair_cmp c.pairs → IsRising link_cmp c.in_force
+    → (what : What) (app : Option (List ℕ)) → (items : List Shown) × IsListing what app c items
+some_listing c numbered rises lists Whats.Ltp app = some_set c numbered LongTermPlan app
+some_listing c numbered rises lists Whats.Cp app = some_set c numbered CurrentPlan app
+some_listing c numbered rises lists Whats.History app = some_set c numbered InHistory app
+some_listing c numbered rises lists Whats.Deletions app = some_set c numbered InDeletions app
+some_listing c numbered rises lists Whats.Dependencies app =
+    let links = links_at c.sets app c.pairs in
+    (map link_shown links, (links, lists_links c app numbered rises, refl))
+some_listing c numbered rises lists Whats.Links app =
+    let links = filter (λ (link : Link). is_app app link.app) c.in_force in
+    (map in_force_shown links, (links, some_lists c app lists, refl))

@@ -22,6 +22,7 @@ use Rattle.keyed_lists.specs.declared.seats.Seat.{Seat}
 use Rattle.keyed_lists.proofs.KeyLemmas.{contains_filter, filter_contains, nothing}
 use Rattle.plan_store.specs.Contents.{content_of}
 use Rattle.plan_store.specs.Asked.{AsksKey, AsksPlan, HasLasts}
+use Rattle.plan_store.specs.Parts.{Rest, rest_of, with_rest}
 use Rattle.plan_store.specs.Views.{Asks, HasAsked, HasPredecessors, Hidden, IsDeletedKey, ListsSet, Sees, Shows}
 use Rattle.plan_store.specs.Views.{ShowsDeleted, ShowsLive, ShowsPart, TellsSizes, asked_pairs, bars, bars_from, deletion_serial}
 use Rattle.plan_store.specs.Views.{hidden_of, is_by_operator, key_of, named, row_serial, shown}
@@ -57,11 +58,11 @@ no_rows row_of = record {
 pub no_seats : {X : Type 0} (row_of : X → Row) (seats : List Seat) → HasSeats row_of [] seats
 no_seats row_of seats x (k, lt, at) = absurd (omega arith)
 
--- a window of the lists tells how many rows the plans have
-tells_sizes : (view : View) (kept : Kept) → view.content.now ≡ kept → AreNumbered (content_of kept).sets
-    → TellsSizes (content_of kept).sets view
-tells_sizes view kept whole numbered =
-    let s = (content_of kept).sets in
+-- a window of the lists tells how many rows the plans have, whatever else stands elsewhere
+pub tells_sizes : (rest : Rest) (view : View) (kept : Kept) → view.content.now ≡ kept
+    → AreNumbered (with_rest rest (content_of kept)).sets → TellsSizes (content_of kept).sets view
+tells_sizes rest view kept whole numbered =
+    let s = (with_rest rest (content_of kept)).sets in
     record {
       ltp = ap (λ (k : Kept). length k.ltp.items) whole
           ∙ size_listed of_row kept.issued kept.ltp.items (once_from_rows of_row kept.ltp.items kept.ltp_rows)
@@ -85,7 +86,7 @@ shows_none need view kept whole no_key asks none no_pairs is = record {
   };
   predecessors = λ pair there. absurd (nothing pair (subst (λ (ps : List Pair). Contains ps pair) no_pairs there));
   live = λ _ _ serial row _ same. absurd (no (sym no_key ∙ same));
-  sizes = tells_sizes view kept whole;
+  sizes = tells_sizes (rest_of (content_of kept)) view kept whole;
 }
   where
     no : {X : Type 0} {x : X} → None ≡ Some x → ⊥
@@ -171,7 +172,7 @@ module _ (need : Need) (view : View) (kept : Kept) (whole : view.content.now ≡
     lasts = subst (HasLasts (Asks need (content_of kept)) (content_of kept).sets.history) (sym lasts_are) asked.lasts;
     predecessors = λ pair there. ap (λ (rows : List Row). look_up row_serial rows pair.predecessor) history;
     live = live;
-    sizes = tells_sizes view kept whole;
+    sizes = tells_sizes (rest_of (content_of kept)) view kept whole;
   }
 
 pub shows_key : (key : KeyValue) (view : View) (kept : Kept) → view.content.now ≡ kept → HasAsked (Key key) kept

@@ -10,6 +10,7 @@ pub mod Lists
 pub mod Noted
 pub mod Redefining
 pub mod Room
+pub mod Parts
 pub mod Slices
 pub mod Spans
 pub mod Stores

@@ -70,10 +70,12 @@ ghost use Rattle.plan_store.specs.declared.room.Room.{Room as RoomValue};
 impl Content {
     ghost use Rattle.plan_store.specs.Changes.{Fits, after};
     ghost use Rattle.planner_machine.specs.Content.{nothing_known};
+    ghost use Rattle.planner_machine.specs.Sound.{AreNumbered};
     ghost use Rattle.plan_store.specs.Contents.{content_of};
+    ghost use Rattle.plan_store.specs.Parts.{Rest, with_rest};
     ghost use Rattle.keyed_lists.specs.Rows.{look_up};
-    ghost use Rattle.plan_store.specs.Views.{HasAsked, IsFilled, Shows, bars, current_serial, deletion_serial};
-    ghost use Rattle.plan_store.specs.Views.{row_serial, shown, with_part, with_plans_alone};
+    ghost use Rattle.plan_store.specs.Views.{HasAsked, IsFilled, Shows, TellsSizes, bars, current_serial};
+    ghost use Rattle.plan_store.specs.Views.{deletion_serial, row_serial, shown, with_part, with_plans_alone};
     ghost use Rattle.occurrences.specs.declared.row.Row.{Row as RowValue};
     ghost use Rattle.plan_store.specs.Room.{HasPutSeats, HasRoom, HasRowRoom, HasSame, with_definitions, with_pairs_of};
     ghost use Rattle.plan_store.specs.Room.{no_jobs, with_job_set};
@@ -166,10 +168,13 @@ impl Content {
         }
     }
 
-    /// Lends a window that shows what the need names, which was made ready by `fill_window`.
+    /// Lends a window that shows what the need names, which was made ready by `fill_window`. It tells the sizes of the
+    /// plans also where history and the deletions stand elsewhere.
     pub fn window(&self, need: &Need) -> View<'_>
         requires { IsFilled need.now self.now }
-        ensures { Shows need.now result (content_of self.now) }
+        ensures shows { Shows need.now result (content_of self.now) }
+        ensures parts { (rest : Rest) → AreNumbered (with_rest rest (content_of self.now)).sets
+            → TellsSizes (content_of self.now).sets result }
     {
         match need {
             Need::Definitions => self.window_of_plans(&[], &[]),

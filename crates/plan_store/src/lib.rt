@@ -21,6 +21,7 @@ mod listed;
 mod listings;
 mod moving;
 mod pairs;
+mod parts;
 mod redefining;
 mod room;
 mod slices;

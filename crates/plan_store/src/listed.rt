@@ -4,11 +4,10 @@ ghost use Rattle.std.specs.Prelude.{List, Option, option_copied, option_map};
 ghost use Rattle.external_dependencies.specs.Arrival.{arrival_cmp};
 ghost use Rattle.external_dependencies.specs.Link.{link_cmp};
 ghost use Rattle.external_dependencies.specs.Nearest.{arrival_of};
-ghost use Rattle.external_dependencies.specs.Pair.{pair_cmp};
 ghost use Rattle.external_dependencies.specs.Rising.{IsRising};
 ghost use Rattle.external_dependencies.specs.declared.links.Link.{Link as LinkValue};
 ghost use Rattle.keyed_lists.specs.Keyed.{IsKeyed};
-ghost use Rattle.keyed_lists.specs.Rows.{AreRows};
+ghost use Rattle.keyed_lists.specs.Rows.{AreRows, of_deletion, of_row};
 ghost use Rattle.planner_machine.specs.Content.{Sets};
 ghost use Rattle.planner_machine.specs.Shown.{IsOfApp};
 ghost use Rattle.planner_machine.specs.Sound.{AreNumbered};
@@ -16,6 +15,7 @@ ghost use Rattle.plan_store.specs.Contents.{content_of};
 ghost use Rattle.plan_store.specs.Listed.{AreBySerial, SortsRows, EndsWithin, ShowsSet, link_at};
 ghost use Rattle.plan_store.specs.Listed.{linked_rows, links_at, row_at, shown_as};
 ghost use Rattle.plan_store.specs.Listings.{HandsAll, HandsPart, IsListing, Shown, TakesAll, in_force_shown, link_shown};
+ghost use Rattle.plan_store.specs.Parts.{ListsAll, Rest, with_rest};
 ghost use Rattle.plan_store.specs.declared.listings.What.{What as Showable};
 
 use crate::contents::Content;
@@ -259,16 +259,21 @@ fn hand_lists<K: RowSink>(links: &[Link], sink: &mut K) -> Result<usize, ListFau
 }
 
 impl Content {
-    // The occurrences of all sets, by serial.
-    fn by_serial(&self, alloc: Global) -> Result<Vec<&Row>, AllocError>
-        ensures { AreNumbered (content_of self.now).sets
+    // These rows and the occurrences of both plans, by serial.
+    fn by_serial<'a>(
+        &'a self,
+        alloc: Global,
+        history: &'a [Row],
+        deletions: &'a [Deletion],
+    ) -> Result<Vec<&'a Row>, AllocError>
+        ensures { (rest : Rest) → AreNumbered (with_rest rest (content_of self.now)).sets
+            → ListsAll of_row history.now rest.history
+            → ListsAll of_deletion deletions.now rest.deletions
             → IfOk result (λ all. AreBySerial (λ row. row.now)
-            (content_of self.now).sets all.items) }
+            (with_rest rest (content_of self.now)).sets all.items) }
     {
         let ltp = self.ltp.as_slice();
         let cp = self.cp.as_slice();
-        let history = self.history.as_slice();
-        let deletions = self.deletions.as_slice();
         let count = ltp.len() + cp.len() + history.len() + deletions.len();
         let mut all = Vec::with_capacity(alloc, count)?;
         push_occurrences(&mut all, ltp)?;
@@ -279,32 +284,87 @@ impl Content {
         Ok(all)
     }
 
-    // Hands the sink the pairs, of one application or all. The occurrences are sorted by serial once.
-    fn hand_pairs<K: RowSink>(
+    /// Hands the sink the long-term plan, as `rows_to` does, whatever history and deletions stand elsewhere.
+    pub fn ltp_to<K: RowSink>(
         &self,
         alloc: Global,
         app: Option<&App>,
         sink: &mut K,
     ) -> Result<usize, ListFault>
-        ensures rising { IsRising pair_cmp (content_of self.now).pairs }
-        ensures all { AreNumbered (content_of self.now).sets → IfOk result (λ count.
-            (count ≡ length (links_at (content_of self.now).sets (option_copied app.entry)
-            (content_of self.now).pairs))
-            × TakesAll K.takes sink.old (map link_shown
-            (links_at (content_of self.now).sets (option_copied app.entry)
-            (content_of self.now).pairs)) sink.new) }
-        ensures part { AreNumbered (content_of self.now).sets
-            → IfErr result (λ fault. EndsWithin K.takes K.refuses sink.old (map link_shown
-            (links_at (content_of self.now).sets (option_copied app.entry)
-            (content_of self.now).pairs))
-            sink.new fault) }
+        ensures all { (rest : Rest) → AreNumbered (with_rest rest (content_of self.now)).sets
+            → IfOk result (HandsAll K.takes (IsListing Showable.Ltp (option_copied app.entry)
+            (with_rest rest (content_of self.now))) sink.old sink.new) }
+        ensures part { (rest : Rest) → AreNumbered (with_rest rest (content_of self.now)).sets
+            → IfErr result (HandsPart K.takes K.refuses (IsListing Showable.Ltp
+            (option_copied app.entry) (with_rest rest (content_of self.now)))
+            sink.old sink.new) }
+        ensures blames { IfErr result (λ fault. fault ≢ ListFault.Device) }
+    {
+        hand_rows(alloc, &self.ltp, app, true, sink)
+    }
+
+    /// Hands the sink the current plan, as `rows_to` does, whatever history and deletions stand elsewhere.
+    pub fn cp_to<K: RowSink>(
+        &self,
+        alloc: Global,
+        app: Option<&App>,
+        sink: &mut K,
+    ) -> Result<usize, ListFault>
+        ensures all { (rest : Rest) → AreNumbered (with_rest rest (content_of self.now)).sets
+            → IfOk result (HandsAll K.takes (IsListing Showable.Cp (option_copied app.entry)
+            (with_rest rest (content_of self.now))) sink.old sink.new) }
+        ensures part { (rest : Rest) → AreNumbered (with_rest rest (content_of self.now)).sets
+            → IfErr result (HandsPart K.takes K.refuses (IsListing Showable.Cp
+            (option_copied app.entry) (with_rest rest (content_of self.now)))
+            sink.old sink.new) }
+        ensures blames { IfErr result (λ fault. fault ≢ ListFault.Device) }
+    {
+        hand_rows(alloc, &self.cp, app, false, sink)
+    }
+
+    /// Hands the sink the pairs, as `rows_to` does, where these rows, in any order, are all of history and all deletions,
+    /// wherever those stand. The occurrences are sorted by serial once.
+    pub fn pairs_to<K: RowSink>(
+        &self,
+        alloc: Global,
+        history: &[Row],
+        deletions: &[Deletion],
+        app: Option<&App>,
+        sink: &mut K,
+    ) -> Result<usize, ListFault>
+        ensures all { (rest : Rest) → AreNumbered (with_rest rest (content_of self.now)).sets
+            → ListsAll of_row history.now rest.history
+            → ListsAll of_deletion deletions.now rest.deletions
+            → IfOk result (HandsAll K.takes (IsListing Showable.Dependencies
+            (option_copied app.entry) (with_rest rest (content_of self.now)))
+            sink.old sink.new) }
+        ensures part { (rest : Rest) → AreNumbered (with_rest rest (content_of self.now)).sets
+            → ListsAll of_row history.now rest.history
+            → ListsAll of_deletion deletions.now rest.deletions
+            → IfErr result (HandsPart K.takes K.refuses (IsListing Showable.Dependencies
+            (option_copied app.entry) (with_rest rest (content_of self.now)))
+            sink.old sink.new) }
         ensures blames { IfErr result (λ fault. fault ≢ ListFault.Device) }
     {
         let pairs = self.pairs.as_slice();
-        match self.by_serial(alloc) {
+        match self.by_serial(alloc, history, deletions) {
             Ok(all) => hand_links(&all, pairs, app, sink),
             Err(_) => Err(ListFault::Memory),
         }
+    }
+
+    /// Hands the sink the lists in force, as `rows_to` does, whatever history and deletions stand elsewhere.
+    pub fn links_to<K: RowSink>(&self, app: Option<&App>, sink: &mut K) -> Result<usize, ListFault>
+        ensures all { (rest : Rest) → AreNumbered (with_rest rest (content_of self.now)).sets
+            → IfOk result (HandsAll K.takes (IsListing Showable.Links (option_copied app.entry)
+            (with_rest rest (content_of self.now))) sink.old sink.new) }
+        ensures part { (rest : Rest) → AreNumbered (with_rest rest (content_of self.now)).sets
+            → IfErr result (HandsPart K.takes K.refuses (IsListing Showable.Links
+            (option_copied app.entry) (with_rest rest (content_of self.now)))
+            sink.old sink.new) }
+        ensures blames { IfErr result (λ fault. fault ≢ ListFault.Device) }
+    {
+        hand_lists(lists_of(&self.in_force, app), sink)
     }
 
     /// Hands the sink what a listing shows, in its order, of one application or of all, and answers how many items it
@@ -325,12 +385,14 @@ impl Content {
         ensures blames { IfErr result (λ fault. fault ≢ ListFault.Device) }
     {
         match what {
-            What::Ltp => hand_rows(alloc, &self.ltp, app, true, sink),
-            What::Cp => hand_rows(alloc, &self.cp, app, false, sink),
+            What::Ltp => self.ltp_to(alloc, app, sink),
+            What::Cp => self.cp_to(alloc, app, sink),
             What::History => hand_rows(alloc, &self.history, app, false, sink),
             What::Deletions => hand_rows(alloc, &self.deletions, app, false, sink),
-            What::Dependencies => self.hand_pairs(alloc, app, sink),
-            What::Links => hand_lists(lists_of(&self.in_force, app), sink),
+            What::Dependencies => {
+                self.pairs_to(alloc, &self.history, &self.deletions, app, sink)
+            }
+            What::Links => self.links_to(app, sink),
         }
     }
 
@@ -339,6 +401,15 @@ impl Content {
         ensures { AreNumbered (content_of self.now).sets
             → (what : Showable) (app : Option (List ℕ))
             → (items : List Shown) × IsListing what app (content_of self.now) items }
+    {
+        self.has_listings_with();
+    }
+
+    /// What a listing shows there is, also where history and the deletions stand elsewhere.
+    pub fn has_listings_with(&self)
+        ensures { (rest : Rest) → AreNumbered (with_rest rest (content_of self.now)).sets
+            → (what : Showable) (app : Option (List ℕ)) → (items : List Shown)
+            × IsListing what app (with_rest rest (content_of self.now)) items }
     {
         let _rising = self.pairs.as_slice();
         let _lists = self.in_force.as_slice();

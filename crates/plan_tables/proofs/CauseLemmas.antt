@@ -1,6 +1,6 @@
 -- Why a change is not made.
 use Rattle.std.proofs.Common.{◌≡◌, ◌⊎◌, ◌∙◌, ℕ, Bool, List, [], false, inl, inr, ap, subst, sym, true≢false, arith, IsSome, IsTrue, None, Some, Result, Ok, Err}
-use Rattle.std.proofs.Math.Logic.{∥∥₁_map}
+use Rattle.std.proofs.Math.Logic.{∥∥₁_elim, ∥∥₁_map}
 use Rattle.sqlite.specs.Order.{Row as Values}
 use Rattle.std.specs.Prelude.{IfErr, IsErrAnd}
 use Rattle.sqlite.specs.Effect.{Database}
@@ -29,9 +29,10 @@ use Rattle.plan_store.specs.Redefining.{half_redefined}
 use Rattle.plan_store.specs.Room.{with_definitions, with_pairs_of}
 use Rattle.plan_store.specs.declared.changes.Change.{Change}
 use Rattle.plan_store.specs.declared.changes.DefinitionChange.TheVariants.{AsBefore}
-use Rattle.plan_tables.specs.Causes.{AreTaken, CanTake, fault_in, HasFailed}
+use Rattle.plan_tables.specs.Causes.{CountsOn, CanTake, fault_in, HasFailed}
 use Rattle.plan_tables.specs.Kept.{StaysPut}
-use Rattle.plan_tables.specs.Taken.{FindsRoom, FittingIsTaken, HasRoomFor, KeepsSchema}
+use Rattle.plan_tables.specs.Taken.{HasRoomFor, KeepsSchema}
+use Rattle.table_taking.specs.Taken.{AreTaken, FindsRoom, FittingIsTaken}
 use Rattle.table_writing.specs.Writing.{IsTellableChange}
 use Rattle.plan_tables.proofs.BegunLemmas.{same_options}
 
@@ -155,15 +156,27 @@ can_still old mid c d change now is can =
     (subst (λ (db : Database). HasOwnIndexes db.schema × AreTaken c change (tables_of db.trees)) (sym now) can)
 
 -- why it failed since it was asked is why it failed since before
-pub caused_since : {T : Type 0} (r : Result T StoreFault) (old mid new : State) → Survives old mid (λ _. ⊥)
+pub caused_since : {T : Type 0} (r : Result T StoreFault) (old mid new : State) → CountsOn old mid
     → IfErr r (λ fault. fault ≡ Device → ∥ HasFailed mid new ∥₁)
     → IfErr r (λ fault. fault ≡ Device → ∥ HasFailed old new ⊎ (old.is_open ≡ false) ∥₁)
-caused_since (Ok v) old mid new survives h = tt
-caused_since (Err fault) old mid new survives h = λ is. ∥∥₁_map (h is) since
+caused_since (Ok v) old mid new on h = tt
+caused_since (Err fault) old mid new on h = λ is. ∥∥₁_map (h is) since
   where
     since : HasFailed mid new → HasFailed old new ⊎ (old.is_open ≡ false)
-    since (inl more) = inl (inl (omega (arith, survives.counts, more)))
-    since (inr limit) = inl (inr (subst IsSome survives.limit limit))
+    since (inl more) = inl (inl (omega (arith, on.counts, more)))
+    since (inr limit) = inl (inr (subst IsSome on.limit limit))
+
+pub counts_on : (old new : State) {P : Trees → Type 0} → Survives old new P → CountsOn old new
+counts_on old new survives = record { counts = survives.counts; limit = survives.limit }
+
+pub counts_then : (old mid new : State) → CountsOn old mid → CountsOn mid new → CountsOn old new
+counts_then old mid new one two = record { counts = omega (arith, one.counts, two.counts); limit = two.limit ∙ one.limit }
+
+-- what holds merely of an error is merely so
+pub merely_err : {T : Type 0} (X : Type 0) (r : Result T StoreFault) → ∥ (IfErr r (λ fault. fault ≡ Device → ∥ X ∥₁)) ∥₁
+    → IfErr r (λ fault. fault ≡ Device → ∥ X ∥₁)
+merely_err X (Ok v) h = tt
+merely_err X (Err fault) h = λ is. ∥∥₁_elim h squash₁ (λ k. k is)
 
 -- where it was shut when it was asked
 pub told_shut : {T : Type 0} (r : Result T StoreFault) (e : StoreFault) (old new : State) → IsErrAnd r (λ told. told ≡ e)

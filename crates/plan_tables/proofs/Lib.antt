@@ -1,19 +1,11 @@
-pub mod Held
-pub mod RowFits
-pub mod RowTakes
-pub mod SetMoves
-pub mod MovedSets
-pub mod ChangeLemmas
-pub mod ContentAfter
 mod BegunLemmas
 pub mod StoredLemmas
-mod HidingLemmas
+mod SeekLemmas
+mod WindowLemmas
+mod ListLemmas
 pub mod LookLemmas
 pub mod MetLemmas
 pub mod SetLemmas
-pub mod NameTables
-pub mod NamedRows
-pub mod DefinitionFacts
 pub mod StorableMoves
 pub mod UnopenedLemmas
 pub mod FoundLemmas
@@ -21,11 +13,4 @@ pub mod RefusedLemmas
 pub mod ToldLemmas
 pub mod CopiedLemmas
 pub mod CauseLemmas
-pub mod EachTaken
-pub mod SetsTaken
-pub mod ChangeTaken
-pub mod DefinitionTakes
-pub mod OneRow
-pub mod ShortRows
-pub mod NamedTaken
 pub mod AgainLemmas

@@ -2,26 +2,31 @@
 use Rattle.std.proofs.Common.{◌≡◌, ◌∙◌, ◌≤◌, ◌^◌, ℕ, Bool, Err, Ok, Result, false, true, None, Option, Some, inl, inr, ap, arith, refl, subst, sym, true≢false}
 use Rattle.std.proofs.Math.Logic.{∥∥₁_elim, ∥∥₁_map}
 use Rattle.std.specs.Prelude.{IfErr, IfOk, IsTrue, OnOk}
+use Rattle.sqlite.specs.Effect.{Database}
 use Rattle.sqlite.specs.State.{HasCleanDisk, IsUnchanged, State, Survives}
 use Rattle.sqlite.specs.Tree.{Trees}
 use Rattle.planner_machine.specs.Content.{Content}
 use Rattle.planner_machine.specs.Sound.{IsSound}
 use Rattle.planner_machine.specs.declared.job.Job.{Job}
 use Rattle.plan_store.specs.Contents.{content_of}
-use Rattle.plan_store.specs.Faults.{IsMild, MoreFailures}
+use Rattle.plan_store.specs.Faults.{IsMild, IsMildListing, MoreFailures}
 use Rattle.plan_store.specs.declared.contents.Content.{Content as Kept}
 use Rattle.plan_store.specs.Stores.{ReadsStore}
+use Rattle.plan_store.specs.declared.listings.ListFault.{ListFault}
+use Rattle.plan_store.specs.declared.listings.ListFault.TheVariants as list
 use Rattle.plan_store.specs.declared.stores.StoreFault.{StoreFault}
 use Rattle.plan_store.specs.declared.stores.StoreFault.TheVariants.{Device, Memory}
 use Rattle.table_schema.specs.Rows.{StaysOrIsUndone}
 use Rattle.table_schema.specs.Schema.{HasTables}
+use Rattle.fact_gathering.specs.Gathering.{Grows}
 use Rattle.fact_lookups.specs.Finding.{StopsFor}
 use Rattle.fact_lookups.specs.declared.faults.LookupFault.{LookupFault}
 use Rattle.plan_tables.specs.Kept.{CanRead, IsKept, LooksOn, StaysPut, kept_in}
-use Rattle.plan_tables.specs.Stored.{LeavesSound}
+use Rattle.plan_tables.specs.Stored.{LeavesSound, MayLeave}
+use Rattle.plan_tables.specs.Taken.{KeepsSchema}
 use Rattle.plan_tables.proofs.CauseLemmas.{certain}
 use Rattle.plan_tables.proofs.SetLemmas.{content_set, no_prop, truth_prop}
-use Rattle.plan_tables.proofs.StoredLemmas.{kept_still, put_still}
+use Rattle.plan_tables.proofs.StoredLemmas.{kept_more, kept_still, put_still}
 
 module _ (old new : State) (P : Trees → Type 0) (survives : Survives old new P) where
   before : HasCleanDisk new → HasCleanDisk old
@@ -30,7 +35,7 @@ module _ (old new : State) (P : Trees → Type 0) (survives : Survives old new P
   -- it stays put and commits nothing
   pub looks_on : (lists : Content) → ∥ (HasCleanDisk old → IsTrue old.is_open → IsKept old lists) ∥₁
       → ∥ (HasCleanDisk new → StaysPut old new) ∥₁ → ∥ (HasCleanDisk old → (db : Trees) → P db → ⊥) ∥₁
-      → LooksOn old new lists
+      → LooksOn old new lists lists
   looks_on lists kept puts none = record {
     clean = before;
     opens = λ clean opens. ∥∥₁_elim puts (truth_prop old.is_open) (λ put. (put clean opens).0);
@@ -68,12 +73,29 @@ module _ (old new : State) (survives : Survives old new (λ _. HasTables old.now
   none_made : ∥ (HasCleanDisk old → (db : Trees) → (HasTables old.now.schema → ⊥) → ⊥) ∥₁
   none_made = ∥∥₁_map kept (λ h clean db none. none (h clean).stored.plan.schema)
 
-  pub looks_kept : (HasCleanDisk new → (l : Content) → IsKept old l → StaysPut old new) → LooksOn old new lists
+  pub looks_kept : (HasCleanDisk new → (l : Content) → IsKept old l → StaysPut old new) → LooksOn old new lists lists
   looks_kept puts = looks_on old new _ survives lists (∥∥₁_map kept (λ h clean _. h clean))
       (∥∥₁_map kept (λ h clean. puts clean lists (h (before old new _ survives clean)))) none_made
 
+  pub looks_still : (HasCleanDisk new → IsKept old lists → StaysPut old new) → LooksOn old new lists lists
+  looks_still puts = looks_on old new _ survives lists (∥∥₁_map kept (λ h clean _. h clean))
+      (∥∥₁_map kept (λ h clean. puts clean (h (before old new _ survives clean)))) none_made
+
   pub told_kept_still : ∥ (HasCleanDisk old → LeavesSound old) ∥₁ → ∥ (HasCleanDisk new → LeavesSound new) ∥₁
   told_kept_still told = told_still old new _ survives told none_made
+
+  -- and with lists that have more of the rest
+  pub looks_more : (now : Content) → (HasCleanDisk new → IsKept old lists → StaysPut old new) → Grows lists now
+      → LooksOn old new lists now
+  looks_more now puts grows =
+      let looks = looks_on old new _ survives lists (∥∥₁_map kept (λ h clean _. h clean))
+      (∥∥₁_map kept (λ h clean. puts clean (h (before old new _ survives clean)))) none_made in
+      record {
+        clean = looks.clean;
+        opens = looks.opens;
+        same = λ can. kept_more new lists now grows ∙ looks.same can;
+        crash = looks.crash;
+      }
 
 -- ---- what was asked
 
@@ -178,17 +200,44 @@ mild_open (Ok v) b doubt W opens memory mild = opens
 mild_open (Err Memory) b doubt W opens memory mild = memory refl (mild.1 refl).1
 mild_open (Err Device) b doubt W opens memory mild = absurd (mild.0 refl)
 
--- where it is in doubt, or the device is blamed
-pub no_mild : (fault : StoreFault) (doubt : Bool) (W : Type 0) → (fault ≡ Memory → doubt ≡ true)
-    → IsMild (W × (doubt ≡ false)) fault → ⊥
-no_mild Memory doubt W told mild = true≢false (sym (told refl) ∙ (mild.1 refl).1)
-no_mild Device doubt W told mild = mild.0 refl
-
 -- where the lists are the same, too
-pub looks_listed : (old new : State) (l k : Kept) → LooksOn old new (content_of l) → k ≡ l → CanRead new
+pub looks_listed : (old new : State) (l k : Kept) → LooksOn old new (content_of l) (content_of l) → k ≡ l → CanRead new
     → kept_in new (content_of k) ≡ kept_in old (content_of l)
 looks_listed old new l k looks is can = ap (λ (x : Kept). kept_in new (content_of x)) is ∙ looks.same can
 
 pub ok_if : {A : Type 0} (r : Result A StoreFault) (P Q : Type 0) → (P → Q) → OnOk r P → IfOk r (λ _. Q)
 ok_if (Ok v) P Q so h = so h
 ok_if (Err e) P Q so h = tt
+
+pub ok_since : {A E : Type 0} (r : Result A E) (P Q : Type 0) → (P → Q) → OnOk r P → OnOk r Q
+ok_since (Ok v) P Q so h = so h
+ok_since (Err e) P Q so h = tt
+
+-- what was seen before a call is what is seen since
+pub schema_since : {T : Type 0} (r : Result T StoreFault) (old mid new : State)
+    → (HasCleanDisk new → mid.now ≡ old.now) → KeepsSchema mid new r → KeepsSchema old new r
+schema_since (Ok v) old mid new same kept =
+    λ clean. subst (λ (db : Database). ∥ new.now.schema ≡ db.schema ∥₁) (same clean) (kept clean)
+schema_since (Err e) old mid new same kept =
+    λ memory clean opens. subst (λ (db : Database). ∥ new.now.schema ≡ db.schema ∥₁) (same clean)
+    (kept memory clean opens)
+
+-- a store that was read looks on
+pub looks_read : (old new : State) (was now : Content) → (CanRead new → kept_in new now ≡ kept_in old was)
+    → ((c : Content) → HasCleanDisk new × MayLeave new c → HasCleanDisk old × MayLeave old c)
+    → (CanRead new → CanRead old) → (HasCleanDisk new → HasCleanDisk old) → LooksOn old new was now
+looks_read old new was now same crash honest clean = record {
+  clean = clean;
+  opens = λ calm opens. (honest (calm, opens)).1;
+  same = same;
+  crash = crash;
+}
+
+-- where a listing ended so that it leaves the connection open
+pub listed_open : {A : Type 0} (r : Result A ListFault) (opens : Bool) (W : Type 0) → OnOk r (IsTrue opens)
+    → IfErr r (λ fault. IsMildListing W fault → IsTrue opens) → IfErr r (IsMildListing W) → IsTrue opens
+listed_open (Ok v) opens W is mild given = is
+listed_open (Err e) opens W is mild given = mild given
+
+pub no_mild_listing : (doubt : Bool) (W : Type 0) → doubt ≡ true → IsMildListing (W × (doubt ≡ false)) list.Memory → ⊥
+no_mild_listing doubt W told mild = true≢false (sym told ∙ (mild.1 refl).1)

@@ -1,20 +1,23 @@
 -- What a change meets in the tables, and what is kept after it.
-use Rattle.std.proofs.Common.{◌≡◌, ◌∙◌, ℕ, Option, ap, subst, sym}
+use Rattle.std.proofs.Common.{◌≡◌, ◌∙◌, None, ap, subst, sym}
 use Rattle.sqlite.specs.State.{HasCleanDisk, State}
 use Rattle.planner_machine.specs.Content.{Content}
 use Rattle.planner_machine.specs.Sound.{IsSound}
-use Rattle.planner_machine.specs.declared.job.Job.{Job}
+use Rattle.plan_parts.specs.Changes.{KnowsNamed}
+use Rattle.plan_parts.proofs.ChangeLemmas.{change_fits, change_part}
 use Rattle.plan_store.specs.Changes.{Fits, after}
+use Rattle.plan_store.specs.Parts.{IsPartOf, Rest, rest_of}
 use Rattle.plan_store.specs.Room.{no_jobs}
 use Rattle.plan_store.specs.declared.changes.Change.{Change}
 use Rattle.table_schema.specs.Rows.{tables_of}
-use Rattle.table_facts.specs.ToldSets.{AllTellSets, told_jobs}
+use Rattle.table_facts.specs.ToldSets.{AllTellSets}
+use Rattle.fact_gathering.specs.Gathering.{told_rest}
 use Rattle.table_opening.specs.Opened.{IsStored}
 use Rattle.table_writing.specs.declared.redefining.DefinitionMoves.{DefinitionMoves}
 use Rattle.plan_tables.specs.Kept.{CanRead, IsKept, IsMet, jobless, kept_in}
 use Rattle.plan_tables.specs.Told.{BringMoves}
 use Rattle.plan_tables.proofs.StorableMoves.{told_moves}
-use Rattle.plan_tables.proofs.StoredLemmas.{kept_after, kept_still}
+use Rattle.plan_tables.proofs.StoredLemmas.{kept_after, kept_still, told_kept}
 use Rattle.plan_tables.proofs.ToldLemmas.{told_by_tables}
 
 -- the lists keep no job
@@ -22,24 +25,20 @@ pub still_jobless : (change : Change) (lists new : Content) → new ≡ after (j
     → new.jobs ≡ no_jobs
 still_jobless change lists new is none = ap (λ (k : Content). k.jobs) is ∙ (λ i number. none i number)
 
--- a change that fits what is kept fits the lists, which keep no job
-pub fits_lists : (s : State) (lists : Content) (change : Change) → lists.jobs ≡ no_jobs → Fits change (kept_in s lists)
-    → Fits change lists
-fits_lists s lists change none fits = record {
-  ltp = fits.ltp;
-  cp = fits.cp;
-  history = fits.history;
-  deletions = fits.deletions;
-  job = λ job is. ap (λ (jobs : ℕ → Option Job). jobs job.number) none;
-}
+-- a change that fits what is kept fits the lists, which know what it names and keep no job
+pub fits_lists : (s : State) (lists : Content) (change : Change) → lists.jobs ≡ no_jobs
+    → IsPartOf (told_rest (tables_of s.now.trees)) lists → KnowsNamed (told_rest (tables_of s.now.trees)) change lists
+    → Fits change (kept_in s lists) → Fits change lists
+fits_lists s lists change none part knows fits =
+    change_fits (told_rest (tables_of s.now.trees)) lists change part knows fits none
 
 module _ (s : State) (lists : Content) (change : Change) (moves : DefinitionMoves)
     (fits : CanRead s → Fits change (kept_in s lists)) (sound : CanRead s → IsSound (after change (kept_in s lists)))
     (brings : BringMoves change.definitions moves) where
-  abbrev pub own_jobs : ℕ → Option Job
-  own_jobs = told_jobs (tables_of s.now.trees)
+  abbrev pub own_rest : Rest
+  own_rest = told_rest (tables_of s.now.trees)
 
-  pub met_so : HasCleanDisk s → IsKept s lists → IsMet s lists change moves own_jobs
+  pub met_so : HasCleanDisk s → IsKept s lists → IsMet s lists change moves own_rest
   met_so clean kept =
       let can : CanRead s = (clean, kept.stored.is_open) in
       record {
@@ -48,12 +47,20 @@ module _ (s : State) (lists : Content) (change : Change) (moves : DefinitionMove
         told = told_moves change.definitions moves brings (told_by_tables change (kept_in s lists) (sound can)).0;
       }
 
-  -- the tables have all of it, and the lists have it without its job
+  -- the tables have all of it, and the lists have it without its job, and a part of the rest
   pub keeps_after : AllTellSets → (t : State) (new : Content) → new ≡ after (jobless change) lists
+      → IsPartOf own_rest lists → KnowsNamed own_rest change lists → Fits change (kept_in s lists)
       → IsStored t (after change (kept_in s lists)) → IsSound (after change (kept_in s lists)) → IsKept t new
-  keeps_after tell t new is stored sound' =
-      let same = kept_after tell t own_jobs change lists new is stored in
-      record { stored = subst (IsStored t) (sym same) stored; sound = subst IsSound (sym same) sound' }
+  keeps_after tell t new is part knows fits' stored sound' =
+      let same = kept_after tell t own_rest change lists new is stored in
+      let told = told_kept tell t (after change (kept_in s lists)) stored in
+      record {
+        stored = subst (IsStored t) (sym same) stored;
+        sound = subst IsSound (sym same) sound';
+        part = subst (λ (rest : Rest). IsPartOf rest new) (sym told)
+            (subst (IsPartOf (rest_of (after change (kept_in s lists)))) (sym is)
+            (change_part own_rest lists change part knows fits' None));
+      }
 
 -- where nothing was changed
 pub kept_undone : (old new : State) (lists now : Content) → now ≡ lists → new.now ≡ old.now

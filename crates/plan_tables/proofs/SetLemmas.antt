@@ -1,6 +1,6 @@
 -- Contents are a set: two equations between two contents are the same.
 use Rattle.std.proofs.Props.{props}
-use Rattle.std.specs.Prelude.{Bool, IsTrue, Option}
+use Rattle.std.specs.Prelude.{ℕ, Bool, IsTrue, Option}
 use base.Stored.{Coded-set}
 use Rattle.app_definitions.specs.declared.definitions.Definitions.{Definitions}
 use Rattle.app_definitions.specs.contracts.definitions.Definitions as definitions
@@ -58,3 +58,12 @@ truth_prop b = hlevel props
 
 pub no_prop : IsProp ⊥
 no_prop x y = absurd x
+
+pub size_set : IsSet ℕ
+size_set = hlevel props
+
+pub row_found_set : IsSet (Option Row)
+row_found_set = hlevel (props, row_set)
+
+pub deletion_found_set : IsSet (Option Deletion)
+deletion_found_set = hlevel (props, deletion_set)

@@ -1,6 +1,6 @@
 -- A database keeps a content, before and after.
 use Rattle.std.proofs.Common.{List, ◌≡◌, ◌∙◌, refl, sym, ap, subst, IsTrue, Result, Ok, Err, [], None, Some}
-use Rattle.std.specs.Prelude.{ℕ, OnOk, Option}
+use Rattle.std.specs.Prelude.{OnOk}
 use Rattle.sqlite.specs.Tree.{Trees}
 use Rattle.sqlite.specs.Effect.{Database, IsDatabase}
 use Rattle.std.proofs.Common.{◌⊎◌, inl, inr, arith}
@@ -15,12 +15,13 @@ use Rattle.table_schema.specs.Rows.{tables_of}
 use Rattle.app_definitions.specs.declared.definitions.Definitions.{Definitions}
 use Rattle.plan_store.specs.Changes.{after, Fits, redefined}
 use Rattle.plan_store.specs.Redefining.{half_redefined}
-use Rattle.plan_store.specs.Room.{no_jobs, with_definitions, with_job_set, with_pairs_of}
+use Rattle.plan_store.specs.Parts.{IsPartOf, Rest, rest_of, with_rest}
+use Rattle.plan_store.specs.Room.{with_definitions, with_pairs_of}
 use Rattle.plan_store.specs.declared.changes.Change.{Change}
 use Rattle.plan_store.specs.declared.changes.DefinitionChange.TheVariants.{AsBefore}
-use Rattle.planner_machine.specs.declared.job.Job.{Job}
 use Rattle.table_facts.specs.Content.{HaveOneContent, IsContentOf}
-use Rattle.table_facts.specs.ToldSets.{AllTellSets, told_jobs}
+use Rattle.table_facts.specs.ToldSets.{AllTellSets}
+use Rattle.fact_gathering.specs.Gathering.{Grows, told_rest, told_with}
 use Rattle.table_opening.specs.Opened.{IsStored}
 use Rattle.table_opening.specs.Stored.{AllHaveRowids}
 use Rattle.plan_tables.specs.Found.{Tells}
@@ -30,8 +31,8 @@ use Rattle.table_writing.specs.Redefining.{AreMovesOf, definitions_moved, writte
 use Rattle.table_writing.specs.Writing.{HoldsWritten, IsTellableChange}
 use Rattle.table_writing.specs.declared.redefining.DefinitionMoves.{DefinitionMoves}
 use Rattle.plan_tables.proofs.BegunLemmas.{same_options}
-use Rattle.plan_tables.proofs.ContentAfter.{plans_after}
-use Rattle.plan_tables.proofs.DefinitionFacts.{redefined_content}
+use Rattle.table_taking.proofs.ContentAfter.{plans_after}
+use Rattle.table_taking.proofs.DefinitionFacts.{redefined_content}
 use Rattle.plan_tables.proofs.SetLemmas.{content_set}
 use Rattle.table_schema.specs.Rows.{Tables}
 use Rattle.table_schema.proofs.StatementLemmas.{plan_still}
@@ -181,25 +182,27 @@ pub stays_so : {A E : Type 0} (r : Result A E) (P Q : Type 0) → OnOk r Q → O
 stays_so (Ok a) P Q h = λ _. h
 stays_so (Err e) P Q h = tt
 
--- ---- lists beside jobs
+-- ---- lists beside tables
 
--- the jobs that the tables of a kept content tell are its own
-pub told_kept : AllTellSets → (s : State) (c : Content) → IsStored s c → told_jobs (tables_of s.now.trees) ≡ c.jobs
-told_kept tell s c stored = (tell (tables_of s.now.trees) c stored.content).jobs
+-- what the tables of a kept content tell beside lists is its own
+pub told_kept : AllTellSets → (s : State) (c : Content) → IsStored s c
+    → told_rest (tables_of s.now.trees) ≡ rest_of c
+told_kept tell s c stored =
+    let sets = tell (tables_of s.now.trees) c stored.content in
+    λ i. record { history = sets.history i; deletions = sets.deletions i; jobs = sets.jobs i }
 
--- a store that lets go of the jobs of a content that the tables keep, keeps it
-pub kept_without : AllTellSets → (s : State) (c lists : Content) → lists ≡ with_job_set no_jobs c → IsStored s c
+-- a store that keeps a part of a content that the tables keep, keeps it
+pub kept_part : AllTellSets → (s : State) (c lists : Content) → with_rest (rest_of c) lists ≡ c → IsStored s c
     → kept_in s lists ≡ c
-kept_without tell s c lists is stored =
-    ap (kept_in s) is ∙ ap (λ jobs. with_job_set jobs c) (told_kept tell s c stored)
+kept_part tell s c lists is stored = ap (λ (rest : Rest). with_rest rest lists) (told_kept tell s c stored) ∙ is
 
 -- what is kept after a change: the lists have it without its job, and the tables have all of it
-pub kept_after : AllTellSets → (s : State) (jobs : ℕ → Option Job) (change : Change) (lists new : Content)
-    → new ≡ after (jobless change) lists → IsStored s (after change (with_job_set jobs lists))
-    → kept_in s new ≡ after change (with_job_set jobs lists)
-kept_after tell s jobs change lists new is stored =
-    ap (kept_in s) is ∙ ap (λ told. with_job_set told (after (jobless change) lists))
-    (told_kept tell s (after change (with_job_set jobs lists)) stored)
+pub kept_after : AllTellSets → (s : State) (rest : Rest) (change : Change) (lists new : Content)
+    → new ≡ after (jobless change) lists → IsStored s (after change (with_rest rest lists))
+    → kept_in s new ≡ after change (with_rest rest lists)
+kept_after tell s rest change lists new is stored =
+    ap (kept_in s) is ∙ ap (λ (told : Rest). with_rest told (after (jobless change) lists))
+    (told_kept tell s (after change (with_rest rest lists)) stored)
 
 -- a connection that stays put sees what a kept content was committed as
 pub put_still : (old new : State) (c : Content) → IsStored old c → StaysPut old new → IsTrue new.is_open
@@ -210,10 +213,29 @@ put_still old new c stored stays opens =
       put.2,
     )
 
-pub kept_still : (old new : State) (lists : Content) → new.now ≡ old.now → kept_in new lists ≡ kept_in old lists
-kept_still old new lists now = ap (λ (db : Database). with_job_set (told_jobs (tables_of db.trees)) lists) now
+pub rest_still : (old new : State) → new.now ≡ old.now
+    → told_rest (tables_of new.now.trees) ≡ told_rest (tables_of old.now.trees)
+rest_still old new now = ap (λ (db : Database). told_rest (tables_of db.trees)) now
 
--- a store keeps what it kept
+pub kept_still : (old new : State) (lists : Content) → new.now ≡ old.now → kept_in new lists ≡ kept_in old lists
+kept_still old new lists now = ap (λ (db : Database). told_with (tables_of db.trees) lists) now
+
+-- lists that have more of the rest are kept as these are
+pub kept_more : (s : State) (was later : Content) → Grows was later → kept_in s later ≡ kept_in s was
+kept_more s was later grows = (grows.more (told_rest (tables_of s.now.trees))).same
+
+-- a store keeps what it kept, also with lists that have more of it
+pub keeps_more : (old new : State) (was later : Content) → IsKept old was → IsTrue new.is_open → new.now ≡ old.now
+    → new.committed ≡ old.committed → Grows was later → IsPartOf (told_rest (tables_of old.now.trees)) later
+    → IsKept new later
+keeps_more old new was later kept opens db committed grows part =
+    let same : kept_in new later ≡ kept_in old was = kept_still old new later db ∙ kept_more old was later grows in
+    record {
+      stored = subst (IsStored new) (sym same) (stored_still old new (kept_in old was) kept.stored opens db committed);
+      sound = subst IsSound (sym same) kept.sound;
+      part = subst (λ (rest : Rest). IsPartOf rest later) (sym (rest_still old new db)) part;
+    }
+
 pub keeps_still : (old new : State) (lists : Content) → IsKept old lists → IsTrue new.is_open → new.now ≡ old.now
     → new.committed ≡ old.committed → IsKept new lists
 keeps_still old new lists kept opens now committed =
@@ -221,13 +243,14 @@ keeps_still old new lists kept opens now committed =
     record {
       stored = subst (IsStored new) (sym same) (stored_still old new (kept_in old lists) kept.stored opens now committed);
       sound = subst IsSound (sym same) kept.sound;
+      part = subst (λ (rest : Rest). IsPartOf rest lists) (sym (rest_still old new now)) kept.part;
     }
 
 pub keeps_unchanged : (old new : State) (lists : Content) → IsKept old lists → IsUnchanged old new → IsKept new lists
 keeps_unchanged old new lists kept same = keeps_still old new lists kept same.0.is_open same.0.now_is same.0.committed_is
 
 -- of a connection that was not asked
-pub looks_same : (s : State) (lists : Content) → LooksOn s s lists
+pub looks_same : (s : State) (lists : Content) → LooksOn s s lists lists
 looks_same s lists = record {
   clean = λ clean. clean;
   opens = λ clean opens. opens;

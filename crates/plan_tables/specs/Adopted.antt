@@ -3,8 +3,10 @@ use Rattle.std.specs.Prelude.{◌≡◌, false}
 use Rattle.sqlite.specs.Held.{Held, state}
 use Rattle.sqlite.specs.State.{HasCleanDisk, Survives}
 use Rattle.sqlite.specs.Store.{Ghosts}
-use Rattle.planner_machine.specs.Sound.{IsSound}
 use Rattle.plan_store.specs.Contents.{content_of}
+use Rattle.plan_store.specs.Parts.{IsPartOf}
+use Rattle.table_schema.specs.Rows.{tables_of}
+use Rattle.fact_gathering.specs.Gathering.{told_rest}
 use Rattle.table_opening.specs.Held.{HoldsPlan}
 use Rattle.table_opening.specs.Opened.{IsCommon, MakesFirst}
 use Rattle.table_opening.specs.Opening.{IsOpened, IsUnopened}
@@ -13,20 +15,17 @@ use Rattle.plan_tables.specs.Kept.{kept_in}
 use Rattle.plan_tables.specs.Stored.{LeavesOne}
 use Rattle.plan_tables.specs.declared.table_store.TableStore.{TableStore}
 
--- the store is over its database, and has its content, where its disk gave back what was written; a crash leaves that
--- alone; no failure was counted, and it is known that the connection is open
+-- the store is over its database, and has its content, and its lists a part of it, where its disk gave back what was
+-- written; a crash leaves that alone; no failure was counted, and it is known that the connection is open
 pub record IsOver {S : Type 0} {g : Ghosts S} (conn : Held S) (store : TableStore S g) : Type 0 where
   pub opened : HasCleanDisk (state g store.conn)
       → IsOpened (state g conn) (state g store.conn) (kept_in (state g store.conn) (content_of store.lists))
+  pub part : HasCleanDisk (state g store.conn)
+      → IsPartOf (told_rest (tables_of (state g store.conn).now.trees)) (content_of store.lists)
   pub settled : LeavesOne (state g store.conn) (kept_in (state g store.conn) (content_of store.lists))
   pub whole : store.failures ≡ 0
   pub sure : store.in_doubt ≡ false
   pub crash : Survives (state g conn) (state g store.conn) (MakesFirst (state g conn))
-
--- what the store keeps is sound, where its disk gave back what was written
-abbrev pub KeepsSound : {S : Type 0} {g : Ghosts S} → TableStore S g → Type 0
-KeepsSound {S} {g} store =
-    HasCleanDisk (state g store.conn) → IsSound (kept_in (state g store.conn) (content_of store.lists))
 
 -- it comes back, and with it why its database is not opened, by what is there: one that holds a sound plan for nothing
 -- that stands in it

@@ -1,5 +1,5 @@
 -- Why a change is not made in the tables.
-use Rattle.std.specs.Prelude.{◌⊎◌, IsSome, None, Option, Some}
+use Rattle.std.specs.Prelude.{◌≡◌, ◌⊎◌, ◌≤◌, IsSome, None, Option, Some}
 use Rattle.sqlite.specs.State.{State}
 use Rattle.sqlite.specs.declared.error.Error.{Error}
 use Rattle.sqlite.specs.declared.error.Error.TheVariants.{SqliteFailure}
@@ -7,16 +7,12 @@ use Rattle.sqlite.specs.declared.error.ErrorCode.TheVariants.{OutOfMemory, Syste
 use Rattle.sqlite.specs.declared.error.ErrorCode.TheVariants.{Closed}
 use Rattle.sqlite_disk.specs.Disk.{MoreFaults}
 use Rattle.planner_machine.specs.Content.{Content}
-use Rattle.plan_store.specs.Changes.{redefined}
-use Rattle.plan_store.specs.Room.{with_definitions}
 use Rattle.plan_store.specs.declared.changes.Change.{Change}
 use Rattle.plan_store.specs.declared.stores.StoreFault.{StoreFault}
 use Rattle.plan_store.specs.declared.stores.StoreFault.TheVariants.{Device, Memory}
-use Rattle.table_schema.specs.Rows.{Tables, tables_of}
+use Rattle.table_schema.specs.Rows.{tables_of}
 use Rattle.table_schema.specs.Schema.{HasOwnIndexes}
-use Rattle.table_writing.specs.Redefining.{AreMovesOf}
-use Rattle.table_writing.specs.Taking.{TakesChange}
-use Rattle.table_writing.specs.declared.redefining.DefinitionMoves.{DefinitionMoves}
+use Rattle.table_taking.specs.Taken.{AreTaken}
 
 -- want of memory, a failure of the device or a connection that was shut, or neither
 abbrev pub fault_in : Error → Option StoreFault
@@ -27,11 +23,6 @@ fault_in (SqliteFailure DiskFull) = Some Device
 fault_in (SqliteFailure Closed) = Some Device
 fault_in _ = None
 
--- the tables of a content take its change, whichever rows tell the definitions that it brings
-abbrev pub AreTaken : Content → Change → Tables → Type 0
-AreTaken c change all = (moves : DefinitionMoves) → AreMovesOf change.definitions moves
-    → TakesChange (with_definitions (redefined change.definitions c.definitions) c) moves change all
-
 -- the database can take a change of the content: no index made by hand is of its tables, and these take it
 abbrev pub CanTake : State → Content → Change → Type 0
 CanTake s c change = HasOwnIndexes s.now.schema × AreTaken c change (tables_of s.now.trees)
@@ -39,3 +30,8 @@ CanTake s c change = HasOwnIndexes s.now.schema × AreTaken c change (tables_of 
 -- of an open connection the device failed meanwhile, or a limit on steps is set
 abbrev pub HasFailed : State → State → Type 0
 HasFailed old new = MoreFaults old.faults new.faults ⊎ IsSome old.step_limit
+
+-- the device failed no less often by its count, and the limit on steps is the same
+pub record CountsOn (old new : State) : Type 0 where
+  pub counts : old.faults ≤ new.faults
+  pub limit : new.step_limit ≡ old.step_limit

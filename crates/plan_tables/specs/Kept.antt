@@ -1,27 +1,28 @@
--- What a store over tables keeps: lists in memory, and kept jobs in their table alone.
-use Rattle.std.specs.Prelude.{◌≡◌, ◌⊎◌, ℕ, IsTrue, None, Option}
+-- What a store over tables keeps: history, the deletions and the kept jobs in their tables alone, all else in lists in
+-- memory too, with what was found out of the rest.
+use Rattle.std.specs.Prelude.{◌≡◌, ◌⊎◌, IsTrue, None}
 use Rattle.sqlite.specs.State.{HasCleanDisk, State}
 use Rattle.planner_machine.specs.Content.{Content}
 use Rattle.planner_machine.specs.Sound.{IsSound}
-use Rattle.planner_machine.specs.declared.job.Job.{Job}
 use Rattle.plan_store.specs.Changes.{Fits}
-use Rattle.plan_store.specs.Room.{with_job_set}
+use Rattle.plan_store.specs.Parts.{IsPartOf, Rest, with_rest}
 use Rattle.plan_store.specs.declared.changes.Change.{Change}
 use Rattle.table_schema.specs.Rows.{tables_of}
-use Rattle.table_facts.specs.ToldSets.{told_jobs}
+use Rattle.fact_gathering.specs.Gathering.{told_rest, told_with}
 use Rattle.table_opening.specs.Opened.{IsStored}
 use Rattle.table_writing.specs.Redefining.{AreMovesOf}
 use Rattle.plan_tables.specs.Stored.{MayLeave}
 use Rattle.table_writing.specs.declared.redefining.DefinitionMoves.{DefinitionMoves}
 
--- the content of the lists, with the jobs that the tables tell
+-- the content of the lists, with history, the deletions and the jobs that the tables tell
 abbrev pub kept_in : State → Content → Content
-kept_in s lists = with_job_set (told_jobs (tables_of s.now.trees)) lists
+kept_in s lists = told_with (tables_of s.now.trees) lists
 
--- the database keeps it, and it is sound
+-- the database keeps it, it is sound, and the lists have a part of what the tables tell
 pub record IsKept (s : State) (lists : Content) : Type 0 where
   pub stored : IsStored s (kept_in s lists)
   pub sound : IsSound (kept_in s lists)
+  pub part : IsPartOf (told_rest (tables_of s.now.trees)) lists
 
 -- what was read of the database is what was written, and it can be read still
 abbrev pub CanRead : State → Type 0
@@ -36,17 +37,16 @@ StaysPut old new = IsTrue new.is_open → IsTrue old.is_open
 abbrev pub jobless : Change → Change
 jobless change = record change { job = None }
 
--- the database keeps the content of the lists with these jobs, and the change with these moves fits it
-pub record IsMet (s : State) (lists : Content) (change : Change) (moves : DefinitionMoves) (jobs : ℕ → Option Job)
-    : Type 0 where
-  pub stored : IsStored s (with_job_set jobs lists)
-  pub fits : Fits change (with_job_set jobs lists)
+-- the database keeps the content of the lists with this rest, and the change with these moves fits it
+pub record IsMet (s : State) (lists : Content) (change : Change) (moves : DefinitionMoves) (rest : Rest) : Type 0 where
+  pub stored : IsStored s (with_rest rest lists)
+  pub fits : Fits change (with_rest rest lists)
   pub told : AreMovesOf change.definitions moves
 
--- a connection that was asked: it is clean and open only where it was, and sees what it saw then; and a crash leaves no
--- other content than before
-pub record LooksOn (old new : State) (lists : Content) : Type 0 where
+-- a connection that was asked: it is clean and open only where it was, and with the lists as they are now it keeps what it
+-- kept with those before; and a crash leaves no other content than before
+pub record LooksOn (old new : State) (was now : Content) : Type 0 where
   pub clean : HasCleanDisk new → HasCleanDisk old
   pub opens : HasCleanDisk new → IsTrue new.is_open → IsTrue old.is_open
-  pub same : CanRead new → kept_in new lists ≡ kept_in old lists
+  pub same : CanRead new → kept_in new now ≡ kept_in old was
   pub crash : (c : Content) → HasCleanDisk new × MayLeave new c → HasCleanDisk old × MayLeave old c

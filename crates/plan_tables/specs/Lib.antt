@@ -1,12 +1,12 @@
 pub mod Stored
 pub mod Kept
-pub mod Hiding
+pub mod Sought
+pub mod Listing
 pub mod Adopted
 pub mod Unopened
 pub mod Found
 pub mod Refused
 pub mod Told
 pub mod Causes
-pub mod Room
 pub mod Taken
 pub mod Applied

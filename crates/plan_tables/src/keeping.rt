@@ -1,6 +1,6 @@
 // The lists and the tables of a content change together.
 
-ghost use Rattle.std.specs.Prelude.{◌≡◌, ◌⊎◌, ℕ, ◌<◌, ◌^◌, false, [], Some, Option, OnOk, OnErr, IfOk, IfErr, IsTrue, IfSome};
+ghost use Rattle.std.specs.Prelude.{◌≡◌, ◌⊎◌, ◌<◌, ◌^◌, false, [], Some, OnOk, OnErr, IfOk, IfErr, IsTrue, IfSome};
 ghost use Rattle.sqlite.specs.State.{HasCleanDisk, IsRolledBack, IsUnchanged, Survives};
 ghost use Rattle.sqlite.specs.Held.{state};
 ghost use Rattle.sqlite_disk.specs.Disk.{MoreFaults};
@@ -9,7 +9,8 @@ ghost use Rattle.planner_machine.specs.declared.job.Job.{Job as JobValue};
 ghost use Rattle.plan_store.specs.Changes.{Fits, after, redefined};
 ghost use Rattle.plan_store.specs.Contents.{content_of};
 ghost use Rattle.plan_store.specs.Redefining.{CanUndo, ended, half_redefined, undone};
-ghost use Rattle.plan_store.specs.Room.{HasRoom, with_definitions, with_job_set, with_pairs_of};
+ghost use Rattle.plan_store.specs.Parts.{Rest, with_rest};
+ghost use Rattle.plan_store.specs.Room.{HasRoom, with_definitions, with_pairs_of};
 ghost use Rattle.plan_store.specs.declared.changes.DefinitionChange.TheVariants.{AsBefore};
 ghost use Rattle.plan_store.specs.declared.stores.StoreFault.TheVariants.{Device, Memory};
 ghost use Rattle.table_facts.specs.Content.{answer_text};
@@ -225,31 +226,31 @@ pub(crate) fn change_both<S: Alter>(
     ensures lists { OnOk result (content_of lists.new
         ≡ after (jobless change) (content_of lists.old)) }
     ensures same { OnErr result (content_of lists.new ≡ content_of lists.old) }
-    ensures done { HasCleanDisk (state S.Store conn.new) → (jobs : ℕ → Option JobValue)
-        → IsMet (state S.Store conn.old) (content_of lists.old) change moves.now jobs
+    ensures done { HasCleanDisk (state S.Store conn.new) → (rest : Rest)
+        → IsMet (state S.Store conn.old) (content_of lists.old) change moves.now rest
         → OnOk result (IsStored (state S.Store conn.new)
-        (after change (with_job_set jobs (content_of lists.old)))) }
-    ensures undone { HasCleanDisk (state S.Store conn.new) → (jobs : ℕ → Option JobValue)
-        → IsMet (state S.Store conn.old) (content_of lists.old) change moves.now jobs
+        (after change (with_rest rest (content_of lists.old)))) }
+    ensures undone { HasCleanDisk (state S.Store conn.new) → (rest : Rest)
+        → IsMet (state S.Store conn.old) (content_of lists.old) change moves.now rest
         → OnErr result (IsTrue (state S.Store conn.new).is_open
         → ((state S.Store conn.new).now ≡ (state S.Store conn.old).now)
         × ((state S.Store conn.new).committed ≡ (state S.Store conn.old).committed)) }
-    ensures memory { HasCleanDisk (state S.Store conn.new) → (jobs : ℕ → Option JobValue)
-        → IsMet (state S.Store conn.old) (content_of lists.old) change moves.now jobs
+    ensures memory { HasCleanDisk (state S.Store conn.new) → (rest : Rest)
+        → IsMet (state S.Store conn.old) (content_of lists.old) change moves.now rest
         → IfErr result (λ why. why ≡ Unmade.Memory → IsTrue (state S.Store conn.new).is_open) }
-    ensures blames { HasCleanDisk (state S.Store conn.new) → (jobs : ℕ → Option JobValue)
-        → IsMet (state S.Store conn.old) (content_of lists.old) change moves.now jobs
-        → CanTake (state S.Store conn.old) (with_job_set jobs (content_of lists.old)) change
+    ensures blames { HasCleanDisk (state S.Store conn.new) → (rest : Rest)
+        → IsMet (state S.Store conn.old) (content_of lists.old) change moves.now rest
+        → CanTake (state S.Store conn.old) (with_rest rest (content_of lists.old)) change
         → IfErr result (λ why. why ≡ Unmade.Device
         → HasFailed (state S.Store conn.old) (state S.Store conn.new)) }
-    ensures schema { HasCleanDisk (state S.Store conn.new) → (jobs : ℕ → Option JobValue)
-        → IsMet (state S.Store conn.old) (content_of lists.old) change moves.now jobs
+    ensures schema { HasCleanDisk (state S.Store conn.new) → (rest : Rest)
+        → IsMet (state S.Store conn.old) (content_of lists.old) change moves.now rest
         → OnOk result ((state S.Store conn.new).now.schema ≡ (state S.Store conn.old).now.schema) }
     ensures ended { conn.new.in_transaction ≡ false }
     ensures crash { Survives (state S.Store conn.old) (state S.Store conn.new)
-        (λ db. (jobs : ℕ → Option JobValue)
-        → IsMet (state S.Store conn.old) (content_of lists.old) change moves.now jobs
-        → Tells db (after change (with_job_set jobs (content_of lists.old)))
+        (λ db. (rest : Rest)
+        → IsMet (state S.Store conn.old) (content_of lists.old) change moves.now rest
+        → Tells db (after change (with_rest rest (content_of lists.old)))
         × AllHaveRowids (tables_of db)) }
 {
     let mut underway = match start(lists, alloc, change) {

@@ -4,14 +4,14 @@
 mod answers;
 mod closing;
 mod definition_moves;
-mod hiding;
 mod keeping;
+mod listing;
 mod looking;
 mod opening;
 mod prepared;
+mod seeking;
 mod table_store;
-mod taking;
 
 pub use table_opening::{OpenFault, open_connection};
 pub use table_store::TableStore;
-pub use taking::fitting_changes_are_taken;
+pub use table_taking::fitting_changes_are_taken;

@@ -10,26 +10,32 @@ ghost use Rattle.planner_machine.specs.Sound.{AreNumbered, IsSound};
 ghost use Rattle.planner_machine.specs.declared.job.Job.{Job as JobValue};
 ghost use Rattle.plan_store.specs.Changes.{Fits, after};
 ghost use Rattle.plan_store.specs.Contents.{content_of};
-ghost use Rattle.plan_store.specs.Faults.{MoreFailures};
+ghost use Rattle.plan_store.specs.Faults.{IsMildListing, MoreFailures};
 ghost use Rattle.plan_store.specs.Listings.{HandsAll, HandsPart, IsListing};
+ghost use Rattle.plan_store.specs.Parts.{IsPartOf};
 ghost use Rattle.plan_store.specs.Room.{no_jobs};
+ghost use Rattle.plan_parts.specs.Changes.{KnowsNamed};
 ghost use Rattle.plan_store.specs.declared.stores.StoreFault.TheVariants.{Device, Memory};
 ghost use Rattle.table_facts.specs.Content.{answer_text};
+ghost use Rattle.table_schema.specs.Rows.{tables_of};
 ghost use Rattle.table_schema.specs.Schema.{HasOwnIndexes, HasTables};
+ghost use Rattle.fact_gathering.specs.Gathering.{told_rest};
 ghost use Rattle.table_opening.specs.Opened.{IsStored};
-ghost use Rattle.plan_tables.specs.Applied.{AppliesBy, ReadsBy};
-ghost use Rattle.plan_tables.specs.Causes.{CanTake, HasFailed};
+ghost use Rattle.plan_tables.specs.Applied.{AppliesBy, ListsBy, ReadsBy};
+ghost use Rattle.plan_tables.specs.Causes.{CanTake, HasFailed, CountsOn};
 ghost use Rattle.plan_tables.specs.Kept.{CanRead, IsKept, LooksOn, kept_in};
+ghost use Rattle.plan_tables.specs.Listing.{what_of};
+ghost use Rattle.plan_tables.specs.Sought.{IsFoundFor};
 ghost use Rattle.plan_tables.specs.Stored.{LeavesSound, MayLeave};
 ghost use Rattle.plan_tables.specs.Taken.{HasRoomFor, KeepsSchema};
 ghost use Rattle.plan_tables.specs.Told.{BringMoves};
 
 use crate::answers::{added_rise, change_is_tellable};
-use crate::hiding::{listings_hide_jobs, windows_hide_jobs};
 use crate::keeping::{Unmade, ask_open, change_both};
+use crate::listing::{Asked, Unlisted, list_kept};
 use crate::looking::job_kept;
 use crate::prepared::{Prepared, can_number, prepare};
-use crate::taking::fitting_changes_are_taken;
+use crate::seeking::{Sought, seek};
 use app_definitions::Definitions;
 use external_dependencies::Links;
 use plan_store::{Change, Content, ListFault, Need, PlanStore, RowSink, StoreFault, View, What};
@@ -38,14 +44,16 @@ use sqlite::{Alter, Connection, Error};
 use std::alloc::Global;
 use table_facts::{tables_have_one_content, tables_tell_sets};
 use table_opening::has_own_indexes;
+use table_taking::fitting_changes_are_taken;
 use work_calendars::App;
 
-/// What a planner knows, in the tables of a database. Lists in memory hold all but the kept jobs, and serve what is
-/// read; a job is looked up in its table. After a failure it answers that the device failed.
+/// What a planner knows, in the tables of a database. Lists in memory hold the plans, their pairs and the definitions,
+/// and serve what is read of these; of history and of the deletions they have what was looked up in the tables, and a job
+/// is looked up there each time. After a failure it answers that the device failed.
 #[derive(Drop)]
 pub struct TableStore<S: Alter> {
     conn: Connection<S>,
-    // all but the kept jobs
+    // the plans, their pairs and the definitions, and of history and of the deletions what was found out
     lists: Content,
     // how often sqlite failed, or refused for another cause than memory, up to the greatest number that is counted
     failures: u64,
@@ -79,7 +87,8 @@ impl<S: Alter + Drop> TableStore<S> {
         conn
     }
 
-    // A store over a database that has the content of the lists, of which it keeps all but the jobs.
+    // A store over a database that has the content of the lists, of which it keeps the plans, and of the rest what its
+    // statements are about.
     pub(crate) fn over(alloc: Global, conn: Connection<S>, lists: Content) -> TableStore<S>
         requires mode { conn.in_transaction ≡ false }
         requires opened { HasCleanDisk (state S.Store conn)
@@ -88,6 +97,9 @@ impl<S: Alter + Drop> TableStore<S> {
         ensures conn { result.conn ≡ conn }
         ensures kept { HasCleanDisk (state S.Store result.conn)
             → kept_in (state S.Store result.conn) (content_of result.lists) ≡ content_of lists }
+        ensures part { HasCleanDisk (state S.Store result.conn)
+            → IsPartOf (told_rest (tables_of (state S.Store result.conn).now.trees))
+            (content_of result.lists) }
         ensures whole { result.failures ≡ 0 }
         ensures sure { result.in_doubt ≡ false }
     {
@@ -95,7 +107,7 @@ impl<S: Alter + Drop> TableStore<S> {
         // its clause says that an open connection has a database
         let _ = conn.schema();
         let mut lists = lists;
-        lists.forget_jobs(alloc);
+        lists.keep_part(alloc);
         TableStore {
             conn,
             lists,
@@ -119,7 +131,7 @@ impl<S: Alter + Drop> TableStore<S> {
             → OnOk result (IsTrue (state S.Store self.old.conn).is_open
             → IsTrue (state S.Store self.new.conn).is_open) }
         ensures looks { LooksOn (state S.Store self.old.conn) (state S.Store self.new.conn)
-            (content_of self.old.lists) }
+            (content_of self.old.lists) (content_of self.old.lists) }
         ensures survives { Survives (state S.Store self.old.conn) (state S.Store self.new.conn)
             (λ _. ⊥) }
         ensures blames { IfErr result (λ fault. fault ≡ Device
@@ -171,7 +183,7 @@ impl<S: Alter + Drop> TableStore<S> {
             ≡ (kept_in (state S.Store self.old.conn) (content_of self.old.lists)).jobs number) }
         ensures lists { self.new.lists ≡ self.old.lists }
         ensures looks { LooksOn (state S.Store self.old.conn) (state S.Store self.new.conn)
-            (content_of self.old.lists) }
+            (content_of self.old.lists) (content_of self.old.lists) }
         ensures opens { HasCleanDisk (state S.Store self.new.conn)
             → OnOk result (IsTrue (state S.Store self.new.conn).is_open) }
         ensures memory { HasCleanDisk (state S.Store self.new.conn)
@@ -196,6 +208,144 @@ impl<S: Alter + Drop> TableStore<S> {
                 self.failures = self.failures.saturating_add(1);
                 Err(StoreFault::Device)
             }
+        }
+    }
+
+    // Finds out what is sought, where nothing failed and the connection is known to be open, and brings it into the lists.
+    fn find_out(&mut self, sought: Sought<'_>) -> Result<(), StoreFault>
+        requires whole { self.old.failures ≡ 0 }
+        requires sure { self.old.in_doubt ≡ false }
+        ensures found { HasCleanDisk (state S.Store self.new.conn)
+            → OnOk result (IsFoundFor sought.entry
+            (told_rest (tables_of (state S.Store self.old.conn).now.trees))
+            (content_of self.new.lists)) }
+        ensures looks { LooksOn (state S.Store self.old.conn) (state S.Store self.new.conn)
+            (content_of self.old.lists) (content_of self.new.lists) }
+        ensures same { HasCleanDisk (state S.Store self.new.conn)
+            → OnOk result (∥ (state S.Store self.new.conn).now
+            ≡ (state S.Store self.old.conn).now ∥₁) }
+        ensures opens { HasCleanDisk (state S.Store self.new.conn)
+            → OnOk result (IsTrue (state S.Store self.new.conn).is_open) }
+        ensures memory { HasCleanDisk (state S.Store self.new.conn)
+            → IfErr result (λ fault. fault ≡ Memory → self.new.in_doubt ≡ false
+            → IsTrue (state S.Store self.new.conn).is_open) }
+        ensures caused { HasCleanDisk (state S.Store self.new.conn)
+            → IfErr result (λ fault. fault ≡ Device
+            → ∥ HasFailed (state S.Store self.old.conn) (state S.Store self.new.conn) ∥₁) }
+        ensures schema { KeepsSchema (state S.Store self.old.conn)
+            (state S.Store self.new.conn) result }
+        ensures survives { Survives (state S.Store self.old.conn) (state S.Store self.new.conn)
+            (λ _. HasTables (state S.Store self.old.conn).now.schema → ⊥) }
+        ensures blames { IfErr result (λ fault. fault ≡ Device
+            → MoreFailures self.old.failures self.new.failures) }
+        ensures counts { self.old.failures ≤ self.new.failures }
+        ensures whole { OnOk result ((self.new.failures ≡ 0) × (self.new.in_doubt ≡ false)) }
+    {
+        match seek(self.alloc, &mut self.conn, &mut self.lists, sought) {
+            Ok(()) => Ok(()),
+            Err(Unmade::Memory) => Err(StoreFault::Memory),
+            Err(Unmade::Doubt) => {
+                self.in_doubt = true;
+                Err(StoreFault::Memory)
+            }
+            Err(Unmade::Device) => {
+                self.failures = self.failures.saturating_add(1);
+                Err(StoreFault::Device)
+            }
+        }
+    }
+
+    // Makes sure that the connection is open, finds out what is sought, and brings it into the lists.
+    fn make_ready(&mut self, sought: Sought<'_>) -> Result<(), StoreFault>
+        requires { self.old.failures ≡ 0 }
+        ensures reads { ReadsBy ⟦<TableStore<S> as PlanStore>⟧ self.old self.new result
+            (λ _. IsFoundFor sought.entry (told_rest (tables_of (state S.Store self.new.conn).now.trees))
+            (content_of self.new.lists)) }
+        ensures sure { OnOk result (self.new.in_doubt ≡ false) }
+        ensures whole { OnOk result (self.new.failures ≡ 0) }
+        ensures same { HasCleanDisk (state S.Store self.new.conn)
+            → OnOk result (∥ (state S.Store self.new.conn).now
+            ≡ (state S.Store self.old.conn).now ∥₁) }
+        ensures caused { HasCleanDisk (state S.Store self.new.conn)
+            → IfErr result (λ fault. fault ≡ Device
+            → ∥ HasFailed (state S.Store self.old.conn) (state S.Store self.new.conn)
+            ⊎ ((state S.Store self.old.conn).is_open ≡ false) ∥₁) }
+        ensures schema { KeepsSchema (state S.Store self.old.conn)
+            (state S.Store self.new.conn) result }
+        ensures counted { CountsOn (state S.Store self.old.conn) (state S.Store self.new.conn) }
+    {
+        self.make_sure()?;
+        self.find_out(sought)
+    }
+
+    // Hands the sink a listing for which the tables are asked, where nothing failed and the connection is known to be open.
+    fn list_asked<K: RowSink>(
+        &mut self,
+        alloc: Global,
+        asked: Asked,
+        app: Option<&App>,
+        sink: &mut K,
+    ) -> Result<usize, ListFault>
+        requires whole { self.old.failures ≡ 0 }
+        requires sure { self.old.in_doubt ≡ false }
+        ensures all { HasCleanDisk (state S.Store self.new.conn)
+            → AreNumbered (kept_in (state S.Store self.old.conn) (content_of self.old.lists)).sets
+            → IfOk result (HandsAll K.takes (IsListing (what_of asked) (option_copied app.entry)
+            (kept_in (state S.Store self.old.conn) (content_of self.old.lists)))
+            sink.old sink.new) }
+        ensures part { HasCleanDisk (state S.Store self.new.conn)
+            → AreNumbered (kept_in (state S.Store self.old.conn) (content_of self.old.lists)).sets
+            → IfErr result (HandsPart K.takes K.refuses
+            (IsListing (what_of asked) (option_copied app.entry)
+            (kept_in (state S.Store self.old.conn) (content_of self.old.lists)))
+            sink.old sink.new) }
+        ensures lists { self.new.lists ≡ self.old.lists }
+        ensures looks { LooksOn (state S.Store self.old.conn) (state S.Store self.new.conn)
+            (content_of self.old.lists) (content_of self.old.lists) }
+        ensures opens { HasCleanDisk (state S.Store self.new.conn)
+            → OnOk result (IsTrue (state S.Store self.new.conn).is_open) }
+        ensures mild { HasCleanDisk (state S.Store self.new.conn)
+            → IfErr result (λ fault. IsMildListing
+            ((self.new.failures ≡ 0) × (self.new.in_doubt ≡ false)) fault
+            → IsTrue (state S.Store self.new.conn).is_open) }
+        ensures blames { IfErr result (λ fault. fault ≡ ListFault.Device
+            → MoreFailures self.old.failures self.new.failures) }
+        ensures counts { self.old.failures ≤ self.new.failures }
+        ensures stays_whole { OnOk result ((self.new.failures ≡ 0)
+            × (self.new.in_doubt ≡ false)) }
+    {
+        match list_kept(alloc, &mut self.conn, &self.lists, asked, app, sink) {
+            Ok(count) => Ok(count),
+            Err(Unlisted::Sink(fault)) => Err(ListFault::Sink(fault)),
+            Err(Unlisted::Unmade(Unmade::Memory)) => Err(ListFault::Memory),
+            Err(Unlisted::Unmade(Unmade::Doubt)) => {
+                self.in_doubt = true;
+                Err(ListFault::Memory)
+            }
+            Err(Unlisted::Unmade(Unmade::Device)) => {
+                self.failures = self.failures.saturating_add(1);
+                Err(ListFault::Device)
+            }
+        }
+    }
+
+    // The same, where nothing failed.
+    fn list_sure<K: RowSink>(
+        &mut self,
+        alloc: Global,
+        asked: Asked,
+        app: Option<&App>,
+        sink: &mut K,
+    ) -> Result<usize, ListFault>
+        requires { self.old.failures ≡ 0 }
+        ensures { ListsBy ⟦<TableStore<S> as PlanStore>⟧ self.old self.new K.takes K.refuses
+            sink.old sink.new (what_of asked) (option_copied app.entry) result }
+    {
+        self.lists.has_listings_with();
+        match self.make_sure() {
+            Ok(()) => self.list_asked(alloc, asked, app, sink),
+            Err(StoreFault::Memory) => Err(ListFault::Memory),
+            Err(StoreFault::Device) => Err(ListFault::Device),
         }
     }
 
@@ -235,6 +385,9 @@ impl<S: Alter + Drop> TableStore<S> {
             (kept_in (state S.Store self.old.conn) (content_of self.old.lists)) }
         requires sound { CanRead (state S.Store self.old.conn) → IsSound (after change.now
             (kept_in (state S.Store self.old.conn) (content_of self.old.lists))) }
+        requires knows { CanRead (state S.Store self.old.conn) → KnowsNamed
+            (told_rest (tables_of (state S.Store self.old.conn).now.trees)) change.now
+            (content_of self.old.lists) }
         ensures fits { OnOk result (Fits change.now (content_of self.new.lists)) }
         ensures number { OnOk result (IfSome change.now.job
             (λ (job : JobValue). job.number < 2 ^ 63)) }
@@ -269,6 +422,9 @@ impl<S: Alter + Drop> TableStore<S> {
             (kept_in (state S.Store self.old.conn) (content_of self.old.lists)) }
         requires sound { CanRead (state S.Store self.old.conn) → IsSound (after change
             (kept_in (state S.Store self.old.conn) (content_of self.old.lists))) }
+        requires knows { CanRead (state S.Store self.old.conn) → KnowsNamed
+            (told_rest (tables_of (state S.Store self.old.conn).now.trees)) change
+            (content_of self.old.lists) }
         requires moves { BringMoves change.definitions prepared.now.moves }
         requires number { IfSome change.job (λ (job : JobValue). job.number < 2 ^ 63) }
         requires line { IfSome change.job (λ (job : JobValue). prepared.now.line.items
@@ -404,7 +560,7 @@ impl<S: Alter + Drop> PlanStore for TableStore<S> {
         if self.failures > 0 {
             return Err(StoreFault::Device);
         }
-        windows_hide_jobs();
+        self.make_ready(Sought::Window(&need))?;
         self.lists.fill_window(&need)?;
         Ok(self.lists.window(&need))
     }
@@ -423,26 +579,19 @@ impl<S: Alter + Drop> PlanStore for TableStore<S> {
         what: What,
         app: Option<&App>,
         sink: &mut K,
-    ) -> Result<usize, ListFault>
-        ensures all { AreNumbered (content_of self.old.lists).sets
-            → IfOk result (HandsAll K.takes (IsListing what (option_copied app.entry)
-            (kept_in (state S.Store self.old.conn) (content_of self.old.lists)))
-            sink.old sink.new) }
-        ensures part { AreNumbered (content_of self.old.lists).sets
-            → IfErr result (HandsPart K.takes K.refuses (IsListing what (option_copied app.entry)
-            (kept_in (state S.Store self.old.conn) (content_of self.old.lists)))
-            sink.old sink.new) }
-        ensures kept { self.new ≡ self.old }
-        ensures blames { IfErr result (λ fault. fault ≡ ListFault.Device → 0 < self.old.failures) }
-        ensures broken { 0 < self.old.failures → (result ≡ Err ListFault.Device)
-            × (sink.new ≡ sink.old) }
-    {
-        listings_hide_jobs();
-        self.lists.has_listings();
+    ) -> Result<usize, ListFault> {
+        self.lists.has_listings_with();
         if self.failures > 0 {
             return Err(ListFault::Device);
         }
-        self.lists.rows_to(alloc, what, app, sink)
+        match what {
+            What::Ltp => self.lists.ltp_to(alloc, app, sink),
+            What::Cp => self.lists.cp_to(alloc, app, sink),
+            What::Links => self.lists.links_to(app, sink),
+            What::History => self.list_sure(alloc, Asked::History, app, sink),
+            What::Deletions => self.list_sure(alloc, Asked::Deletions, app, sink),
+            What::Dependencies => self.list_sure(alloc, Asked::Pairs, app, sink),
+        }
     }
 
     // The clauses of every store, and why the device is blamed: over an open connection whose tables take the change it
@@ -469,7 +618,7 @@ impl<S: Alter + Drop> PlanStore for TableStore<S> {
             (state S.Store self.new.conn) result }
     {
         let prepared = self.prepared(alloc, &change)?;
-        self.make_sure()?;
+        self.make_ready(Sought::Change(&change))?;
         self.admit(alloc, &change)?;
         self.change_so(alloc, &prepared, change)
     }

@@ -1,7 +1,7 @@
 //! The tables of schema 1 with what a run of a stream leaves.
 ghost use Rattle.std.specs.Prelude.{◌≡◌, false, IfOk};
 ghost use Rattle.sqlite.specs.Held.{IsNew};
-ghost use Rattle.plan_tables.specs.Adopted.{KeepsSound};
+ghost use Rattle.stopped_files.specs.Sound.{KeepsSound};
 
 use crate::disks::{Disks, Stopping, new_disks};
 use crate::stores::connect;

@@ -2,7 +2,7 @@
 //! files that are named takes ten times as long.
 ghost use Rattle.std.specs.Prelude.{◌≡◌, false, IfOk};
 ghost use Rattle.sqlite.specs.Held.{IsNew};
-ghost use Rattle.plan_tables.specs.Adopted.{KeepsSound};
+ghost use Rattle.stopped_files.specs.Sound.{KeepsSound};
 
 use crate::disks::crashed;
 use crate::streams::{Stream, Wrong};

@@ -2,8 +2,11 @@
 ghost use Rattle.std.specs.Prelude.{⊤};
 
 use fact_listings::{ListedFault, list_deletions, list_history};
-use fact_lookups::{LookupFault, deletions_from, kept_job};
-use occurrences::Reply;
+use fact_lookups::{
+    LookupFault, completed_row, completed_rows, deleted_row, deleted_rows, deletions_from,
+    kept_job, last_completed,
+};
+use occurrences::{Origin, Reply, Serial};
 use plan_store::{Item, RowSink, SinkFault};
 use sqlite::{Connection, Error, MemStore};
 use std::alloc::Global;
@@ -149,5 +152,78 @@ fn deletions_from_a_moment_are_found(rt: HostRuntime) -> Result<(), Fail> {
         let found = deletions_from(rt.alloc(), &mut conn, moment)?;
         assert_eq!(rt; found.len(), wanted, "{moment}");
     }
+    Ok(())
+}
+
+#[test]
+fn rows_of_a_serial_are_found(rt: HostRuntime) -> Result<(), Fail> {
+    let mut conn = plan(rt.alloc())?;
+    // 100 more where a run cycle made the row
+    for (number, completed, deleted) in [(2, 102, 0), (3, 3, 0), (10, 0, 10), (11, 0, 0)] {
+        let serial = Serial::new(number).expect(&rt, "a serial");
+        let found = match completed_row(rt.alloc(), &mut conn, serial)? {
+            Some(row) if row.origin == Origin::Added => row.serial.get(),
+            Some(row) => row.serial.get().wrapping_add(100),
+            None => 0,
+        };
+        assert_eq!(rt; found, completed, "{number}");
+        let found = match deleted_row(rt.alloc(), &mut conn, serial)? {
+            Some(deletion) => deletion.row.serial.get(),
+            None => 0,
+        };
+        assert_eq!(rt; found, deleted, "{number}");
+    }
+    conn.execute_batch("UPDATE history_row SET app = 'a' WHERE serial = 3")?;
+    let serial = Serial::new(3).expect(&rt, "a serial");
+    let found = completed_row(rt.alloc(), &mut conn, serial);
+    assert!(rt; matches!(found, Err(LookupFault::Untold)));
+    Ok(())
+}
+
+#[test]
+fn last_rows_are_found(rt: HostRuntime) -> Result<(), Fail> {
+    let mut conn = plan(rt.alloc())?;
+    for (name, moment, wanted) in [
+        ("A", 28_401_099, 0),
+        ("A", 28_401_199, 1),
+        ("A", 28_401_299, 3),
+        ("A", 28_401_300, 4),
+        ("B", 28_401_099, 5),
+        ("B", u32::MAX, 102),
+        ("AB", u32::MAX, 0),
+    ] {
+        let app = App::from_text(name).expect(&rt, "a name");
+        let found = match last_completed(rt.alloc(), &mut conn, &app, moment)? {
+            Some(row) if row.origin == Origin::Added => row.serial.get(),
+            Some(row) => row.serial.get().wrapping_add(100),
+            None => 0,
+        };
+        assert_eq!(rt; found, wanted, "{name} {moment}");
+    }
+    Ok(())
+}
+
+#[test]
+fn all_rows_are_found(rt: HostRuntime) -> Result<(), Fail> {
+    let mut conn = plan(rt.alloc())?;
+    let rows = completed_rows(rt.alloc(), &mut conn)?;
+    let mut serials: u64 = 0;
+    for row in &rows {
+        serials = serials.wrapping_add(u64::from(row.serial.get()));
+    }
+    // 1 to 5
+    assert_eq!(rt; rows.len(), 5);
+    assert_eq!(rt; serials, 15);
+    let deletions = deleted_rows(rt.alloc(), &mut conn)?;
+    let mut serials: u64 = 0;
+    for deletion in &deletions {
+        serials = serials.wrapping_add(u64::from(deletion.row.serial.get()));
+    }
+    // 6 to 10
+    assert_eq!(rt; deletions.len(), 5);
+    assert_eq!(rt; serials, 40);
+    conn.execute_batch("UPDATE history_row SET app = 'a' WHERE serial = 5")?;
+    let found = completed_rows(rt.alloc(), &mut conn);
+    assert!(rt; matches!(found, Err(LookupFault::Untold)));
     Ok(())
 }

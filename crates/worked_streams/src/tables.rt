@@ -1,6 +1,6 @@
 //! A stream over a store on tables in memory, beside one of lists.
 ghost use Rattle.std.specs.Prelude.{◌≡◌, false, IfOk};
-ghost use Rattle.plan_tables.specs.Adopted.{KeepsSound};
+ghost use Rattle.stopped_files.specs.Sound.{KeepsSound};
 
 use crate::trials::Answered;
 use content_differences::has_run;

@@ -21,7 +21,9 @@ returns-in-Ok-clause-ran g c =
 
 pub run_and_close-requires-clause-kept : goal.run_and_close-requires-clause-kept
 run_and_close-requires-clause-kept g c clean =
-    let opened = c.in-Ok.ensures.opened.opened clean in record { stored = opened.stored clean; sound = opened.sound }
+    let over = c.in-Ok.ensures.opened in
+    let opened = over.opened clean in
+    record { stored = opened.stored clean; sound = opened.sound; part = over.part clean }
 
 pub returns-in-Err-clause-unrun : goal.returns-in-Err-clause-unrun
 returns-in-Err-clause-unrun g c =

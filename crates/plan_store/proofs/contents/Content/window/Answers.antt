@@ -2,7 +2,7 @@ use Rattle.std.proofs.Common.{◌∙◌, subst, sym}
 use Rattle.plan_store.specs.Contents.{content_of}
 use Rattle.plan_store.specs.Views.{Shows}
 use Rattle.plan_store.proofs.WindowLemmas.{barring_rows, barring_seats, early_rows, early_seats}
-use Rattle.plan_store.proofs.WindowLemmas.{shows_definitions, shows_early, shows_key, shows_plan}
+use Rattle.plan_store.proofs.WindowLemmas.{shows_definitions, shows_early, shows_key, shows_plan, tells_sizes}
 use Rattle.plan_store.proofs.contents.Content.window.Goals as goal
 
 pub window_of_plans-requires-in-Daily-clause-ltp_rows : goal.window_of_plans-requires-in-Daily-clause-ltp_rows
@@ -25,22 +25,22 @@ window_of_lasts-requires-in-LongTerm-clause-seats c =
     let filled = rw c.in-LongTerm.is at c.requires in
     barring_seats c.args.self.now c.deref-in-LongTerm.result.now (c.deref-in-LongTerm.ensures.value ∙ filled.1)
 
-pub returns-in-Definitions : goal.returns-in-Definitions
-returns-in-Definitions c =
+pub returns-in-Definitions-clause-shows : goal.returns-in-Definitions-clause-shows
+returns-in-Definitions-clause-shows c =
     let kept = c.args.self.now in
     subst (λ n. Shows n c.window_of_plans.result (content_of kept)) (sym c.in-Definitions.is)
     (shows_definitions c.window_of_plans.result kept c.window_of_plans.ensures.whole c.window_of_plans.ensures.shown)
 
-pub returns-in-Key : goal.returns-in-Key
-returns-in-Key c =
+pub returns-in-Key-clause-shows : goal.returns-in-Key-clause-shows
+returns-in-Key-clause-shows c =
     let kept = c.args.self.now in
     let filled = rw c.in-Key.is at c.requires in
     subst (λ n. Shows n c.window_of_lasts.result (content_of kept)) (sym c.in-Key.is)
     (shows_key c.in-Key.field-0 c.window_of_lasts.result kept c.window_of_lasts.ensures.whole filled
     c.window_of_lasts.ensures.history c.window_of_lasts.ensures.shown)
 
-pub returns-in-LongTerm : goal.returns-in-LongTerm
-returns-in-LongTerm c =
+pub returns-in-LongTerm-clause-shows : goal.returns-in-LongTerm-clause-shows
+returns-in-LongTerm-clause-shows c =
     let kept = c.args.self.now in
     let filled = rw c.in-LongTerm.is at c.requires in
     subst (λ n. Shows n c.window_of_lasts-in-LongTerm.result (content_of kept)) (sym c.in-LongTerm.is)
@@ -48,10 +48,26 @@ returns-in-LongTerm c =
     c.window_of_lasts-in-LongTerm.result c.window_of_lasts-in-LongTerm.ensures.whole filled.0
     c.window_of_lasts-in-LongTerm.ensures.history c.window_of_lasts-in-LongTerm.ensures.shown)
 
-pub returns-in-Daily : goal.returns-in-Daily
-returns-in-Daily c =
+pub returns-in-Daily-clause-shows : goal.returns-in-Daily-clause-shows
+returns-in-Daily-clause-shows c =
     let kept = c.args.self.now in
     let shows = rw c.deref-in-Daily.ensures.value at c.window_of_plans-in-Daily.ensures.shown in
     subst (λ n. Shows n c.window_of_plans-in-Daily.result (content_of kept)) (sym c.in-Daily.is)
     (shows_early _ kept c.deref.result.now (c.deref.ensures.value ∙ (rw c.in-Daily.is at c.requires))
     c.window_of_plans-in-Daily.result c.window_of_plans-in-Daily.ensures.whole shows)
+
+pub returns-in-Definitions-clause-parts : goal.returns-in-Definitions-clause-parts
+returns-in-Definitions-clause-parts c rest numbered =
+    tells_sizes rest c.window_of_plans.result c.args.self.now c.window_of_plans.ensures.whole numbered
+
+pub returns-in-Key-clause-parts : goal.returns-in-Key-clause-parts
+returns-in-Key-clause-parts c rest numbered =
+    tells_sizes rest c.window_of_lasts.result c.args.self.now c.window_of_lasts.ensures.whole numbered
+
+pub returns-in-LongTerm-clause-parts : goal.returns-in-LongTerm-clause-parts
+returns-in-LongTerm-clause-parts c rest numbered =
+    tells_sizes rest c.window_of_lasts-in-LongTerm.result c.args.self.now c.window_of_lasts-in-LongTerm.ensures.whole numbered
+
+pub returns-in-Daily-clause-parts : goal.returns-in-Daily-clause-parts
+returns-in-Daily-clause-parts c rest numbered =
+    tells_sizes rest c.window_of_plans-in-Daily.result c.args.self.now c.window_of_plans-in-Daily.ensures.whole numbered

@@ -34,4 +34,8 @@ returns-in-Err-over_store-clause-refused g c = (
 pub returns-in-Ok-over_store-clause-opened : goal.returns-in-Ok-over_store-clause-opened
 returns-in-Ok-over_store-clause-opened g c clean =
     let opened = c.in-Ok-over_store.ensures.opened.opened clean in
-    record { stored = opened.stored clean; sound = opened.sound }
+    record {
+      stored = opened.stored clean;
+      sound = opened.sound;
+      part = c.in-Ok-over_store.ensures.opened.part clean;
+    }

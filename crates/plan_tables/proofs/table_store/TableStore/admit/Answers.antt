@@ -29,7 +29,7 @@ returns-clause-admits g c clean _ =
     let k = h clean in
     let can : CanRead before = (clean, k.stored.is_open) in
     let yes = c.in_ok-admits.ensures.admits.1 (
-      fits_lists before lists change old.jobless (c.requires.fits can),
+      fits_lists before lists change old.jobless k.part (c.requires.knows can) (c.requires.fits can),
       (told_by_tables change (kept_in before lists) (c.requires.sound can)).1,
     ) in
     true≢false (sym yes ∙ c.if-branch.false))

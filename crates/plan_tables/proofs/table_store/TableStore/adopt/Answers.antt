@@ -18,6 +18,7 @@ returns-in-Ok-clause-opened g c =
     (sym c.over.ensures.conn) c.in-Ok.ensures.opened) in
     record {
       opened = opened;
+      part = c.over.ensures.part;
       settled = λ left both. leaves_one g.S.Store g.met.S.Store.settled c.over.result.conn left kept
           c.tables_have_one_content.ensures ((opened both.0).stored both.0) both.1;
       whole = c.over.ensures.whole;

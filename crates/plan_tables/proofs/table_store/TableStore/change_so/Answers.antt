@@ -10,7 +10,7 @@ use Rattle.plan_store.specs.Contents.{content_of}
 use Rattle.plan_tables.specs.Kept.{CanRead, IsKept, kept_in}
 use Rattle.plan_tables.proofs.CauseLemmas.{room_takes}
 use Rattle.plan_tables.proofs.LookLemmas.{kept_sure}
-use Rattle.plan_tables.proofs.MetLemmas.{keeps_after, kept_undone, met_so, own_jobs, still_jobless}
+use Rattle.plan_tables.proofs.MetLemmas.{keeps_after, kept_undone, met_so, own_rest, still_jobless}
 use Rattle.plan_tables.proofs.SetLemmas.{content_set, truth_prop}
 use Rattle.plan_tables.proofs.StorableMoves.{storable_moves}
 use Rattle.plan_tables.proofs.StoredLemmas.{keeps_still, kept_after, leaves_either, leaves_one, leaves_sound}
@@ -31,11 +31,12 @@ invariant_of-self g c =
           let k = h calm in
           keeps_after before lists c.args.change c.args.prepared.now.moves c.requires.fits c.requires.sound
           c.requires.moves c.tables_tell_sets.ensures after_it (content_of c.change_both.new.lists) c.in-Ok.ensures.lists
-          (c.in-Ok.ensures.done clean (own_jobs before lists c.args.change c.args.prepared.now.moves c.requires.fits c.requires.sound c.requires.moves) (met_so before lists c.args.change c.args.prepared.now.moves c.requires.fits c.requires.sound c.requires.moves calm k)) (c.requires.sound (calm, k.stored.is_open)));
+          k.part (c.requires.knows (calm, k.stored.is_open)) (c.requires.fits (calm, k.stored.is_open))
+          (c.in-Ok.ensures.done clean (own_rest before lists c.args.change c.args.prepared.now.moves c.requires.fits c.requires.sound c.requires.moves) (met_so before lists c.args.change c.args.prepared.now.moves c.requires.fits c.requires.sound c.requires.moves calm k)) (c.requires.sound (calm, k.stored.is_open)));
       told = ∣ leaves_sound before after_it (after c.args.change (kept_in before lists)) _ old.told
           (∥∥₁_map kept (λ h calm. let k = h calm in (
             c.requires.sound (calm, k.stored.is_open),
-            λ db made. made (own_jobs before lists c.args.change c.args.prepared.now.moves c.requires.fits c.requires.sound c.requires.moves) (met_so before lists c.args.change c.args.prepared.now.moves c.requires.fits c.requires.sound c.requires.moves calm k),
+            λ db made. made (own_rest before lists c.args.change c.args.prepared.now.moves c.requires.fits c.requires.sound c.requires.moves) (met_so before lists c.args.change c.args.prepared.now.moves c.requires.fits c.requires.sound c.requires.moves calm k),
           ))) c.change_both.ensures.crash ∣₁;
     }
 
@@ -53,14 +54,14 @@ invariant_of-self-in-Err-Memory g c =
           let calm : HasCleanDisk before = omega (arith, c.change_both.ensures.crash.clean, clean) in
           let k = h calm in
           let m = met_so before lists c.args.change c.args.prepared.now.moves c.requires.fits c.requires.sound c.requires.moves calm k in
-          let is_open : IsTrue after_it.is_open = c.in-Err-Memory.ensures.memory clean (own_jobs before lists c.args.change c.args.prepared.now.moves c.requires.fits c.requires.sound c.requires.moves) m c.in-Err-Memory.field-0-is in
-          let same = c.in-Err-Memory.ensures.undone clean (own_jobs before lists c.args.change c.args.prepared.now.moves c.requires.fits c.requires.sound c.requires.moves) m is_open in
+          let is_open : IsTrue after_it.is_open = c.in-Err-Memory.ensures.memory clean (own_rest before lists c.args.change c.args.prepared.now.moves c.requires.fits c.requires.sound c.requires.moves) m c.in-Err-Memory.field-0-is in
+          let same = c.in-Err-Memory.ensures.undone clean (own_rest before lists c.args.change c.args.prepared.now.moves c.requires.fits c.requires.sound c.requires.moves) m is_open in
           subst (IsKept after_it) (sym c.in-Err-Memory.ensures.same)
           (keeps_still before after_it lists k is_open same.0 same.1));
       told = ∣ leaves_sound before after_it (after c.args.change (kept_in before lists)) _ old.told
           (∥∥₁_map kept (λ h calm. let k = h calm in (
             c.requires.sound (calm, k.stored.is_open),
-            λ db made. made (own_jobs before lists c.args.change c.args.prepared.now.moves c.requires.fits c.requires.sound c.requires.moves) (met_so before lists c.args.change c.args.prepared.now.moves c.requires.fits c.requires.sound c.requires.moves calm k),
+            λ db made. made (own_rest before lists c.args.change c.args.prepared.now.moves c.requires.fits c.requires.sound c.requires.moves) (met_so before lists c.args.change c.args.prepared.now.moves c.requires.fits c.requires.sound c.requires.moves calm k),
           ))) c.change_both.ensures.crash ∣₁;
     }
 
@@ -79,13 +80,13 @@ invariant_of-self-in-Err-Doubt g c =
           let k = h calm in
           let m = met_so before lists c.args.change c.args.prepared.now.moves c.requires.fits c.requires.sound c.requires.moves calm k in
           let is_open : IsTrue after_it.is_open = opens refl in
-          let same = c.in-Err-Doubt.ensures.undone clean (own_jobs before lists c.args.change c.args.prepared.now.moves c.requires.fits c.requires.sound c.requires.moves) m is_open in
+          let same = c.in-Err-Doubt.ensures.undone clean (own_rest before lists c.args.change c.args.prepared.now.moves c.requires.fits c.requires.sound c.requires.moves) m is_open in
           subst (IsKept after_it) (sym c.in-Err-Doubt.ensures.same)
           (keeps_still before after_it lists k is_open same.0 same.1));
       told = ∣ leaves_sound before after_it (after c.args.change (kept_in before lists)) _ old.told
           (∥∥₁_map kept (λ h calm. let k = h calm in (
             c.requires.sound (calm, k.stored.is_open),
-            λ db made. made (own_jobs before lists c.args.change c.args.prepared.now.moves c.requires.fits c.requires.sound c.requires.moves) (met_so before lists c.args.change c.args.prepared.now.moves c.requires.fits c.requires.sound c.requires.moves calm k),
+            λ db made. made (own_rest before lists c.args.change c.args.prepared.now.moves c.requires.fits c.requires.sound c.requires.moves) (met_so before lists c.args.change c.args.prepared.now.moves c.requires.fits c.requires.sound c.requires.moves calm k),
           ))) c.change_both.ensures.crash ∣₁;
     }
 
@@ -103,7 +104,7 @@ invariant_of-self-in-Err-Device g c =
       told = ∣ leaves_sound before after_it (after c.args.change (kept_in before lists)) _ old.told
           (∥∥₁_map kept (λ h calm. let k = h calm in (
             c.requires.sound (calm, k.stored.is_open),
-            λ db made. made (own_jobs before lists c.args.change c.args.prepared.now.moves c.requires.fits c.requires.sound c.requires.moves) (met_so before lists c.args.change c.args.prepared.now.moves c.requires.fits c.requires.sound c.requires.moves calm k),
+            λ db made. made (own_rest before lists c.args.change c.args.prepared.now.moves c.requires.fits c.requires.sound c.requires.moves) (met_so before lists c.args.change c.args.prepared.now.moves c.requires.fits c.requires.sound c.requires.moves calm k),
           ))) c.change_both.ensures.crash ∣₁;
     }
 
@@ -115,8 +116,8 @@ returns-in-Ok-clause-done g c clean =
     let after_it = state g.S.Store c.change_both.new.conn in
     let kept = kept_sure old.in_doubt old.failures c.requires.sure c.requires.whole old.stored in
     let calm : HasCleanDisk before = omega (arith, c.change_both.ensures.crash.clean, clean) in
-    ∥∥₁_elim kept (content_set _ _) (λ h. kept_after c.tables_tell_sets.ensures after_it (own_jobs before lists c.args.change c.args.prepared.now.moves c.requires.fits c.requires.sound c.requires.moves) c.args.change lists
-    (content_of c.change_both.new.lists) c.in-Ok.ensures.lists (c.in-Ok.ensures.done clean (own_jobs before lists c.args.change c.args.prepared.now.moves c.requires.fits c.requires.sound c.requires.moves) (met_so before lists c.args.change c.args.prepared.now.moves c.requires.fits c.requires.sound c.requires.moves calm (h calm))))
+    ∥∥₁_elim kept (content_set _ _) (λ h. kept_after c.tables_tell_sets.ensures after_it (own_rest before lists c.args.change c.args.prepared.now.moves c.requires.fits c.requires.sound c.requires.moves) c.args.change lists
+    (content_of c.change_both.new.lists) c.in-Ok.ensures.lists (c.in-Ok.ensures.done clean (own_rest before lists c.args.change c.args.prepared.now.moves c.requires.fits c.requires.sound c.requires.moves) (met_so before lists c.args.change c.args.prepared.now.moves c.requires.fits c.requires.sound c.requires.moves calm (h calm))))
 
 pub returns-in-Ok-clause-opens : goal.returns-in-Ok-clause-opens
 returns-in-Ok-clause-opens g c clean =
@@ -126,7 +127,7 @@ returns-in-Ok-clause-opens g c clean =
     let after_it = state g.S.Store c.change_both.new.conn in
     let kept = kept_sure old.in_doubt old.failures c.requires.sure c.requires.whole old.stored in
     let calm : HasCleanDisk before = omega (arith, c.change_both.ensures.crash.clean, clean) in
-    ∥∥₁_elim kept (truth_prop after_it.is_open) (λ h. (c.in-Ok.ensures.done clean (own_jobs before lists c.args.change c.args.prepared.now.moves c.requires.fits c.requires.sound c.requires.moves) (met_so before lists c.args.change c.args.prepared.now.moves c.requires.fits c.requires.sound c.requires.moves calm (h calm))).is_open)
+    ∥∥₁_elim kept (truth_prop after_it.is_open) (λ h. (c.in-Ok.ensures.done clean (own_rest before lists c.args.change c.args.prepared.now.moves c.requires.fits c.requires.sound c.requires.moves) (met_so before lists c.args.change c.args.prepared.now.moves c.requires.fits c.requires.sound c.requires.moves calm (h calm))).is_open)
 
 pub returns-in-Err-Memory-clause-memory : goal.returns-in-Err-Memory-clause-memory
 returns-in-Err-Memory-clause-memory g c clean _ _ =
@@ -137,7 +138,7 @@ returns-in-Err-Memory-clause-memory g c clean _ _ =
     let kept = kept_sure old.in_doubt old.failures c.requires.sure c.requires.whole old.stored in
     let calm : HasCleanDisk before = omega (arith, c.change_both.ensures.crash.clean, clean) in
     ∥∥₁_elim kept (truth_prop after_it.is_open) (λ h.
-    c.in-Err-Memory.ensures.memory clean (own_jobs before lists c.args.change c.args.prepared.now.moves c.requires.fits c.requires.sound c.requires.moves) (met_so before lists c.args.change c.args.prepared.now.moves c.requires.fits c.requires.sound c.requires.moves calm (h calm)) c.in-Err-Memory.field-0-is)
+    c.in-Err-Memory.ensures.memory clean (own_rest before lists c.args.change c.args.prepared.now.moves c.requires.fits c.requires.sound c.requires.moves) (met_so before lists c.args.change c.args.prepared.now.moves c.requires.fits c.requires.sound c.requires.moves calm (h calm)) c.in-Err-Memory.field-0-is)
 
 pub returns-in-Ok-clause-was_open : goal.returns-in-Ok-clause-was_open
 returns-in-Ok-clause-was_open g c clean =
@@ -159,7 +160,7 @@ returns-in-Ok-clause-crash g c clean left may =
     leaves_either before after_it left (after c.args.change (kept_in before lists)) _ c.tables_have_one_content.ensures
     (∥∥₁_map kept (λ h calm. let k = h calm in (
       c.requires.sound (calm, k.stored.is_open),
-      λ db made. made (own_jobs before lists c.args.change c.args.prepared.now.moves c.requires.fits c.requires.sound c.requires.moves) (met_so before lists c.args.change c.args.prepared.now.moves c.requires.fits c.requires.sound c.requires.moves calm k),
+      λ db made. made (own_rest before lists c.args.change c.args.prepared.now.moves c.requires.fits c.requires.sound c.requires.moves) (met_so before lists c.args.change c.args.prepared.now.moves c.requires.fits c.requires.sound c.requires.moves calm k),
     ))) c.change_both.ensures.crash clean may
 
 pub returns-in-Err-Memory-clause-was_open : goal.returns-in-Err-Memory-clause-was_open
@@ -182,7 +183,7 @@ returns-in-Err-Memory-clause-crash g c clean left may =
     leaves_either before after_it left (after c.args.change (kept_in before lists)) _ c.tables_have_one_content.ensures
     (∥∥₁_map kept (λ h calm. let k = h calm in (
       c.requires.sound (calm, k.stored.is_open),
-      λ db made. made (own_jobs before lists c.args.change c.args.prepared.now.moves c.requires.fits c.requires.sound c.requires.moves) (met_so before lists c.args.change c.args.prepared.now.moves c.requires.fits c.requires.sound c.requires.moves calm k),
+      λ db made. made (own_rest before lists c.args.change c.args.prepared.now.moves c.requires.fits c.requires.sound c.requires.moves) (met_so before lists c.args.change c.args.prepared.now.moves c.requires.fits c.requires.sound c.requires.moves calm k),
     ))) c.change_both.ensures.crash clean may
 
 pub returns-in-Err-Doubt-clause-was_open : goal.returns-in-Err-Doubt-clause-was_open
@@ -205,7 +206,7 @@ returns-in-Err-Doubt-clause-crash g c clean left may =
     leaves_either before after_it left (after c.args.change (kept_in before lists)) _ c.tables_have_one_content.ensures
     (∥∥₁_map kept (λ h calm. let k = h calm in (
       c.requires.sound (calm, k.stored.is_open),
-      λ db made. made (own_jobs before lists c.args.change c.args.prepared.now.moves c.requires.fits c.requires.sound c.requires.moves) (met_so before lists c.args.change c.args.prepared.now.moves c.requires.fits c.requires.sound c.requires.moves calm k),
+      λ db made. made (own_rest before lists c.args.change c.args.prepared.now.moves c.requires.fits c.requires.sound c.requires.moves) (met_so before lists c.args.change c.args.prepared.now.moves c.requires.fits c.requires.sound c.requires.moves calm k),
     ))) c.change_both.ensures.crash clean may
 
 pub returns-in-Err-Device-clause-was_open : goal.returns-in-Err-Device-clause-was_open
@@ -228,7 +229,7 @@ returns-in-Err-Device-clause-crash g c clean left may =
     leaves_either before after_it left (after c.args.change (kept_in before lists)) _ c.tables_have_one_content.ensures
     (∥∥₁_map kept (λ h calm. let k = h calm in (
       c.requires.sound (calm, k.stored.is_open),
-      λ db made. made (own_jobs before lists c.args.change c.args.prepared.now.moves c.requires.fits c.requires.sound c.requires.moves) (met_so before lists c.args.change c.args.prepared.now.moves c.requires.fits c.requires.sound c.requires.moves calm k),
+      λ db made. made (own_rest before lists c.args.change c.args.prepared.now.moves c.requires.fits c.requires.sound c.requires.moves) (met_so before lists c.args.change c.args.prepared.now.moves c.requires.fits c.requires.sound c.requires.moves calm k),
     ))) c.change_both.ensures.crash clean may
 
 pub returns-in-Err-Memory-clause-same : goal.returns-in-Err-Memory-clause-same
@@ -240,7 +241,7 @@ returns-in-Err-Memory-clause-same g c (clean, opens) =
     let kept = kept_sure old.in_doubt old.failures c.requires.sure c.requires.whole old.stored in
     let calm : HasCleanDisk before = omega (arith, c.change_both.ensures.crash.clean, clean) in
     ∥∥₁_elim kept (content_set _ _) (λ h. kept_undone before after_it lists (content_of c.change_both.new.lists)
-    c.in-Err-Memory.ensures.same (c.in-Err-Memory.ensures.undone clean (own_jobs before lists c.args.change c.args.prepared.now.moves c.requires.fits c.requires.sound c.requires.moves) (met_so before lists c.args.change c.args.prepared.now.moves c.requires.fits c.requires.sound c.requires.moves calm (h calm)) opens).0)
+    c.in-Err-Memory.ensures.same (c.in-Err-Memory.ensures.undone clean (own_rest before lists c.args.change c.args.prepared.now.moves c.requires.fits c.requires.sound c.requires.moves) (met_so before lists c.args.change c.args.prepared.now.moves c.requires.fits c.requires.sound c.requires.moves calm (h calm)) opens).0)
 
 pub returns-in-Err-Doubt-clause-same : goal.returns-in-Err-Doubt-clause-same
 returns-in-Err-Doubt-clause-same g c (clean, opens) =
@@ -251,7 +252,7 @@ returns-in-Err-Doubt-clause-same g c (clean, opens) =
     let kept = kept_sure old.in_doubt old.failures c.requires.sure c.requires.whole old.stored in
     let calm : HasCleanDisk before = omega (arith, c.change_both.ensures.crash.clean, clean) in
     ∥∥₁_elim kept (content_set _ _) (λ h. kept_undone before after_it lists (content_of c.change_both.new.lists)
-    c.in-Err-Doubt.ensures.same (c.in-Err-Doubt.ensures.undone clean (own_jobs before lists c.args.change c.args.prepared.now.moves c.requires.fits c.requires.sound c.requires.moves) (met_so before lists c.args.change c.args.prepared.now.moves c.requires.fits c.requires.sound c.requires.moves calm (h calm)) opens).0)
+    c.in-Err-Doubt.ensures.same (c.in-Err-Doubt.ensures.undone clean (own_rest before lists c.args.change c.args.prepared.now.moves c.requires.fits c.requires.sound c.requires.moves) (met_so before lists c.args.change c.args.prepared.now.moves c.requires.fits c.requires.sound c.requires.moves calm (h calm)) opens).0)
 
 pub returns-in-Err-Device-clause-same : goal.returns-in-Err-Device-clause-same
 returns-in-Err-Device-clause-same g c (clean, opens) =
@@ -262,7 +263,7 @@ returns-in-Err-Device-clause-same g c (clean, opens) =
     let kept = kept_sure old.in_doubt old.failures c.requires.sure c.requires.whole old.stored in
     let calm : HasCleanDisk before = omega (arith, c.change_both.ensures.crash.clean, clean) in
     ∥∥₁_elim kept (content_set _ _) (λ h. kept_undone before after_it lists (content_of c.change_both.new.lists)
-    c.in-Err-Device.ensures.same (c.in-Err-Device.ensures.undone clean (own_jobs before lists c.args.change c.args.prepared.now.moves c.requires.fits c.requires.sound c.requires.moves) (met_so before lists c.args.change c.args.prepared.now.moves c.requires.fits c.requires.sound c.requires.moves calm (h calm)) opens).0)
+    c.in-Err-Device.ensures.same (c.in-Err-Device.ensures.undone clean (own_rest before lists c.args.change c.args.prepared.now.moves c.requires.fits c.requires.sound c.requires.moves) (met_so before lists c.args.change c.args.prepared.now.moves c.requires.fits c.requires.sound c.requires.moves calm (h calm)) opens).0)
 
 pub returns-in-Ok-clause-settled : goal.returns-in-Ok-clause-settled
 returns-in-Ok-clause-settled g c clean left may =
@@ -276,7 +277,8 @@ returns-in-Ok-clause-settled g c clean left may =
     (kept_in after_it (content_of c.change_both.new.lists)) c.tables_have_one_content.ensures
     (keeps_after before lists c.args.change c.args.prepared.now.moves c.requires.fits c.requires.sound
     c.requires.moves c.tables_tell_sets.ensures after_it (content_of c.change_both.new.lists) c.in-Ok.ensures.lists
-    (c.in-Ok.ensures.done clean (own_jobs before lists c.args.change c.args.prepared.now.moves c.requires.fits c.requires.sound c.requires.moves) (met_so before lists c.args.change c.args.prepared.now.moves c.requires.fits c.requires.sound c.requires.moves calm (h calm))) (c.requires.sound (calm, (h calm).stored.is_open))).stored may)
+    (h calm).part (c.requires.knows (calm, (h calm).stored.is_open)) (c.requires.fits (calm, (h calm).stored.is_open))
+    (c.in-Ok.ensures.done clean (own_rest before lists c.args.change c.args.prepared.now.moves c.requires.fits c.requires.sound c.requires.moves) (met_so before lists c.args.change c.args.prepared.now.moves c.requires.fits c.requires.sound c.requires.moves calm (h calm))) (c.requires.sound (calm, (h calm).stored.is_open))).stored may)
 
 pub returns-in-Err-Device-clause-caused : goal.returns-in-Err-Device-clause-caused
 returns-in-Err-Device-clause-caused g c clean can is =
@@ -286,7 +288,7 @@ returns-in-Err-Device-clause-caused g c clean can is =
     let after_it = state g.S.Store c.change_both.new.conn in
     let kept = kept_sure old.in_doubt old.failures c.requires.sure c.requires.whole old.stored in
     let calm : HasCleanDisk before = omega (arith, c.change_both.ensures.crash.clean, clean) in
-    ∥∥₁_map kept (λ h. c.in-Err-Device.ensures.blames clean (own_jobs before lists c.args.change c.args.prepared.now.moves c.requires.fits c.requires.sound c.requires.moves) (met_so before lists c.args.change c.args.prepared.now.moves c.requires.fits c.requires.sound c.requires.moves calm (h calm)) can c.in-Err-Device.field-0-is)
+    ∥∥₁_map kept (λ h. c.in-Err-Device.ensures.blames clean (own_rest before lists c.args.change c.args.prepared.now.moves c.requires.fits c.requires.sound c.requires.moves) (met_so before lists c.args.change c.args.prepared.now.moves c.requires.fits c.requires.sound c.requires.moves calm (h calm)) can c.in-Err-Device.field-0-is)
 
 pub returns-in-Err-Device-clause-taken : goal.returns-in-Err-Device-clause-taken
 returns-in-Err-Device-clause-taken g c clean room is =
@@ -299,7 +301,7 @@ returns-in-Err-Device-clause-taken g c clean room is =
     ∥∥₁_map kept (λ h.
     let k = h calm in
     let can : CanRead before = (calm, k.stored.is_open) in
-    c.in-Err-Device.ensures.blames clean (own_jobs before lists c.args.change c.args.prepared.now.moves c.requires.fits c.requires.sound c.requires.moves) (met_so before lists c.args.change c.args.prepared.now.moves c.requires.fits c.requires.sound c.requires.moves calm k) (room_takes c.fitting_changes_are_taken.ensures before
+    c.in-Err-Device.ensures.blames clean (own_rest before lists c.args.change c.args.prepared.now.moves c.requires.fits c.requires.sound c.requires.moves) (met_so before lists c.args.change c.args.prepared.now.moves c.requires.fits c.requires.sound c.requires.moves calm k) (room_takes c.fitting_changes_are_taken.ensures before
     (kept_in before lists) c.args.change k.stored (c.requires.fits can) (c.requires.sound can)
     c.change_is_tellable.ensures c.added_rise.ensures room) c.in-Err-Device.field-0-is)
 
@@ -311,7 +313,7 @@ returns-in-Ok-clause-schema g c clean =
     let after_it = state g.S.Store c.change_both.new.conn in
     let kept = kept_sure old.in_doubt old.failures c.requires.sure c.requires.whole old.stored in
     let calm : HasCleanDisk before = omega (arith, c.change_both.ensures.crash.clean, clean) in
-    ∥∥₁_map kept (λ h. c.in-Ok.ensures.schema clean (own_jobs before lists c.args.change c.args.prepared.now.moves c.requires.fits c.requires.sound c.requires.moves) (met_so before lists c.args.change c.args.prepared.now.moves c.requires.fits c.requires.sound c.requires.moves calm (h calm)))
+    ∥∥₁_map kept (λ h. c.in-Ok.ensures.schema clean (own_rest before lists c.args.change c.args.prepared.now.moves c.requires.fits c.requires.sound c.requires.moves) (met_so before lists c.args.change c.args.prepared.now.moves c.requires.fits c.requires.sound c.requires.moves calm (h calm)))
 
 pub returns-in-Err-Memory-clause-schema : goal.returns-in-Err-Memory-clause-schema
 returns-in-Err-Memory-clause-schema g c is clean opens =
@@ -322,7 +324,7 @@ returns-in-Err-Memory-clause-schema g c is clean opens =
     let kept = kept_sure old.in_doubt old.failures c.requires.sure c.requires.whole old.stored in
     let calm : HasCleanDisk before = omega (arith, c.change_both.ensures.crash.clean, clean) in
     ∥∥₁_map kept (λ h. ap (λ (db : Database). db.schema)
-    (c.in-Err-Memory.ensures.undone clean (own_jobs before lists c.args.change c.args.prepared.now.moves c.requires.fits c.requires.sound c.requires.moves) (met_so before lists c.args.change c.args.prepared.now.moves c.requires.fits c.requires.sound c.requires.moves calm (h calm)) opens).0)
+    (c.in-Err-Memory.ensures.undone clean (own_rest before lists c.args.change c.args.prepared.now.moves c.requires.fits c.requires.sound c.requires.moves) (met_so before lists c.args.change c.args.prepared.now.moves c.requires.fits c.requires.sound c.requires.moves calm (h calm)) opens).0)
 
 pub returns-in-Err-Doubt-clause-schema : goal.returns-in-Err-Doubt-clause-schema
 returns-in-Err-Doubt-clause-schema g c is clean opens =
@@ -333,7 +335,7 @@ returns-in-Err-Doubt-clause-schema g c is clean opens =
     let kept = kept_sure old.in_doubt old.failures c.requires.sure c.requires.whole old.stored in
     let calm : HasCleanDisk before = omega (arith, c.change_both.ensures.crash.clean, clean) in
     ∥∥₁_map kept (λ h. ap (λ (db : Database). db.schema)
-    (c.in-Err-Doubt.ensures.undone clean (own_jobs before lists c.args.change c.args.prepared.now.moves c.requires.fits c.requires.sound c.requires.moves) (met_so before lists c.args.change c.args.prepared.now.moves c.requires.fits c.requires.sound c.requires.moves calm (h calm)) opens).0)
+    (c.in-Err-Doubt.ensures.undone clean (own_rest before lists c.args.change c.args.prepared.now.moves c.requires.fits c.requires.sound c.requires.moves) (met_so before lists c.args.change c.args.prepared.now.moves c.requires.fits c.requires.sound c.requires.moves calm (h calm)) opens).0)
 
 pub change_both-requires-clause-storable : goal.change_both-requires-clause-storable
 change_both-requires-clause-storable g c =

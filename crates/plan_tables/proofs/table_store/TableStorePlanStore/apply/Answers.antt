@@ -1,9 +1,10 @@
 use Rattle.std.proofs.Common.{◌≡◌, ◌⊎◌, ◌∙◌, ℕ, ◌<◌, ◌≤◌, Err, Ok, Result, ap, arith, inl, inr, refl, subst, sym}
-use Rattle.std.proofs.Math.Logic.{∥∥₁_map}
-use Rattle.std.specs.Prelude.{IfErr, IsErrAnd, IsTrue, OnErr, OnOk}
+use Rattle.std.proofs.Math.Logic.{∥∥₁_elim, ∥∥₁_map}
+use Rattle.std.specs.Prelude.{IfErr, IsErrAnd, OnErr, OnOk}
 use Rattle.sqlite.specs.Effect.{Database}
 use Rattle.sqlite.specs.Held.{Held, state}
-use Rattle.sqlite.specs.State.{HasCleanDisk, Survives}
+use Rattle.sqlite.specs.State.{HasCleanDisk, State}
+use Rattle.sqlite.specs.Store.{Ghosts}
 use Rattle.planner_machine.specs.Content.{Content}
 use Rattle.planner_machine.specs.Sound.{IsSound}
 use Rattle.plan_store.specs.Changes.{Fits, after}
@@ -14,12 +15,17 @@ use Rattle.plan_store.specs.declared.changes.Change.{Change}
 use Rattle.plan_store.specs.declared.stores.StoreFault.{StoreFault}
 use Rattle.plan_store.specs.declared.stores.StoreFault.TheVariants.{Device}
 use Rattle.plan_store.specs.declared.contents.Content.{Content as Kept}
-use Rattle.plan_tables.specs.Kept.{LooksOn, kept_in}
+use Rattle.plan_parts.specs.Changes.{KnowsNamed}
+use Rattle.table_schema.specs.Rows.{tables_of}
+use Rattle.fact_gathering.specs.Gathering.{told_rest}
+use Rattle.plan_tables.specs.Causes.{CountsOn}
+use Rattle.plan_tables.specs.Kept.{CanRead, LooksOn, kept_in}
 use Rattle.plan_tables.specs.Stored.{MayLeave}
+use Rattle.plan_tables.specs.Taken.{KeepsSchema}
 use Rattle.plan_tables.specs.declared.table_store.TableStore.{TableStore}
-use Rattle.plan_tables.proofs.CauseLemmas.{can_still, caused_since, never_told, room_still, told_kept, told_shut}
-use Rattle.plan_tables.proofs.LookLemmas.{looks_listed, mild_open, no_mild}
-use Rattle.plan_tables.proofs.StoredLemmas.{kept_still, settled_so}
+use Rattle.plan_tables.proofs.CauseLemmas.{can_still, caused_since, merely_err, never_told, room_still, told_kept}
+use Rattle.plan_tables.proofs.LookLemmas.{looks_read, mild_open}
+use Rattle.plan_tables.proofs.StoredLemmas.{settled_so}
 use Rattle.plan_tables.proofs.table_store.TableStorePlanStore.apply.Goals as goal
 
 module _ {S : Type 0} {is_honest : S → Type 0} {content : S → Content} {failures : S → ℕ}
@@ -88,43 +94,74 @@ module _ {S : Type 0} {is_honest : S → Type 0} {content : S → Content} {fail
     stays_whole = tt;
   }
 
+-- a store that is ready and admits a change is the one that it was
+module _ {S : Type 0} (G : Ghosts S) where
+  ready_same : (old : State) (ready mid : TableStore S G) → mid ≡ ready
+      → (HasCleanDisk (state G ready.conn) → ∥ (state G ready.conn).now ≡ old.now ∥₁) → HasCleanDisk (state G mid.conn)
+      → ∥ (state G mid.conn).now ≡ old.now ∥₁
+  ready_same old ready mid is same = subst (λ (m : TableStore S G). HasCleanDisk (state G m.conn)
+      → ∥ (state G m.conn).now ≡ old.now ∥₁) (sym is) same
+
+  ready_kept : (before ready mid : TableStore S G) → mid ≡ ready
+      → (CanRead (state G ready.conn) → kept_in (state G ready.conn) (content_of ready.lists)
+      ≡ kept_in (state G before.conn) (content_of before.lists)) → CanRead (state G mid.conn)
+      → kept_in (state G mid.conn) (content_of mid.lists) ≡ kept_in (state G before.conn) (content_of before.lists)
+  ready_kept before ready mid is same = subst (λ (m : TableStore S G). CanRead (state G m.conn)
+      → kept_in (state G m.conn) (content_of m.lists) ≡ kept_in (state G before.conn) (content_of before.lists))
+      (sym is) same
+
+  admit_looks : (before ready now : TableStore S G) → now.conn ≡ ready.conn → now.lists ≡ ready.lists
+      → LooksOn (state G before.conn) (state G ready.conn) (content_of before.lists) (content_of ready.lists)
+      → LooksOn (state G before.conn) (state G now.conn) (content_of before.lists) (content_of now.lists)
+  admit_looks before ready now conn lists looks = subst (λ (held : Held S). LooksOn (state G before.conn) (state G held)
+      (content_of before.lists) (content_of now.lists)) (sym conn)
+      (subst (λ (l : Kept). LooksOn (state G before.conn) (state G ready.conn) (content_of before.lists) (content_of l))
+      (sym lists) looks)
+
+-- what is told of an error is told of the one that is made of it
+told_so : {T X : Type 0} (r : Result T StoreFault) (e : StoreFault) → IsErrAnd r (λ told. told ≡ e)
+    → (e ≡ Device → X) → IfErr r (λ fault. fault ≡ Device → X)
+told_so (Ok v) e is h = tt
+told_so (Err told) e is h = λ device. h (sym is ∙ device)
+
+schema_merely : {T : Type 0} (r : Result T StoreFault) (old mid new : State)
+    → (HasCleanDisk new → ∥ mid.now ≡ old.now ∥₁) → KeepsSchema mid new r → KeepsSchema old new r
+schema_merely (Ok v) old mid new same kept = λ clean. ∥∥₁_elim (same clean) squash₁ (λ is.
+    subst (λ (db : Database). ∥ new.now.schema ≡ db.schema ∥₁) is (kept clean))
+schema_merely (Err e) old mid new same kept = λ memory clean opens. ∥∥₁_elim (same clean) squash₁ (λ is.
+    subst (λ (db : Database). ∥ new.now.schema ≡ db.schema ∥₁) is (kept memory clean opens))
+
 pub admit-requires-clause-fits : goal.admit-requires-clause-fits
 admit-requires-clause-fits g c can =
-    let before = c.args.self.now in
-    let mid = c.make_sure.new.self in
-    let looks = c.make_sure.ensures.looks in
-    subst (Fits c.args.change) (sym (looks_listed (state g.S.Store before.conn) (state g.S.Store mid.conn) before.lists
-    mid.lists looks c.make_sure.ensures.lists can))
-    (c.requires.fits (looks.clean can.0, looks.opens can.0 can.1))
+    let reads = c.make_ready.ensures.reads in
+    subst (Fits c.args.change) (sym (reads.same can)) (c.requires.fits (reads.honest can))
 
 pub admit-requires-clause-sound : goal.admit-requires-clause-sound
 admit-requires-clause-sound g c can =
-    let before = c.args.self.now in
-    let mid = c.make_sure.new.self in
-    let looks = c.make_sure.ensures.looks in
-    subst (λ (k : Content). IsSound (after c.args.change k)) (sym (looks_listed (state g.S.Store before.conn)
-    (state g.S.Store mid.conn) before.lists mid.lists looks c.make_sure.ensures.lists can))
-    (c.requires.sound (looks.clean can.0, looks.opens can.0 can.1))
+    let reads = c.make_ready.ensures.reads in
+    subst (λ (k : Content). IsSound (after c.args.change k)) (sym (reads.same can))
+    (c.requires.sound (reads.honest can))
+
+pub admit-requires-clause-knows : goal.admit-requires-clause-knows
+admit-requires-clause-knows g c can = c.in_ok-make_ready.ensures.reads.right can
 
 pub change_so-requires-clause-fits : goal.change_so-requires-clause-fits
-change_so-requires-clause-fits g c can =
-    let before = c.args.self.now in
-    let mid = c.admit.new.self in
-    let looks = subst (λ (conn : Held _). LooksOn (state g.S.Store before.conn) (state g.S.Store conn)
-    (content_of before.lists)) (sym c.admit.ensures.conn) c.make_sure.ensures.looks in
-    subst (Fits c.args.change) (sym (looks_listed (state g.S.Store before.conn) (state g.S.Store mid.conn) before.lists
-    mid.lists looks (c.admit.ensures.lists ∙ c.make_sure.ensures.lists) can))
-    (c.requires.fits (looks.clean can.0, looks.opens can.0 can.1))
+change_so-requires-clause-fits g c = subst (λ (m : TableStore _ _). CanRead (state g.S.Store m.conn)
+    → Fits c.args.change (kept_in (state g.S.Store m.conn) (content_of m.lists))) (sym c.in_ok-admit.ensures.ok)
+    (λ can. let reads = c.make_ready.ensures.reads in
+    subst (Fits c.args.change) (sym (reads.same can)) (c.requires.fits (reads.honest can)))
 
 pub change_so-requires-clause-sound : goal.change_so-requires-clause-sound
-change_so-requires-clause-sound g c can =
-    let before = c.args.self.now in
-    let mid = c.admit.new.self in
-    let looks = subst (λ (conn : Held _). LooksOn (state g.S.Store before.conn) (state g.S.Store conn)
-    (content_of before.lists)) (sym c.admit.ensures.conn) c.make_sure.ensures.looks in
-    subst (λ (k : Content). IsSound (after c.args.change k)) (sym (looks_listed (state g.S.Store before.conn)
-    (state g.S.Store mid.conn) before.lists mid.lists looks (c.admit.ensures.lists ∙ c.make_sure.ensures.lists) can))
-    (c.requires.sound (looks.clean can.0, looks.opens can.0 can.1))
+change_so-requires-clause-sound g c = subst (λ (m : TableStore _ _). CanRead (state g.S.Store m.conn)
+    → IsSound (after c.args.change (kept_in (state g.S.Store m.conn) (content_of m.lists))))
+    (sym c.in_ok-admit.ensures.ok) (λ can. let reads = c.make_ready.ensures.reads in
+    subst (λ (k : Content). IsSound (after c.args.change k)) (sym (reads.same can))
+    (c.requires.sound (reads.honest can)))
+
+pub change_so-requires-clause-knows : goal.change_so-requires-clause-knows
+change_so-requires-clause-knows g c = subst (λ (m : TableStore _ _). CanRead (state g.S.Store m.conn)
+    → KnowsNamed (told_rest (tables_of (state g.S.Store m.conn).now.trees)) c.args.change (content_of m.lists))
+    (sym c.in_ok-admit.ensures.ok) c.in_ok-make_ready.ensures.reads.right
 
 pub returns-clause-applies : goal.returns-clause-applies
 returns-clause-applies g c =
@@ -133,15 +170,17 @@ returns-clause-applies g c =
     let now = c.change_so.new.self in
     let result = c.change_so.result in
     let did = c.change_so.ensures in
-    let looks = subst (λ (conn : Held _). LooksOn (state g.S.Store before.conn) (state g.S.Store conn)
-    (content_of before.lists)) (sym c.admit.ensures.conn) c.make_sure.ensures.looks in
+    let reads = c.make_ready.ensures.reads in
+    let looks = subst (λ (m : TableStore _ _). LooksOn (state g.S.Store before.conn) (state g.S.Store m.conn)
+    (content_of before.lists) (content_of m.lists)) (sym c.in_ok-admit.ensures.ok)
+    (looks_read (state g.S.Store before.conn) (state g.S.Store c.make_ready.new.self.conn) (content_of before.lists)
+    (content_of c.make_ready.new.self.lists) reads.same reads.crash reads.honest reads.clean) in
     let none : before.failures ≡ 0 = c.in_ok-prepared.ensures.whole in
     let still : mid.failures ≡ before.failures = ap (λ (s : TableStore _ _). s.failures) c.in_ok-admit.ensures.ok
-    ∙ c.in_ok-make_sure.ensures.whole ∙ sym none in
+    ∙ c.in_ok-make_ready.ensures.whole ∙ sym none in
     let met : HasCleanDisk (state g.S.Store now.conn) → kept_in (state g.S.Store mid.conn) (content_of mid.lists)
     ≡ kept_in (state g.S.Store before.conn) (content_of before.lists)
-    = λ clean. looks_listed (state g.S.Store before.conn) (state g.S.Store mid.conn) before.lists mid.lists looks
-    (c.admit.ensures.lists ∙ c.make_sure.ensures.lists) (did.honest clean, did.was_open clean) in
+    = λ clean. looks.same (did.honest clean, did.was_open clean) in
     written before now c.args.change result
     (λ honest. subst (λ (k : Content). OnOk result (kept_in (state g.S.Store now.conn) (content_of now.lists)
     ≡ after c.args.change k)) (met honest.0) (did.done honest.0))
@@ -168,35 +207,37 @@ pub returns-clause-caused : goal.returns-clause-caused
 returns-clause-caused g c none clean can =
     let before = c.args.self.now in
     let old = state g.S.Store before.conn in
+    let mid = c.admit.new.self in
     let calm = c.change_so.ensures.honest clean in
-    let same : (state g.S.Store c.admit.new.self.conn).now ≡ old.now
-    = ap (λ (conn : Held _). (state g.S.Store conn).now) c.admit.ensures.conn
-    ∙ c.in_ok-make_sure.ensures.same (subst (λ (conn : Held _). HasCleanDisk (state g.S.Store conn))
-    c.admit.ensures.conn calm) in
-    caused_since c.change_so.result old (state g.S.Store c.admit.new.self.conn)
-    (state g.S.Store c.change_so.new.self.conn)
-    (subst (λ (conn : Held _). Survives old (state g.S.Store conn) (λ _. ⊥)) (sym c.admit.ensures.conn)
-    c.make_sure.ensures.survives)
-    (c.change_so.ensures.caused clean (can_still old (state g.S.Store c.admit.new.self.conn)
-    (kept_in old (content_of before.lists))
-    (kept_in (state g.S.Store c.admit.new.self.conn) (content_of c.admit.new.self.lists)) c.args.change same
-    (ap (λ (l : Kept). kept_in (state g.S.Store c.admit.new.self.conn) (content_of l))
-    (c.admit.ensures.lists ∙ c.make_sure.ensures.lists)
-    ∙ kept_still old (state g.S.Store c.admit.new.self.conn) (content_of before.lists) same) can))
+    merely_err _ c.change_so.result (∥∥₁_map (ready_same g.S.Store old c.make_ready.new.self mid
+    c.in_ok-admit.ensures.ok c.in_ok-make_ready.ensures.same calm) (λ same.
+    caused_since c.change_so.result old (state g.S.Store mid.conn) (state g.S.Store c.change_so.new.self.conn)
+    (subst (λ (m : TableStore _ _). CountsOn old (state g.S.Store m.conn)) (sym c.in_ok-admit.ensures.ok)
+    c.make_ready.ensures.counted)
+    (c.change_so.ensures.caused clean (can_still old (state g.S.Store mid.conn)
+    (kept_in old (content_of before.lists)) (kept_in (state g.S.Store mid.conn) (content_of mid.lists)) c.args.change
+    same (ready_kept g.S.Store before c.make_ready.new.self mid c.in_ok-admit.ensures.ok c.make_ready.ensures.reads.same
+    (calm, c.change_so.ensures.was_open clean)) can))))
 
 pub returns-clause-taken : goal.returns-clause-taken
 returns-clause-taken g c none clean room =
     let old = state g.S.Store c.args.self.now.conn in
+    let mid = c.admit.new.self in
     let calm = c.change_so.ensures.honest clean in
-    let same : (state g.S.Store c.admit.new.self.conn).now ≡ old.now
-    = ap (λ (conn : Held _). (state g.S.Store conn).now) c.admit.ensures.conn
-    ∙ c.in_ok-make_sure.ensures.same (subst (λ (conn : Held _). HasCleanDisk (state g.S.Store conn))
-    c.admit.ensures.conn calm) in
-    caused_since c.change_so.result old (state g.S.Store c.admit.new.self.conn)
-    (state g.S.Store c.change_so.new.self.conn)
-    (subst (λ (conn : Held _). Survives old (state g.S.Store conn) (λ _. ⊥)) (sym c.admit.ensures.conn)
-    c.make_sure.ensures.survives)
-    (c.change_so.ensures.taken clean (room_still old (state g.S.Store c.admit.new.self.conn) c.args.change same room))
+    merely_err _ c.change_so.result (∥∥₁_map (ready_same g.S.Store old c.make_ready.new.self mid
+    c.in_ok-admit.ensures.ok c.in_ok-make_ready.ensures.same calm) (λ same.
+    caused_since c.change_so.result old (state g.S.Store mid.conn) (state g.S.Store c.change_so.new.self.conn)
+    (subst (λ (m : TableStore _ _). CountsOn old (state g.S.Store m.conn)) (sym c.in_ok-admit.ensures.ok)
+    c.make_ready.ensures.counted)
+    (c.change_so.ensures.taken clean (room_still old (state g.S.Store mid.conn) c.args.change same room))))
+
+pub returns-clause-schema : goal.returns-clause-schema
+returns-clause-schema g c =
+    let old = state g.S.Store c.args.self.now.conn in
+    let mid = c.admit.new.self in
+    schema_merely c.change_so.result old (state g.S.Store mid.conn) (state g.S.Store c.change_so.new.self.conn)
+    (λ clean. ready_same g.S.Store old c.make_ready.new.self mid c.in_ok-admit.ensures.ok
+    c.in_ok-make_ready.ensures.same (c.change_so.ensures.honest clean)) c.change_so.ensures.schema
 
 pub returns-in_err-prepared-clause-applies : goal.returns-in_err-prepared-clause-applies
 returns-in_err-prepared-clause-applies g c =
@@ -207,33 +248,26 @@ returns-in_err-prepared-clause-applies g c =
     (λ some. let h = c.in_err-prepared.ensures.broken some in cc h)
     (omega arith) (λ honest. honest) (λ clean. clean) (λ was clean mild. was)
 
-pub returns-in_err-make_sure-clause-applies : goal.returns-in_err-make_sure-clause-applies
-returns-in_err-make_sure-clause-applies g c =
+pub returns-in_err-make_ready-clause-applies : goal.returns-in_err-make_ready-clause-applies
+returns-in_err-make_ready-clause-applies g c =
     let before = c.args.self.now in
-    let now = c.make_sure.new.self in
-    let asked = c.make_sure.ensures in
-    let fault = c.in_err-make_sure.field-0.0 in
+    let now = c.make_ready.new.self in
+    let reads = c.in_err-make_ready.ensures.reads in
     let none : before.failures ≡ 0 = c.in_ok-prepared.ensures.whole in
-    unwritten before now c.args.change c.from_residual-in_err-make_sure.result fault
-    c.from_residual-in_err-make_sure.ensures.1
-    (looks_listed (state g.S.Store before.conn) (state g.S.Store now.conn) before.lists now.lists asked.looks asked.lists)
-    asked.looks.crash
-    (λ device. inl (c.in_err-make_sure.ensures.blames device))
+    unwritten before now c.args.change c.from_residual-in_err-make_ready.result c.in_err-make_ready.field-0.0
+    c.from_residual-in_err-make_ready.ensures.1 reads.same reads.crash reads.blames
     (λ some. absurd (let h : ⊥ = omega (arith, none, some) in h))
-    asked.counts (λ honest. (asked.looks.clean honest.0, asked.looks.opens honest.0 honest.1)) asked.looks.clean
-    (λ was clean mild. absurd (no_mild fault now.in_doubt (now.failures ≡ 0) c.in_err-make_sure.ensures.doubt mild))
+    reads.counts reads.honest reads.clean reads.stays_honest
 
-pub returns-in_err-make_sure-clause-caused : goal.returns-in_err-make_sure-clause-caused
-returns-in_err-make_sure-clause-caused g c none clean can =
-    told_shut c.from_residual-in_err-make_sure.result c.in_err-make_sure.field-0.0
-    (state g.S.Store c.args.self.now.conn) (state g.S.Store c.make_sure.new.self.conn)
-    c.from_residual-in_err-make_sure.ensures.1 (c.in_err-make_sure.ensures.shut clean)
+pub returns-in_err-make_ready-clause-caused : goal.returns-in_err-make_ready-clause-caused
+returns-in_err-make_ready-clause-caused g c none clean can =
+    told_so c.from_residual-in_err-make_ready.result c.in_err-make_ready.field-0.0
+    c.from_residual-in_err-make_ready.ensures.1 (c.in_err-make_ready.ensures.caused clean)
 
-pub returns-in_err-make_sure-clause-taken : goal.returns-in_err-make_sure-clause-taken
-returns-in_err-make_sure-clause-taken g c none clean room =
-    told_shut c.from_residual-in_err-make_sure.result c.in_err-make_sure.field-0.0
-    (state g.S.Store c.args.self.now.conn) (state g.S.Store c.make_sure.new.self.conn)
-    c.from_residual-in_err-make_sure.ensures.1 (c.in_err-make_sure.ensures.shut clean)
+pub returns-in_err-make_ready-clause-taken : goal.returns-in_err-make_ready-clause-taken
+returns-in_err-make_ready-clause-taken g c none clean room =
+    told_so c.from_residual-in_err-make_ready.result c.in_err-make_ready.field-0.0
+    c.from_residual-in_err-make_ready.ensures.1 (c.in_err-make_ready.ensures.caused clean)
 
 pub returns-in_err-prepared-clause-schema : goal.returns-in_err-prepared-clause-schema
 returns-in_err-prepared-clause-schema g c =
@@ -241,37 +275,33 @@ returns-in_err-prepared-clause-schema g c =
     told_kept c.from_residual.result c.in_err-prepared.field-0.0 old old c.from_residual.ensures.1
     (λ _ _ _. ∣ refl ∣₁)
 
-pub returns-in_err-make_sure-clause-schema : goal.returns-in_err-make_sure-clause-schema
-returns-in_err-make_sure-clause-schema g c =
-    told_kept c.from_residual-in_err-make_sure.result c.in_err-make_sure.field-0.0
-    (state g.S.Store c.args.self.now.conn) (state g.S.Store c.make_sure.new.self.conn)
-    c.from_residual-in_err-make_sure.ensures.1 (λ memory clean opens.
-    ∥∥₁_map (c.in_err-make_sure.ensures.unknown clean opens memory) (ap (λ (db : Database). db.schema)))
+pub returns-in_err-make_ready-clause-schema : goal.returns-in_err-make_ready-clause-schema
+returns-in_err-make_ready-clause-schema g c =
+    told_kept c.from_residual-in_err-make_ready.result c.in_err-make_ready.field-0.0
+    (state g.S.Store c.args.self.now.conn) (state g.S.Store c.make_ready.new.self.conn)
+    c.from_residual-in_err-make_ready.ensures.1 c.in_err-make_ready.ensures.schema
 
 pub returns-in_err-admit-clause-applies : goal.returns-in_err-admit-clause-applies
 returns-in_err-admit-clause-applies g c =
     let before = c.args.self.now in
+    let ready = c.make_ready.new.self in
     let now = c.admit.new.self in
     let fault = c.in_err-admit.field-0.0 in
-    let looks = subst (λ (conn : Held _). LooksOn (state g.S.Store before.conn) (state g.S.Store conn)
-    (content_of before.lists)) (sym c.admit.ensures.conn) c.make_sure.ensures.looks in
+    let reads = c.in_ok-make_ready.ensures.reads in
+    let looks = admit_looks g.S.Store before ready now c.admit.ensures.conn c.admit.ensures.lists
+    (looks_read (state g.S.Store before.conn) (state g.S.Store ready.conn) (content_of before.lists)
+    (content_of ready.lists) reads.same reads.crash reads.honest reads.clean) in
     let none : before.failures ≡ 0 = c.in_ok-prepared.ensures.whole in
-    let mid_none : c.make_sure.new.self.failures ≡ 0 = c.in_ok-make_sure.ensures.whole in
     unwritten before now c.args.change c.from_residual-in_err-admit.result fault
-    c.from_residual-in_err-admit.ensures.1
-    (looks_listed (state g.S.Store before.conn) (state g.S.Store now.conn) before.lists now.lists looks
-    (c.admit.ensures.lists ∙ c.make_sure.ensures.lists))
-    looks.crash
-    (λ device. inl (subst (λ n. MoreFailures n now.failures) (mid_none ∙ sym none) (c.in_err-admit.ensures.blames device)))
+    c.from_residual-in_err-admit.ensures.1 looks.same looks.crash
+    (λ device. inl (subst (λ n. MoreFailures n now.failures) (c.in_ok-make_ready.ensures.whole ∙ sym none)
+    (c.in_err-admit.ensures.blames device)))
     (λ some. absurd (let h : ⊥ = omega (arith, none, some) in h))
     (omega (arith, none))
     (λ honest. (looks.clean honest.0, looks.opens honest.0 honest.1)) looks.clean
-    (λ was clean mild. (
-      clean,
-      subst (λ (conn : Held _). IsTrue (state g.S.Store conn).is_open)
-          (sym c.admit.ensures.conn) (c.in_ok-make_sure.ensures.still (subst (λ (conn : Held _).
-          HasCleanDisk (state g.S.Store conn)) c.admit.ensures.conn clean) was.1),
-    ))
+    (λ was clean mild. subst (λ (conn : Held _). CanRead (state g.S.Store conn)) (sym c.admit.ensures.conn)
+    (reads.stays_honest was (subst (λ (conn : Held _). HasCleanDisk (state g.S.Store conn)) c.admit.ensures.conn clean)
+    tt))
 
 pub returns-in_err-admit-clause-caused : goal.returns-in_err-admit-clause-caused
 returns-in_err-admit-clause-caused g c none clean can =
@@ -287,9 +317,9 @@ returns-in_err-admit-clause-taken g c none clean room =
 
 pub returns-in_err-admit-clause-schema : goal.returns-in_err-admit-clause-schema
 returns-in_err-admit-clause-schema g c =
-    let old = state g.S.Store c.args.self.now.conn in
-    told_kept c.from_residual-in_err-admit.result c.in_err-admit.field-0.0 old
+    told_kept c.from_residual-in_err-admit.result c.in_err-admit.field-0.0 (state g.S.Store c.args.self.now.conn)
     (state g.S.Store c.admit.new.self.conn) c.from_residual-in_err-admit.ensures.1 (λ memory clean opens.
-    ∣ (ap (λ (conn : Held _). (state g.S.Store conn).now.schema) c.admit.ensures.conn
-    ∙ ap (λ (db : Database). db.schema) (c.in_ok-make_sure.ensures.same (subst (λ (conn : Held _).
-    HasCleanDisk (state g.S.Store conn)) c.admit.ensures.conn clean))) ∣₁)
+    subst (λ (conn : Held _). ∥ (state g.S.Store conn).now.schema
+    ≡ (state g.S.Store c.args.self.now.conn).now.schema ∥₁) (sym c.admit.ensures.conn)
+    (∥∥₁_map (c.in_ok-make_ready.ensures.same (subst (λ (conn : Held _). HasCleanDisk (state g.S.Store conn))
+    c.admit.ensures.conn clean)) (ap (λ (db : Database). db.schema))))

@@ -1,18 +1,19 @@
-use Rattle.std.proofs.Common.{◌∙◌, ap, arith, refl, subst, sym}
+use Rattle.std.proofs.Common.{◌≡◌, ◌∙◌, Err, Ok, ap, refl, subst, sym}
 use Rattle.std.proofs.Math.Logic.{∥∥₁_map}
 use Rattle.sqlite.specs.Held.{state}
 use Rattle.planner_machine.specs.Content.{Content}
 use Rattle.plan_store.specs.Contents.{content_of}
 use Rattle.plan_store.specs.Views.{Shows}
-use Rattle.table_schema.specs.Rows.{tables_of}
-use Rattle.table_facts.specs.ToldSets.{told_jobs}
+use Rattle.plan_store.specs.declared.stores.StoreFault.TheVariants.{Device}
 use Rattle.plan_tables.specs.Kept.{IsKept, kept_in}
+use Rattle.plan_tables.proofs.LookLemmas.{kept_sure}
+use Rattle.plan_tables.proofs.WindowLemmas.{window_kept}
 use Rattle.plan_tables.proofs.table_store.TableStorePlanStore.read_window.Goals as goal
 
 -- the lists have the content that they had
 pub invariant_of-self : goal.invariant_of-self
 invariant_of-self g c =
-    let old = c.args.self.now in
+    let old = c.make_ready.new.self in
     record {
       settled = old.settled;
       jobless = ap (λ (k : Content). k.jobs) c.fill_window.ensures.same ∙ old.jobless;
@@ -23,24 +24,27 @@ invariant_of-self g c =
 
 pub returns : goal.returns
 returns g c =
-    let old = c.args.self.now in
-    let s = state g.S.Store old.conn in (
+    let mid = c.make_ready.new.self in
+    let s = state g.S.Store mid.conn in
+    let reads = c.in_ok-make_ready.ensures.reads in (
       (
         refl,
         λ _. tt,
         record {
-          right = λ _. c.windows_hide_jobs.ensures c.args.need c.window.result (content_of old.lists)
-              (told_jobs (tables_of s.now.trees))
-              (subst (Shows c.args.need c.window.result) c.fill_window.ensures.same c.window.ensures);
-          same = λ _. ap (kept_in s) c.fill_window.ensures.same;
-          crash = λ c' may. may;
+          right = λ honest. subst (Shows c.args.need c.window.result) (reads.same honest)
+              (window_kept c.args.need c.window.result s (content_of mid.lists) (content_of c.fill_window.new.self)
+              c.fill_window.ensures.same c.window.ensures.shows c.window.ensures.parts
+              (∥∥₁_map (kept_sure mid.in_doubt mid.failures c.in_ok-make_ready.ensures.sure
+              c.in_ok-make_ready.ensures.whole mid.stored) (λ h. h honest.0)) (reads.right honest));
+          same = λ honest. ap (kept_in s) c.fill_window.ensures.same ∙ reads.same honest;
+          crash = reads.crash;
           blames = tt;
-          broken = λ some. absurd (let h : ⊥ = omega (arith, some, c.if-self-gt0.false) in h);
-          counts = omega arith;
-          honest = λ honest. honest;
-          clean = λ clean. clean;
-          stays_honest = λ honest clean mild. honest;
-          whole = λ whole. whole;
+          broken = λ some. absurd (let no : Ok tt ≡ Err Device = reads.broken some in let h : ⊥ = cc no in h);
+          counts = reads.counts;
+          honest = reads.honest;
+          clean = reads.clean;
+          stays_honest = λ was clean mild. reads.stays_honest was clean tt;
+          whole = reads.whole;
         },
       ),
       tt,

@@ -1,29 +1,43 @@
-use Rattle.std.proofs.Common.{refl, []}
+use Rattle.std.proofs.Common.{[], refl}
 use Rattle.std.specs.Prelude.{option_copied}
 use Rattle.sqlite.specs.Held.{state}
-use Rattle.plan_store.specs.Contents.{content_of}
 use Rattle.table_schema.specs.Rows.{tables_of}
-use Rattle.table_facts.specs.ToldSets.{told_jobs}
-use Rattle.plan_tables.proofs.HidingLemmas.{all_hides, part_hides}
+use Rattle.fact_gathering.specs.Gathering.{told_rest}
 use Rattle.plan_tables.proofs.table_store.TableStorePlanStore.rows_to.Goals as goal
 
 pub returns-then-self-gt0-clause-part : goal.returns-then-self-gt0-clause-part
-returns-then-self-gt0-clause-part g c numbered =
-    let (items, is) = c.has_listings.ensures numbered c.args.what (option_copied c.args.app) in
-    record {
-      done = [];
-      rest = items;
-      whole = c.listings_hide_jobs.ensures c.args.what (option_copied c.args.app) (content_of c.args.self.now.lists) _
-          items is;
-      ends = refl;
-    }
+returns-then-self-gt0-clause-part g c honest either numbered =
+    let (items, is) = c.has_listings_with.ensures
+    (told_rest (tables_of (state g.S.Store c.args.self.now.conn).now.trees)) numbered c.args.what
+    (option_copied c.args.app) in
+    record { done = []; rest = items; whole = is; ends = refl }
 
-pub returns-clause-all : goal.returns-clause-all
-returns-clause-all g c numbered =
-    all_hides _ g.K.RowSink.refuses c.args.what (option_copied c.args.app) (content_of c.args.self.now.lists)
-    (told_jobs (tables_of (state g.S.Store c.args.self.now.conn).now.trees)) _ _ _ (c.rows_to.ensures.all numbered)
+pub returns-in-Ltp-clause-all : goal.returns-in-Ltp-clause-all
+returns-in-Ltp-clause-all g c honest numbered =
+    rw c.in-Ltp.is (c.ltp_to.ensures.all (told_rest (tables_of (state g.S.Store c.args.self.now.conn).now.trees))
+    numbered)
 
-pub returns-clause-part : goal.returns-clause-part
-returns-clause-part g c numbered =
-    part_hides _ _ c.args.what (option_copied c.args.app) (content_of c.args.self.now.lists)
-    (told_jobs (tables_of (state g.S.Store c.args.self.now.conn).now.trees)) _ _ _ (c.rows_to.ensures.part numbered)
+pub returns-in-Ltp-clause-part : goal.returns-in-Ltp-clause-part
+returns-in-Ltp-clause-part g c honest either numbered =
+    rw c.in-Ltp.is (c.ltp_to.ensures.part (told_rest (tables_of (state g.S.Store c.args.self.now.conn).now.trees))
+    numbered)
+
+pub returns-in-Cp-clause-all : goal.returns-in-Cp-clause-all
+returns-in-Cp-clause-all g c honest numbered =
+    rw c.in-Cp.is (c.cp_to.ensures.all (told_rest (tables_of (state g.S.Store c.args.self.now.conn).now.trees))
+    numbered)
+
+pub returns-in-Cp-clause-part : goal.returns-in-Cp-clause-part
+returns-in-Cp-clause-part g c honest either numbered =
+    rw c.in-Cp.is (c.cp_to.ensures.part (told_rest (tables_of (state g.S.Store c.args.self.now.conn).now.trees))
+    numbered)
+
+pub returns-in-Links-clause-all : goal.returns-in-Links-clause-all
+returns-in-Links-clause-all g c honest numbered =
+    rw c.in-Links.is (c.links_to.ensures.all (told_rest (tables_of (state g.S.Store c.args.self.now.conn).now.trees))
+    numbered)
+
+pub returns-in-Links-clause-part : goal.returns-in-Links-clause-part
+returns-in-Links-clause-part g c honest either numbered =
+    rw c.in-Links.is (c.links_to.ensures.part (told_rest (tables_of (state g.S.Store c.args.self.now.conn).now.trees))
+    numbered)

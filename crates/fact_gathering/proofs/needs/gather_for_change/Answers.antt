@@ -1,0 +1,20 @@
+use Rattle.plan_store.specs.Contents.{content_of}
+use Rattle.plan_parts.specs.Changes.{KnowsNamed}
+use Rattle.fact_gathering.specs.Bringing.{KnowsAll}
+use Rattle.fact_gathering.proofs.GatherLemmas.{gathers_refused, gathers_so}
+use Rattle.fact_gathering.proofs.needs.gather_for_change.Goals as goal
+
+pub returns-in-Ok : goal.returns-in-Ok
+returns-in-Ok g c =
+    let unknown = c.in-Ok.unknown in
+    let was = content_of c.args.lists.now in
+    let now = content_of c.find_unknown.new.lists in
+    gathers_so g.S.Store c.args.conn.now c.find_unknown.new.conn was now c.find_unknown.result
+    (KnowsAll unknown.history.items unknown.deletions.items) (λ rest l. KnowsNamed rest c.args.change.now l)
+    (λ rest part sound more (known : KnowsAll unknown.history.items unknown.deletions.items rest now).
+    c.in-Ok.ensures.finds rest now more ∣ part ∣₁ sound known.history known.deletions)
+    c.find_unknown.ensures
+
+pub returns-in-Err : goal.returns-in-Err
+returns-in-Err g c = gathers_refused g.S.Store c.args.conn.now (content_of c.args.lists.now)
+    (λ rest l. KnowsNamed rest c.args.change.now l)

@@ -1,0 +1,10 @@
+//! What lists lack of history and of the deletions is looked up in the tables of a plan and brought into them: before
+//! a window is lent, and before a change is made.
+#![tactic(auto)]
+
+mod bringing;
+mod gathering;
+mod lasts;
+mod needs;
+
+pub use needs::{gather, gather_for_change};

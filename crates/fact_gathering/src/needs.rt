@@ -1,0 +1,131 @@
+// What a window for a need lacks, or a change, is brought into lists.
+
+ghost use Rattle.plan_store.specs.Asked.{AsksKey};
+ghost use Rattle.plan_store.specs.Contents.{content_of};
+ghost use Rattle.plan_parts.specs.Changes.{KnowsNamed};
+ghost use Rattle.plan_parts.specs.Windows.{HasBars, HasLastsOf, IsReadyFor, KnowsLive};
+ghost use Rattle.fact_gathering.specs.Bringing.{KnowsAll};
+ghost use Rattle.fact_gathering.specs.Gathering.{Gathers};
+
+use crate::gathering::{find_barring, find_each_completed, find_each_deleted};
+use crate::lasts::find_asked;
+use fact_lookups::LookupFault;
+use occurrences::Key;
+use plan_parts::{Unknown, unknown_for_key, unknown_of};
+use plan_store::{Change, Content, Need};
+use sqlite::{Alter, Connection};
+use std::alloc::{AllocError, Global};
+
+/// Brings into the lists what a window for the need asks of history and of the deletions.
+pub fn gather<S: Alter>(
+    alloc: Global,
+    conn: &mut Connection<S>,
+    lists: &mut Content,
+    need: &Need,
+) -> Result<(), LookupFault>
+    ensures { Gathers S.Store conn.old conn.new (content_of lists.old) (content_of lists.new)
+        result (λ rest now. IsReadyFor rest need.now now) }
+{
+    match need {
+        Need::Definitions => Ok(()),
+        Need::Key(key) => gather_for_key(alloc, conn, lists, key),
+        Need::LongTerm => gather_for_plan(alloc, conn, lists),
+        Need::Daily(_) => Ok(()),
+    }
+}
+
+// What a statement on the key asks.
+fn gather_for_key<S: Alter>(
+    alloc: Global,
+    conn: &mut Connection<S>,
+    lists: &mut Content,
+    key: &Key,
+) -> Result<(), LookupFault>
+    ensures { Gathers S.Store conn.old conn.new (content_of lists.old) (content_of lists.new)
+        result (λ rest now. IsReadyFor rest (Need.Key key.now) now) }
+{
+    match find_asked(alloc, conn, lists, &Need::Key(*key)) {
+        Ok(()) => find_live(alloc, conn, lists, key),
+        Err(fault) => Err(fault),
+    }
+}
+
+// Finds out the predecessors of the key's live row, where that stands in history and the lists have the last rows that
+// a statement on the key asks for.
+fn find_live<S: Alter>(
+    alloc: Global,
+    conn: &mut Connection<S>,
+    lists: &mut Content,
+    key: &Key,
+) -> Result<(), LookupFault>
+    ensures { Gathers S.Store conn.old conn.new (content_of lists.old) (content_of lists.new)
+        result (λ rest now. HasLastsOf (AsksKey (content_of lists.old) key.now) rest
+        (content_of lists.old) → KnowsLive rest key.now now) }
+{
+    match unknown_for_key(alloc, lists, key) {
+        Ok(serials) => find_each_completed(alloc, conn, lists, &serials),
+        Err(AllocError) => Err(LookupFault::Memory),
+    }
+}
+
+// What a statement on the long-term plan asks.
+fn gather_for_plan<S: Alter>(
+    alloc: Global,
+    conn: &mut Connection<S>,
+    lists: &mut Content,
+) -> Result<(), LookupFault>
+    ensures { Gathers S.Store conn.old conn.new (content_of lists.old) (content_of lists.new)
+        result (λ rest now. IsReadyFor rest Need.LongTerm now) }
+{
+    match find_bars(alloc, conn, lists) {
+        Ok(()) => find_asked(alloc, conn, lists, &Need::LongTerm),
+        Err(fault) => Err(fault),
+    }
+}
+
+// Finds out the deletions that keep a planning statement from making a key.
+fn find_bars<S: Alter>(
+    alloc: Global,
+    conn: &mut Connection<S>,
+    lists: &mut Content,
+) -> Result<(), LookupFault>
+    ensures { Gathers S.Store conn.old conn.new (content_of lists.old) (content_of lists.new)
+        result HasBars }
+{
+    match lists.bounds {
+        Some(bounds) => find_barring(alloc, conn, lists, bounds.plan_end),
+        None => Ok(()),
+    }
+}
+
+/// Brings into the lists what the change names of history and of the deletions.
+pub fn gather_for_change<S: Alter>(
+    alloc: Global,
+    conn: &mut Connection<S>,
+    lists: &mut Content,
+    change: &Change,
+) -> Result<(), LookupFault>
+    ensures { Gathers S.Store conn.old conn.new (content_of lists.old) (content_of lists.new)
+        result (λ rest now. KnowsNamed rest change.now now) }
+{
+    match unknown_of(alloc, lists, change) {
+        Ok(unknown) => find_unknown(alloc, conn, lists, &unknown),
+        Err(AllocError) => Err(LookupFault::Memory),
+    }
+}
+
+// Finds out what stands in history and among the deletions under the serials.
+fn find_unknown<S: Alter>(
+    alloc: Global,
+    conn: &mut Connection<S>,
+    lists: &mut Content,
+    unknown: &Unknown,
+) -> Result<(), LookupFault>
+    ensures { Gathers S.Store conn.old conn.new (content_of lists.old) (content_of lists.new)
+        result (KnowsAll unknown.now.history.items unknown.now.deletions.items) }
+{
+    match find_each_completed(alloc, conn, lists, &unknown.history) {
+        Ok(()) => find_each_deleted(alloc, conn, lists, &unknown.deletions),
+        Err(fault) => Err(fault),
+    }
+}

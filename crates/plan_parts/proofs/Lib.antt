@@ -1,0 +1,7 @@
+mod AskLemmas
+pub mod ChangeLemmas
+pub mod PartLemmas
+mod SetLemmas
+pub mod SoundLemmas
+mod UnknownLemmas
+pub mod WindowLemmas

@@ -1,0 +1,4 @@
+pub mod Asks
+pub mod Changes
+pub mod Unknown
+pub mod Windows

@@ -1,0 +1,186 @@
+// What a window asks of history, as a list.
+
+ghost use Rattle.std.specs.Prelude.{[], ◌≡◌, ◌↔◌, ◌+◌, ℕ, Contains, IfOk, List, OnOk};
+ghost use Rattle.definition_records.specs.declared.predecessors.Predecessor.{Predecessor as PredecessorValue};
+ghost use Rattle.external_dependencies.specs.Link.{Lists};
+ghost use Rattle.external_dependencies.specs.declared.links.Link.{Link as LinkValue};
+ghost use Rattle.plan_parts.specs.Asks.{AddsAsks, IsAskedIn};
+ghost use Rattle.plan_parts.specs.declared.asks.Ask.{Ask as AskValue};
+ghost use Rattle.plan_store.specs.Asked.{AsksKey, AsksPlan, ListsDefined};
+ghost use Rattle.plan_store.specs.Contents.{content_of};
+ghost use Rattle.plan_store.specs.Noted.{AskedByOne, AsksEach, AsksEnd, AsksRow, IsAsked, IsDefined};
+ghost use Rattle.plan_store.specs.Views.{Asks};
+
+use app_definitions::{Definitions, Predecessor};
+use external_dependencies::{Link, Links};
+use occurrences::{CurrentRow, Key, Status};
+use plan_store::{Content, Need};
+use planner_machine::Bounds;
+use std::alloc::{AllocError, Global};
+use work_calendars::App;
+
+/// The last row of an application in history, at a moment or before it.
+#[derive(Clone, Copy, Debug, PartialEq, Eq, PartialOrd, Ord)]
+pub struct Ask {
+    /// The application.
+    pub app: App,
+    /// The moment, in minutes.
+    pub moment: u32,
+}
+
+/// What a window for the need asks of history.
+pub fn asks_of(alloc: Global, lists: &Content, need: &Need) -> Result<Vec<Ask>, AllocError>
+    ensures found { IfOk result (λ asks. (app : List ℕ) (minute : ℕ)
+        → Asks need.now (content_of lists.now) app minute → IsAskedIn asks.items app minute) }
+    ensures only { IfOk result (λ asks. (ask : AskValue) → Contains asks.items ask
+        → Asks need.now (content_of lists.now) ask.app (ask.moment + 1)) }
+{
+    match need {
+        Need::Key(key) => asks_of_key(alloc, lists, key),
+        Need::LongTerm => asks_of_plan(alloc, lists),
+        Need::Definitions | Need::Daily(_) => Ok(Vec::new(alloc)),
+    }
+}
+
+// What a statement on the key asks.
+fn asks_of_key(alloc: Global, lists: &Content, key: &Key) -> Result<Vec<Ask>, AllocError>
+    ensures { IfOk result (λ asks. AddsAsks (AsksKey (content_of lists.now) key.now) [] asks.items) }
+{
+    let mut asks = Vec::new(alloc);
+    let moment = key.ia.number();
+    add_ask(&mut asks, &key.app, moment)?;
+    add_list(&mut asks, &lists.in_force, &key.app, moment)?;
+    Ok(asks)
+}
+
+// What a statement on the long-term plan asks.
+fn asks_of_plan(alloc: Global, lists: &Content) -> Result<Vec<Ask>, AllocError>
+    ensures { IfOk result (λ asks. AddsAsks (AsksPlan (content_of lists.now)) [] asks.items) }
+{
+    let mut asks = Vec::new(alloc);
+    add_waiting(&mut asks, &lists.in_force, &lists.definitions, &lists.cp)?;
+    add_plan_end(&mut asks, &lists.in_force, &lists.definitions, lists.bounds)?;
+    put_in_order(&mut asks);
+    Ok(asks)
+}
+
+// Asks for the last row of the application at the moment or before it.
+fn add_ask(asks: &mut Vec<Ask>, app: &App, moment: u32) -> Result<(), AllocError>
+    ensures { OnOk result (AddsAsks (IsAsked app.now (moment + 1)) asks.old.items asks.new.items) }
+{
+    asks.push(Ask { app: *app, moment })?;
+    Ok(())
+}
+
+// Asks for the last row of each predecessor of the links.
+fn add_links(asks: &mut Vec<Ask>, links: &[Link], moment: u32) -> Result<(), AllocError>
+    ensures { OnOk result (AddsAsks
+        (AskedByOne (λ (link : LinkValue). IsAsked link.predecessor (moment + 1)) links.now)
+        asks.old.items asks.new.items) }
+{
+    for link in links {
+        add_ask(asks, &link.predecessor, moment)?;
+    }
+    Ok(())
+}
+
+// Asks for the last row of each application in the list of the application that is in force.
+fn add_list(asks: &mut Vec<Ask>, in_force: &Links, app: &App, moment: u32) -> Result<(), AllocError>
+    ensures { OnOk result (AddsAsks (AsksEach (Lists in_force.now app.now) (moment + 1))
+        asks.old.items asks.new.items) }
+{
+    add_links(asks, in_force.list(app), moment)
+}
+
+// Asks for the last row of each of the predecessors.
+fn add_named(asks: &mut Vec<Ask>, listed: &[Predecessor], moment: u32) -> Result<(), AllocError>
+    ensures { OnOk result (AddsAsks
+        (AskedByOne (λ (p : PredecessorValue). IsAsked p.name (moment + 1)) listed.now)
+        asks.old.items asks.new.items) }
+{
+    for predecessor in listed {
+        add_ask(asks, &predecessor.name, moment)?;
+    }
+    Ok(())
+}
+
+// Asks for the last row of each application in the list that is defined for the application.
+fn add_defined(
+    asks: &mut Vec<Ask>,
+    definitions: &Definitions,
+    app: &App,
+    moment: u32,
+) -> Result<(), AllocError>
+    ensures { OnOk result (AddsAsks (AsksEach (ListsDefined definitions.now app.now) (moment + 1))
+        asks.old.items asks.new.items) }
+{
+    match definitions.predecessors.get(app) {
+        Some(listed) => add_named(asks, listed.as_slice(), moment),
+        None => Ok(()),
+    }
+}
+
+// Asks for the last row of each application in a list that is defined.
+fn add_all_defined(
+    asks: &mut Vec<Ask>,
+    definitions: &Definitions,
+    moment: u32,
+) -> Result<(), AllocError>
+    ensures { OnOk result (AddsAsks (AsksEach (IsDefined definitions.now) (moment + 1))
+        asks.old.items asks.new.items) }
+{
+    for (_app, listed) in definitions.predecessors.iter() {
+        add_named(asks, listed.as_slice(), moment)?;
+    }
+    Ok(())
+}
+
+// Asks for those of the rows that wait, at the arrival of each, for the last row of each application in its lists, in
+// force and defined.
+fn add_waiting(
+    asks: &mut Vec<Ask>,
+    in_force: &Links,
+    definitions: &Definitions,
+    rows: &[CurrentRow],
+) -> Result<(), AllocError>
+    ensures { OnOk result (AddsAsks
+        (AskedByOne (AsksRow in_force.now definitions.now) rows.now)
+        asks.old.items asks.new.items) }
+{
+    for current in rows {
+        if current.status == Status::W {
+            let key = current.row.key;
+            let moment = key.ia.number();
+            add_list(asks, in_force, &key.app, moment)?;
+            add_defined(asks, definitions, &key.app, moment)?;
+        }
+    }
+    Ok(())
+}
+
+// Asks at the plan end for the last row of each application that a list names, in force or defined, if there is a plan.
+fn add_plan_end(
+    asks: &mut Vec<Ask>,
+    in_force: &Links,
+    definitions: &Definitions,
+    bounds: Option<Bounds>,
+) -> Result<(), AllocError>
+    ensures { OnOk result (AddsAsks (AsksEnd in_force.now definitions.now bounds)
+        asks.old.items asks.new.items) }
+{
+    let Some(bounds) = bounds else {
+        return Ok(());
+    };
+    let moment = bounds.plan_end.number();
+    add_links(asks, in_force.as_slice(), moment)?;
+    add_all_defined(asks, definitions, moment)?;
+    Ok(())
+}
+
+// Puts what is asked in order, each once.
+fn put_in_order(asks: &mut Vec<Ask>)
+    ensures { (ask : AskValue) → Contains asks.new.items ask ↔ Contains asks.old.items ask }
+{
+    asks.sort_unstable();
+    asks.dedup();
+}

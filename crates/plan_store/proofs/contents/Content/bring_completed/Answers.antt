@@ -1,0 +1,21 @@
+use Rattle.keyed_lists.specs.Rows.{of_current, of_deletion, of_row}
+use Rattle.keyed_lists.proofs.SeatLemmas.{seats_stay}
+use Rattle.plan_store.proofs.contents.Content.bring_completed.Goals as goal
+
+pub invariant_of-self : goal.invariant_of-self
+invariant_of-self c =
+    let kept = c.args.self.now in
+    let seats = c.bring.new.seats.items in
+    let stay = c.bring.ensures.stay in
+    record {
+      ltp_rows = kept.ltp_rows;
+      cp_rows = kept.cp_rows;
+      history_rows = c.bring.ensures.rows;
+      deletion_rows = kept.deletion_rows;
+      numbered_jobs = kept.numbered_jobs;
+      seat_order = c.bring.ensures.order;
+      ltp_seats = seats_stay of_row kept.ltp.items kept.seats.items seats kept.ltp_seats stay;
+      cp_seats = seats_stay of_current kept.cp.items kept.seats.items seats kept.cp_seats stay;
+      history_seats = c.bring.ensures.seated;
+      deletion_seats = seats_stay of_deletion kept.deletions.items kept.seats.items seats kept.deletion_seats stay;
+    }

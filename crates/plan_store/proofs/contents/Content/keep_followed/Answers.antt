@@ -1,0 +1,71 @@
+use Rattle.std.proofs.Common.{◌≡◌, ◌∙◌, List, ap, filter, subst, sym}
+use Rattle.occurrences.specs.declared.place.CurrentRow.{CurrentRow}
+use Rattle.occurrences.specs.declared.place.Deletion.{Deletion}
+use Rattle.occurrences.specs.declared.row.Row.{Row}
+use Rattle.keyed_lists.specs.Rows.{AreRows, look_up, of_current, of_deletion, of_row}
+use Rattle.keyed_lists.specs.Seats.{HasSeats}
+use Rattle.plan_store.specs.Contents.{content_of}
+use Rattle.plan_store.specs.Parts.{is_followed}
+use Rattle.plan_store.specs.declared.contents.Content.{Content as Kept}
+use Rattle.plan_store.proofs.PartLemmas.{look_passing}
+use Rattle.plan_store.proofs.ViewLemmas.{filter_rows, once_from_rows}
+use Rattle.plan_store.proofs.WindowLemmas.{no_rows, no_seats}
+use Rattle.plan_store.proofs.contents.Content.keep_followed.Goals as goal
+
+-- what stays of history
+stays : (kept : Kept) (rows : List Row)
+    → rows ≡ filter (λ (row : Row). is_followed (content_of kept) row.serial) kept.history.items → AreRows of_row rows
+stays kept rows is = subst (AreRows of_row) (sym is) (filter_rows of_row
+    (λ (row : Row). is_followed (content_of kept) row.serial) kept.history.items kept.history_rows)
+
+pub seats_for-requires-clause-ltp : goal.seats_for-requires-clause-ltp
+seats_for-requires-clause-ltp c =
+    let kept = c.args.self.now in
+    rw c.deref.ensures.value (once_from_rows of_row kept.ltp.items kept.ltp_rows)
+
+pub seats_for-requires-clause-cp : goal.seats_for-requires-clause-cp
+seats_for-requires-clause-cp c =
+    let kept = c.args.self.now in
+    rw c.deref-2.ensures.value (once_from_rows of_current kept.cp.items kept.cp_rows)
+
+pub seats_for-requires-clause-history : goal.seats_for-requires-clause-history
+seats_for-requires-clause-history c =
+    let rows = c.in_ok-history.history.items in
+    rw c.deref-3.ensures.value (once_from_rows of_row rows (stays c.args.self.now rows c.in_ok-history.ensures))
+
+pub invariant_of-self-2 : goal.invariant_of-self-2
+invariant_of-self-2 c =
+    let kept = c.args.self.now in
+    let seats = c.in_ok-seats.seats.items in
+    record {
+      ltp_rows = kept.ltp_rows;
+      cp_rows = kept.cp_rows;
+      history_rows = stays kept c.in_ok-history.history.items c.in_ok-history.ensures;
+      deletion_rows = subst (λ (l : List Deletion). AreRows of_deletion l) (sym c.new.ensures.items)
+          (no_rows of_deletion);
+      numbered_jobs = kept.numbered_jobs;
+      seat_order = c.in_ok-seats.ensures.order;
+      ltp_seats = rw c.deref.ensures.value at c.in_ok-seats.ensures.ltp;
+      cp_seats = rw c.deref-2.ensures.value at c.in_ok-seats.ensures.cp;
+      history_seats = rw c.deref-3.ensures.value at c.in_ok-seats.ensures.history;
+      deletion_seats = subst (λ (l : List Deletion). HasSeats of_deletion l seats) (sym c.new.ensures.items)
+          (no_seats of_deletion seats);
+    }
+
+pub returns-clause-ok : goal.returns-clause-ok
+returns-clause-ok c = λ i. record {
+  definitions = c.args.self.now.definitions;
+  sets = record {
+    bounds = c.args.self.now.bounds;
+    issued = c.args.self.now.issued;
+    ltp = look_up (λ (row : Row). row.serial) c.args.self.now.ltp.items;
+    cp = look_up (λ (current : CurrentRow). current.row.serial) c.args.self.now.cp.items;
+    history = λ serial. (ap (λ (rows : List Row). look_up (λ (row : Row). row.serial) rows serial)
+        c.in_ok-history.ensures ∙ look_passing (λ (row : Row). row.serial) (is_followed (content_of c.args.self.now))
+        c.args.self.now.history.items serial) i;
+    deletions = look_up (λ (deletion : Deletion). deletion.row.serial) (c.new.ensures.items i);
+  };
+  in_force = c.args.self.now.in_force;
+  pairs = c.args.self.now.pairs;
+  jobs = (content_of c.args.self.now).jobs;
+}

@@ -1,0 +1,23 @@
+use Rattle.std.proofs.Common.{refl}
+use Rattle.std.specs.Prelude.{option_copied}
+use Rattle.plan_store.specs.Contents.{content_of}
+use Rattle.plan_store.specs.Listings.{ShowLinks, in_force_shown}
+use Rattle.plan_store.specs.Parts.{with_rest}
+use Rattle.plan_store.proofs.ShownLemmas.{shown_all, shown_part}
+use Rattle.plan_store.proofs.contents.Content.links_to.Goals as goal
+
+pub returns-clause-all : goal.returns-clause-all
+returns-clause-all g c rest numbered =
+    let links = c.lists_of.result.now in
+    shown_all g.K.RowSink.takes g.K.RowSink.refuses c.args.sink.now c.hand_lists.new.sink in_force_shown links
+    (ShowLinks (option_copied c.args.app) (with_rest rest (content_of c.args.self.now)))
+    (links, record { rising = c.lists_of.ensures.rising; exactly = c.lists_of.ensures.all }, refl)
+    c.hand_lists.result c.hand_lists.ensures.all
+
+pub returns-clause-part : goal.returns-clause-part
+returns-clause-part g c rest numbered =
+    let links = c.lists_of.result.now in
+    shown_part g.K.RowSink.takes g.K.RowSink.refuses c.args.sink.now c.hand_lists.new.sink in_force_shown links
+    (ShowLinks (option_copied c.args.app) (with_rest rest (content_of c.args.self.now)))
+    (links, record { rising = c.lists_of.ensures.rising; exactly = c.lists_of.ensures.all }, refl)
+    c.hand_lists.result c.hand_lists.ensures.part

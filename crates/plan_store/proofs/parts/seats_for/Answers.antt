@@ -1,0 +1,13 @@
+use Rattle.keyed_lists.specs.Rows.{of_current, of_row}
+use Rattle.keyed_lists.proofs.SeatLemmas.{seats_stay}
+use Rattle.plan_store.proofs.parts.seats_for.Goals as goal
+
+pub returns-clause-ltp : goal.returns-clause-ltp
+returns-clause-ltp c =
+    seats_stay of_row c.args.ltp.now c.note_rows.new.seats.items c.note_rows-3.new.seats.items
+    c.in_ok-note_rows.ensures.noted (λ s there. c.note_rows-3.ensures.stay s (c.note_rows-2.ensures.stay s there))
+
+pub returns-clause-cp : goal.returns-clause-cp
+returns-clause-cp c =
+    seats_stay of_current c.args.cp.now c.note_rows-2.new.seats.items c.note_rows-3.new.seats.items
+    c.in_ok-note_rows-2.ensures.noted (λ s there. c.note_rows-3.ensures.stay s there)

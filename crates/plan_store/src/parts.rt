@@ -1,0 +1,242 @@
+// Lists that have a part of history and of the deletions, where these stand elsewhere: what of it they have, what is
+// brought into them, and what stays in them.
+
+ghost use Rattle.std.specs.Prelude.{◌≡◌, ◌↔◌, ◌⊎◌, ℕ, Contains, Some, IfOk, OnOk, OnErr, filter, map, is_some, nat_eq};
+ghost use Rattle.std.specs.List.{list_any};
+ghost use Rattle.std.specs.List.Sorted.{IsNonDecreasing};
+ghost use Rattle.std.specs.Mem.{FitsInMemory};
+ghost use Rattle.keyed_lists.specs.Rows.{AreRows, HasEachOnce, look_up, of_current, of_row};
+ghost use Rattle.keyed_lists.specs.Seats.{AreSeats, HasSeats};
+ghost use Rattle.keyed_lists.specs.declared.seats.Seat.{Seat as SeatValue};
+ghost use Rattle.plan_store.specs.Parts.{or_this};
+
+use crate::contents::Content;
+use crate::room::grow;
+use crate::slices::{of_key, of_serial};
+use keyed_lists::{PlanRow, Seat, insert_all, note_rows};
+use occurrences::{CurrentRow, Deletion, Key, Row, Serial};
+use std::alloc::{AllocError, Global};
+use std::slice::from_ref;
+
+// Whether a row of the serial stands in the list.
+fn has_serial<T: PlanRow>(list: &[T], seats: &[Seat], serial: Serial) -> bool
+    requires rows { AreRows T.row_of list.now }
+    requires order { AreSeats seats.now }
+    requires seated { HasSeats T.row_of list.now seats.now }
+    ensures { result ≡ is_some (look_up (λ x. (T.row_of x).serial) list.now serial) }
+{
+    of_serial(list, seats, serial).is_some()
+}
+
+// Puts a row into the list whose serial stands nowhere in it, or where memory is refused, doesn't.
+fn put_row<T: PlanRow>(list: &mut Vec<T>, row: &T) -> Result<(), AllocError>
+    requires size { FitsInMemory T.row }
+    requires rows { AreRows T.row_of list.old.items }
+    requires new { look_up (λ x. (T.row_of x).serial) list.old.items (T.row_of row.now).serial
+        ≡ None }
+    ensures rows { AreRows T.row_of list.new.items }
+    ensures comes { (x : T) → Contains list.new.items x
+        → (row.now ≡ x) ⊎ Contains list.old.items x }
+    ensures ok { OnOk result ((serial : ℕ)
+        → look_up (λ x. (T.row_of x).serial) list.new.items serial
+        ≡ or_this (look_up (λ x. (T.row_of x).serial) list.old.items) (T.row_of row.now).serial
+        row.now serial) }
+    ensures err { OnErr result (list.new.items ≡ list.old.items) }
+{
+    grow(list, 1)?;
+    insert_all(list, from_ref(row));
+    Ok(())
+}
+
+// Puts a row into the list, unless one of its serial stands there, and notes its seat. Where memory is refused, the list
+// stays as it is.
+fn bring<T: PlanRow>(
+    alloc: Global,
+    list: &mut Vec<T>,
+    seats: &mut Vec<Seat>,
+    row: &T,
+) -> Result<(), AllocError>
+    requires size { FitsInMemory T.row }
+    requires rows { AreRows T.row_of list.old.items }
+    requires order { AreSeats seats.old.items }
+    requires seated { HasSeats T.row_of list.old.items seats.old.items }
+    ensures rows { AreRows T.row_of list.new.items }
+    ensures order { AreSeats seats.new.items }
+    ensures stay { (seat : SeatValue) → Contains seats.old.items seat
+        → Contains seats.new.items seat }
+    ensures seated { HasSeats T.row_of list.new.items seats.new.items }
+    ensures ok { OnOk result ((serial : ℕ)
+        → look_up (λ x. (T.row_of x).serial) list.new.items serial
+        ≡ or_this (look_up (λ x. (T.row_of x).serial) list.old.items) (T.row_of row.now).serial
+        row.now serial) }
+    ensures err { OnErr result (list.new.items ≡ list.old.items) }
+{
+    if has_serial(list, seats, row.row().serial) {
+        return Ok(());
+    }
+    note_rows(alloc, seats, from_ref(row))?;
+    put_row(list, row)
+}
+
+// Whether the serial is one of these, which don't fall.
+fn is_among(serials: &[Serial], serial: Serial) -> bool
+    requires { IsNonDecreasing serials.now }
+    ensures { result ≡ list_any (λ n. nat_eq n serial) serials.now }
+{
+    serials.binary_search(&serial).is_ok()
+}
+
+// Of the rows those with these serials, which don't fall.
+fn rows_among(alloc: Global, rows: &[Row], serials: &[Serial]) -> Result<Vec<Row>, AllocError>
+    requires { IsNonDecreasing serials.now }
+    ensures { IfOk result (λ found. found.items
+        ≡ filter (λ row. list_any (λ n. nat_eq n row.serial) serials.now) rows.now) }
+{
+    rows.iter()
+        .copied()
+        .filter(|row| is_among(serials, row.serial))
+        .collect(alloc)
+}
+
+// The seats of both plans and of these rows of history, with room for an eighth more.
+fn seats_for(
+    alloc: Global,
+    ltp: &[Row],
+    cp: &[CurrentRow],
+    history: &[Row],
+) -> Result<Vec<Seat>, AllocError>
+    requires ltp { HasEachOnce of_row ltp.now }
+    requires cp { HasEachOnce of_current cp.now }
+    requires history { HasEachOnce of_row history.now }
+    ensures order { IfOk result (λ seats. AreSeats seats.items) }
+    ensures ltp { IfOk result (λ seats. HasSeats of_row ltp.now seats.items) }
+    ensures cp { IfOk result (λ seats. HasSeats of_current cp.now seats.items) }
+    ensures history { IfOk result (λ seats. HasSeats of_row history.now seats.items) }
+{
+    let count = ltp
+        .len()
+        .saturating_add(cp.len())
+        .saturating_add(history.len());
+    let mut seats = Vec::with_capacity(alloc, count.saturating_add(count / 8))?;
+    note_rows(alloc, &mut seats, ltp)?;
+    note_rows(alloc, &mut seats, cp)?;
+    note_rows(alloc, &mut seats, history)?;
+    Ok(seats)
+}
+
+impl Content {
+    ghost use Rattle.occurrences.specs.declared.row.Row.{Row as RowValue};
+    ghost use Rattle.plan_store.specs.Contents.{content_of};
+    ghost use Rattle.plan_store.specs.Parts.{IsPartOf, followed_alone, is_followed, is_planned, rest_of};
+    ghost use Rattle.plan_store.specs.Parts.{with_completed, with_deleted, with_rest};
+    ghost use Rattle.plan_store.specs.Room.{no_jobs};
+
+    /// Whether an occurrence of the serial stands in the long-term plan or in the current plan.
+    pub fn is_planned(&self, serial: Serial) -> bool
+        ensures { result ≡ is_planned (content_of self.now).sets serial }
+    {
+        has_serial(&self.ltp, &self.seats, serial) || has_serial(&self.cp, &self.seats, serial)
+    }
+
+    /// Whether the lists have a row of the serial in history.
+    pub fn has_completed(&self, serial: Serial) -> bool
+        ensures { result ≡ is_some ((content_of self.now).sets.history serial) }
+    {
+        has_serial(&self.history, &self.seats, serial)
+    }
+
+    /// Whether the lists have a deletion of the serial.
+    pub fn has_deleted(&self, serial: Serial) -> bool
+        ensures { result ≡ is_some ((content_of self.now).sets.deletions serial) }
+    {
+        has_serial(&self.deletions, &self.seats, serial)
+    }
+
+    /// The rows of the key that the lists have in history.
+    pub fn completed_of(&self, key: &Key) -> &[Row]
+        ensures { (row : RowValue) → Contains result.now row
+            ↔ (((content_of self.now).sets.history row.serial ≡ Some row) × (row.key ≡ key.now)) }
+    {
+        of_key(&self.history, key)
+    }
+
+    /// Brings a row of history into the lists, unless one of its serial stands there. Where memory is refused, the
+    /// content stays as it is.
+    pub fn bring_completed(&mut self, alloc: Global, row: Row) -> Result<(), AllocError>
+        ensures ok { OnOk result (content_of self.new ≡ with_completed row (content_of self.old)) }
+        ensures err { OnErr result (content_of self.new ≡ content_of self.old) }
+    {
+        bring(alloc, &mut self.history, &mut self.seats, &row)
+    }
+
+    /// Brings a deletion into the lists, unless one of its serial stands there. Where memory is refused, the content
+    /// stays as it is.
+    pub fn bring_deleted(&mut self, alloc: Global, deletion: Deletion) -> Result<(), AllocError>
+        ensures ok { OnOk result (content_of self.new
+            ≡ with_deleted deletion (content_of self.old)) }
+        ensures err { OnErr result (content_of self.new ≡ content_of self.old) }
+    {
+        bring(alloc, &mut self.deletions, &mut self.seats, &deletion)
+    }
+
+    // The serials of the predecessors of what is planned, in the order of the pairs.
+    fn predecessors(&self, alloc: Global) -> Result<Vec<Serial>, AllocError>
+        ensures { IfOk result (λ serials. serials.items ≡ map (λ pair. pair.predecessor)
+            (filter (λ pair. is_planned (content_of self.now).sets pair.successor)
+            self.now.pairs)) }
+    {
+        self.pairs
+            .as_slice()
+            .iter()
+            .filter(|pair| self.is_planned(pair.successor))
+            .map(|pair| pair.predecessor)
+            .collect(alloc)
+    }
+
+    // The serials of the predecessors of what is planned, by number.
+    fn followed(&self, alloc: Global) -> Result<Vec<Serial>, AllocError>
+        ensures order { IfOk result (λ serials. IsNonDecreasing serials.items) }
+        ensures all { IfOk result (λ serials. (serial : ℕ)
+            → list_any (λ n. nat_eq n serial) serials.items
+            ≡ is_followed (content_of self.now) serial) }
+    {
+        let mut serials = self.predecessors(alloc)?;
+        serials.sort_unstable();
+        Ok(serials)
+    }
+
+    // Of history the predecessors of what is planned.
+    fn followed_rows(&self, alloc: Global) -> Result<Vec<Row>, AllocError>
+        ensures { IfOk result (λ rows. rows.items
+            ≡ filter (λ row. is_followed (content_of self.now) row.serial) self.now.history.items) }
+    {
+        let serials = self.followed(alloc)?;
+        rows_among(alloc, &self.history, &serials)
+    }
+
+    // Lets go of the deletions, and of history but for the predecessors of what is planned, or where memory is refused,
+    // of nothing.
+    fn keep_followed(&mut self, alloc: Global) -> Result<(), AllocError>
+        ensures ok { OnOk result (content_of self.new ≡ followed_alone (content_of self.old)) }
+        ensures err { OnErr result (content_of self.new ≡ content_of self.old) }
+    {
+        let history = self.followed_rows(alloc)?;
+        let seats = seats_for(alloc, &self.ltp, &self.cp, &history)?;
+        self.history = history;
+        self.deletions = Vec::new(alloc);
+        self.seats = seats;
+        Ok(())
+    }
+
+    /// Lets go of the kept jobs, of the deletions, and of history but for the rows that are predecessors of what is
+    /// planned, where these stand elsewhere. Where memory is refused the rows stay.
+    pub fn keep_part(&mut self, alloc: Global)
+        ensures part { IsPartOf (rest_of (content_of self.old)) (content_of self.new) }
+        ensures same { with_rest (rest_of (content_of self.old)) (content_of self.new)
+            ≡ content_of self.old }
+        ensures jobs { (content_of self.new).jobs ≡ no_jobs }
+    {
+        self.jobs = Vec::new(alloc);
+        let _ = self.keep_followed(alloc);
+    }
+}

@@ -1,0 +1,74 @@
+-- What a listing does for which the tables are asked.
+use Rattle.std.specs.Prelude.{◌≡◌, ◌≢◌, ℕ, false, List, Option, Result, IfErr, IfOk, OnOk, ⊤}
+use Rattle.sqlite.specs.Held.{Held, state}
+use Rattle.sqlite.specs.State.{HasCleanDisk, IsUnchanged, Survives}
+use Rattle.sqlite.specs.Store.{Ghosts}
+use Rattle.planner_machine.specs.Content.{Content}
+use Rattle.planner_machine.specs.Sound.{AreNumbered}
+use Rattle.plan_store.specs.Listings.{HandsAll, IsListing, Shown}
+use Rattle.plan_store.specs.declared.listings.ListFault.{ListFault}
+use Rattle.plan_store.specs.declared.listings.ListFault.TheVariants as list
+use Rattle.plan_store.specs.declared.listings.What.{What}
+use Rattle.plan_store.specs.declared.listings.What.TheVariants as whats
+use Rattle.table_schema.specs.Rows.{StaysOrIsUndone}
+use Rattle.table_schema.specs.Schema.{HasTables}
+use Rattle.fact_listings.specs.Listing.{HandsPart, StopsFor}
+use Rattle.fact_listings.specs.declared.faults.ListedFault.{ListedFault}
+use Rattle.fact_listings.specs.declared.faults.ListedFault.TheVariants as listed
+use Rattle.fact_lookups.specs.declared.faults.LookupFault.{LookupFault}
+use Rattle.fact_lookups.specs.declared.faults.LookupFault.TheVariants as lookup
+use Rattle.plan_tables.specs.Kept.{IsKept, kept_in}
+use Rattle.plan_tables.specs.declared.keeping.Unmade.TheVariants as unmade
+use Rattle.plan_tables.specs.declared.listing.Asked.{Asked}
+use Rattle.plan_tables.specs.declared.listing.Asked.TheVariants as asked
+use Rattle.plan_tables.specs.declared.listing.Unlisted.{Unlisted}
+use Rattle.plan_tables.specs.declared.listing.Unlisted.TheVariants as unlisted
+
+-- what is listed
+abbrev pub what_of : Asked → What
+what_of asked.History = whats.History
+what_of asked.Deletions = whats.Deletions
+what_of asked.Pairs = whats.Dependencies
+
+-- the fault of a look-up as one of a listing
+abbrev pub listed_so : LookupFault → ListedFault
+listed_so lookup.Memory = listed.Memory
+listed_so lookup.Untold = listed.Untold
+listed_so (lookup.Store e) = listed.Store e
+
+-- the fault of a store
+abbrev pub fault_so : Unlisted → ListFault
+fault_so (unlisted.Sink fault) = list.Sink fault
+fault_so (unlisted.Unmade unmade.Memory) = list.Memory
+fault_so (unlisted.Unmade unmade.Doubt) = list.Memory
+fault_so (unlisted.Unmade unmade.Device) = list.Device
+
+-- it leaves the connection open
+abbrev pub LeavesOpen : Unlisted → Type 0
+LeavesOpen (unlisted.Sink fault) = ⊤
+LeavesOpen (unlisted.Unmade unmade.Memory) = ⊤
+LeavesOpen (unlisted.Unmade unmade.Doubt) = ⊥
+LeavesOpen (unlisted.Unmade unmade.Device) = ⊥
+
+-- Over a kept content an Ok is the number of all items of the listing, which the sink took in its order, and an error
+-- means that it took the first of them and, where it is to blame, refused the next. Whatever the tables have, nothing is
+-- changed by an Ok, and it fails by the sink, for want of memory, for a row that tells no fact or for one of the common
+-- causes; a crash finds what it found before.
+pub record ListsKept {S K : Type 0} (g : Ghosts S) (old new : Held S) (lists : Content)
+    (Takes Refuses : K → Shown → K → Type 0) (before after : K) (what : Asked) (app : Option (List ℕ))
+    (result : Result ℕ ListedFault) : Type 0 where
+  pub all : HasCleanDisk (state g new) → ∥ IsKept (state g old) lists ∥₁
+      → AreNumbered (kept_in (state g old) lists).sets
+      → IfOk result (HandsAll Takes (IsListing (what_of what) app (kept_in (state g old) lists)) before after)
+  pub part : HasCleanDisk (state g new) → ∥ IsKept (state g old) lists ∥₁
+      → AreNumbered (kept_in (state g old) lists).sets
+      → IfErr result (HandsPart Takes Refuses (IsListing (what_of what) app (kept_in (state g old) lists)) before after)
+  pub told : HasCleanDisk (state g new) → ∥ IsKept (state g old) lists ∥₁ → IfErr result (λ fault. fault ≢ listed.Untold)
+  pub same : HasCleanDisk (state g new) → HasTables (state g old).now.schema
+      → OnOk result (IsUnchanged (state g old) (state g new))
+  pub fails : HasCleanDisk (state g new) → HasTables (state g old).now.schema
+      → IfErr result (StopsFor (state g old) (state g new))
+  pub leaves : HasCleanDisk (state g new) → HasTables (state g old).now.schema
+      → StaysOrIsUndone (state g old) (state g new)
+  pub mode : old.in_transaction ≡ false → new.in_transaction ≡ false
+  pub survives : Survives (state g old) (state g new) (λ _. HasTables (state g old).now.schema → ⊥)

@@ -1,0 +1,43 @@
+-- What is sought in the tables for a window or a change, and what a call does that seeks it.
+use Rattle.std.specs.Prelude.{◌≡◌, false, IsTrue, Result, IfErr, OnOk}
+use Rattle.sqlite.specs.Held.{Held, state}
+use Rattle.sqlite.specs.State.{HasCleanDisk, IsUnchanged, Survives}
+use Rattle.sqlite.specs.Store.{Ghosts}
+use Rattle.planner_machine.specs.Content.{Content}
+use Rattle.plan_store.specs.Parts.{IsPartOf, Rest}
+use Rattle.plan_parts.specs.Changes.{KnowsNamed}
+use Rattle.plan_parts.specs.Windows.{IsReadyFor}
+use Rattle.table_schema.specs.Rows.{tables_of}
+use Rattle.table_schema.specs.Schema.{HasTables}
+use Rattle.fact_gathering.specs.Gathering.{Grows, told_rest}
+use Rattle.plan_tables.specs.Causes.{HasFailed}
+use Rattle.plan_tables.specs.Kept.{IsKept, StaysPut}
+use Rattle.plan_tables.specs.declared.keeping.Unmade.{Unmade}
+use Rattle.plan_tables.specs.declared.keeping.Unmade.TheVariants as unmade
+use Rattle.plan_tables.specs.declared.seeking.Sought.{Sought}
+use Rattle.plan_tables.specs.declared.seeking.Sought.TheVariants as sought
+
+-- the lists have what a window for the need asks of history and of the deletions, or know what the change names there
+abbrev pub IsFoundFor : Sought → Rest → Content → Type 0
+IsFoundFor (sought.Window need) rest c = IsReadyFor rest need.now c
+IsFoundFor (sought.Change change) rest c = KnowsNamed rest change.now c
+
+-- Over a kept content an Ok has what is sought, and nothing is changed in the tables; an error is want of memory over an
+-- open connection, a doubt whether it is open, or a failure of the device. The lists have what they had, and more of the
+-- rest; a crash finds what it found before.
+pub record Seeks {S : Type 0} (g : Ghosts S) (old new : Held S) (was now : Content)
+    (result : Result (Unit {0}) Unmade) (IsFound : Rest → Content → Type 0) : Type 0 where
+  pub found : HasCleanDisk (state g new) → ∥ IsKept (state g old) was ∥₁
+      → OnOk result (IsFound (told_rest (tables_of (state g old).now.trees)) now)
+  pub grows : Grows was now
+  pub part : HasCleanDisk (state g new) → IsKept (state g old) was
+      → IsPartOf (told_rest (tables_of (state g old).now.trees)) now
+  pub same : HasCleanDisk (state g new) → IsKept (state g old) was
+      → OnOk result (IsUnchanged (state g old) (state g new))
+  pub stays : HasCleanDisk (state g new) → IsKept (state g old) was → StaysPut (state g old) (state g new)
+  pub memory : HasCleanDisk (state g new) → IsKept (state g old) was
+      → IfErr result (λ why. why ≡ unmade.Memory → IsTrue (state g new).is_open)
+  pub failed : HasCleanDisk (state g new) → IsKept (state g old) was
+      → IfErr result (λ why. why ≡ unmade.Device → HasFailed (state g old) (state g new))
+  pub mode : old.in_transaction ≡ false → new.in_transaction ≡ false
+  pub survives : Survives (state g old) (state g new) (λ _. HasTables (state g old).now.schema → ⊥)

@@ -1,0 +1,159 @@
+// Listings for which the tables are asked.
+
+ghost use Rattle.std.specs.Prelude.{◌≡◌, ◌≢◌, false, option_copied, IfErr, IfOk, IsTrue, OnOk};
+ghost use Rattle.sqlite.specs.Held.{state};
+ghost use Rattle.sqlite.specs.State.{HasCleanDisk, IsUnchanged, Survives};
+ghost use Rattle.planner_machine.specs.Sound.{AreNumbered};
+ghost use Rattle.keyed_lists.specs.Rows.{of_deletion, of_row};
+ghost use Rattle.plan_store.specs.Contents.{content_of};
+ghost use Rattle.plan_store.specs.Listings.{HandsAll, HandsPart, IsListing};
+ghost use Rattle.plan_store.specs.Parts.{ListsAll};
+ghost use Rattle.table_schema.specs.Schema.{HasTables};
+ghost use Rattle.fact_lookups.specs.Finding.{FindsFact};
+ghost use Rattle.plan_tables.specs.Kept.{IsKept, StaysPut, kept_in};
+ghost use Rattle.plan_tables.specs.Listing.{LeavesOpen, ListsKept, fault_so, listed_so, what_of};
+
+use crate::keeping::{Unmade, cause_of};
+use fact_listings::{ListedFault, list_deletions, list_history};
+use fact_lookups::{LookupFault, completed_rows, deleted_rows};
+use occurrences::{Deletion, Row};
+use plan_store::{Content, ListFault, RowSink, SinkFault};
+use sqlite::{Alter, Connection};
+use std::alloc::Global;
+use work_calendars::App;
+
+/// What is listed.
+#[derive(Clone, Copy)]
+pub(crate) enum Asked {
+    History,
+    Deletions,
+    Pairs,
+}
+
+/// Why a listing ended before its last item.
+#[derive(Clone, Copy)]
+pub(crate) enum Unlisted {
+    /// The sink refused an item.
+    Sink(SinkFault),
+    /// Memory was refused, or the tables could not be asked.
+    Unmade(Unmade),
+}
+
+// The fault of a look-up as one of a listing.
+fn listed_so(fault: LookupFault) -> ListedFault
+    ensures { result ≡ listed_so fault }
+{
+    match fault {
+        LookupFault::Memory => ListedFault::Memory,
+        LookupFault::Untold => ListedFault::Untold,
+        LookupFault::Store(error) => ListedFault::Store(error),
+    }
+}
+
+// All rows of history, and all deletions.
+fn read_rest<S: Alter>(
+    alloc: Global,
+    conn: &mut Connection<S>,
+) -> Result<(Vec<Row>, Vec<Deletion>), LookupFault>
+    ensures { FindsFact S.Store conn.old conn.new result (λ c found.
+        ListsAll of_row found.0.items c.sets.history
+        × ListsAll of_deletion found.1.items c.sets.deletions) }
+{
+    let history = match completed_rows(alloc, conn) {
+        Ok(history) => history,
+        Err(fault) => return Err(fault),
+    };
+    match deleted_rows(alloc, conn) {
+        Ok(deletions) => Ok((history, deletions)),
+        Err(fault) => Err(fault),
+    }
+}
+
+// Hands the sink the pairs of one application or of all, each with both its rows.
+fn list_pairs<S: Alter, K: RowSink>(
+    alloc: Global,
+    conn: &mut Connection<S>,
+    lists: &Content,
+    app: Option<&App>,
+    sink: &mut K,
+) -> Result<usize, ListedFault>
+    ensures { ListsKept S.Store conn.old conn.new (content_of lists.now) K.takes K.refuses
+        sink.old sink.new Asked.Pairs (option_copied app.entry) result }
+{
+    lists.has_listings_with();
+    let (history, deletions) = match read_rest(alloc, conn) {
+        Ok(rows) => rows,
+        Err(fault) => return Err(listed_so(fault)),
+    };
+    let completed = history.as_slice();
+    let deleted = deletions.as_slice();
+    match lists.pairs_to(alloc, completed, deleted, app, sink) {
+        Ok(count) => Ok(count),
+        Err(ListFault::Sink(fault)) => Err(ListedFault::Sink(fault)),
+        Err(ListFault::Memory) => Err(ListedFault::Memory),
+        // lists have no device
+        Err(ListFault::Device) => Err(ListedFault::Memory),
+    }
+}
+
+// Hands the sink a listing, of one application or of all.
+fn list_facts<S: Alter, K: RowSink>(
+    alloc: Global,
+    conn: &mut Connection<S>,
+    lists: &Content,
+    asked: Asked,
+    app: Option<&App>,
+    sink: &mut K,
+) -> Result<usize, ListedFault>
+    ensures { ListsKept S.Store conn.old conn.new (content_of lists.now) K.takes K.refuses
+        sink.old sink.new asked (option_copied app.entry) result }
+{
+    match asked {
+        Asked::History => list_history(alloc, conn, app, sink),
+        Asked::Deletions => list_deletions(alloc, conn, app, sink),
+        Asked::Pairs => list_pairs(alloc, conn, lists, app, sink),
+    }
+}
+
+/// The same; and where it fails, it is asked why.
+pub(crate) fn list_kept<S: Alter, K: RowSink>(
+    alloc: Global,
+    conn: &mut Connection<S>,
+    lists: &Content,
+    asked: Asked,
+    app: Option<&App>,
+    sink: &mut K,
+) -> Result<usize, Unlisted>
+    ensures all { HasCleanDisk (state S.Store conn.new)
+        → ∥ IsKept (state S.Store conn.old) (content_of lists.now) ∥₁
+        → AreNumbered (kept_in (state S.Store conn.old) (content_of lists.now)).sets
+        → IfOk result (HandsAll K.takes (IsListing (what_of asked) (option_copied app.entry)
+        (kept_in (state S.Store conn.old) (content_of lists.now))) sink.old sink.new) }
+    ensures part { HasCleanDisk (state S.Store conn.new)
+        → ∥ IsKept (state S.Store conn.old) (content_of lists.now) ∥₁
+        → AreNumbered (kept_in (state S.Store conn.old) (content_of lists.now)).sets
+        → IfErr result (λ why. HandsPart K.takes K.refuses
+        (IsListing (what_of asked) (option_copied app.entry)
+        (kept_in (state S.Store conn.old) (content_of lists.now))) sink.old sink.new
+        (fault_so why)) }
+    ensures same { HasCleanDisk (state S.Store conn.new)
+        → IsKept (state S.Store conn.old) (content_of lists.now)
+        → OnOk result (IsUnchanged (state S.Store conn.old) (state S.Store conn.new)) }
+    ensures stays { HasCleanDisk (state S.Store conn.new)
+        → IsKept (state S.Store conn.old) (content_of lists.now)
+        → StaysPut (state S.Store conn.old) (state S.Store conn.new) }
+    ensures opens { HasCleanDisk (state S.Store conn.new)
+        → IsKept (state S.Store conn.old) (content_of lists.now)
+        → IfErr result (λ why. LeavesOpen why → IsTrue (state S.Store conn.new).is_open) }
+    ensures mode { conn.old.in_transaction ≡ false → conn.new.in_transaction ≡ false }
+    ensures survives { Survives (state S.Store conn.old) (state S.Store conn.new)
+        (λ _. HasTables (state S.Store conn.old).now.schema → ⊥) }
+{
+    match list_facts(alloc, conn, lists, asked, app, sink) {
+        Ok(count) => Ok(count),
+        Err(ListedFault::Sink(fault)) => Err(Unlisted::Sink(fault)),
+        Err(ListedFault::Memory) => Err(Unlisted::Unmade(Unmade::Memory)),
+        Err(ListedFault::Untold) => Err(Unlisted::Unmade(Unmade::Device)),
+        Err(ListedFault::Store(error)) => Err(Unlisted::Unmade(cause_of(conn, &error))),
+    }
+}

@@ -1,0 +1,53 @@
+// What is asked of the tables before a window is lent or a change is made, and brought into the lists.
+
+ghost use Rattle.plan_store.specs.Contents.{content_of};
+ghost use Rattle.fact_gathering.specs.Gathering.{Gathers};
+ghost use Rattle.plan_tables.specs.Sought.{IsFoundFor, Seeks};
+
+use crate::keeping::{Unmade, cause_of};
+use fact_gathering::{gather, gather_for_change};
+use fact_lookups::LookupFault;
+use plan_store::{Change, Content, Need};
+use sqlite::{Alter, Connection};
+use std::alloc::Global;
+
+/// What something is sought for: a window for a need, or a change.
+#[derive(Clone, Copy)]
+pub(crate) enum Sought<'a> {
+    Window(&'a Need),
+    Change(&'a Change),
+}
+
+// Looks up what is sought, and brings it into the lists.
+fn gather_sought<S: Alter>(
+    alloc: Global,
+    conn: &mut Connection<S>,
+    lists: &mut Content,
+    sought: Sought<'_>,
+) -> Result<(), LookupFault>
+    ensures { Gathers S.Store conn.old conn.new (content_of lists.old) (content_of lists.new)
+        result (IsFoundFor sought.entry) }
+{
+    match sought {
+        Sought::Window(need) => gather(alloc, conn, lists, need),
+        Sought::Change(change) => gather_for_change(alloc, conn, lists, change),
+    }
+}
+
+/// The same; and where it fails, it is asked why.
+pub(crate) fn seek<S: Alter>(
+    alloc: Global,
+    conn: &mut Connection<S>,
+    lists: &mut Content,
+    sought: Sought<'_>,
+) -> Result<(), Unmade>
+    ensures { Seeks S.Store conn.old conn.new (content_of lists.old) (content_of lists.new) result
+        (IsFoundFor sought.entry) }
+{
+    match gather_sought(alloc, conn, lists, sought) {
+        Ok(()) => Ok(()),
+        Err(LookupFault::Memory) => Err(Unmade::Memory),
+        Err(LookupFault::Untold) => Err(Unmade::Device),
+        Err(LookupFault::Store(error)) => Err(cause_of(conn, &error)),
+    }
+}
