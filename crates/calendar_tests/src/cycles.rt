@@ -6,6 +6,7 @@ use std::process::Abort;
 use std::str::SplitWhitespace;
 use work_calendars::{Calendar, Day, DayStatus, Minute, Short, WorkIndex};
 
+mod deadlines;
 mod jump;
 mod types;
 mod windows;

@@ -183,7 +183,7 @@ fn places_of_an_occurrence(rt: HostRuntime) {
 }
 
 // Each refusal, in the order of the text below.
-fn refusals(app: App, serial: Serial) -> [Refusal; 17] {
+fn refusals(app: App, serial: u32) -> [Refusal; 17] {
     [
         Refusal::NotAStatement,
         Refusal::FaultyData { record: 2 },
@@ -229,9 +229,8 @@ const REFUSALS: &str = "\
 #[test]
 fn numbers_and_texts_of_refusals(rt: HostRuntime) -> Result<(), Fail> {
     let app = App::from_text("PAY").ok_or("no name")?;
-    let serial = Serial::new(1).ok_or("no serial")?;
     let mut shown = String::new(rt.alloc());
-    for refusal in refusals(app, serial) {
+    for refusal in refusals(app, 1) {
         let number = refusal.number();
         let is_kept = refusal.is_kept();
         writeln!(shown, "{number} {is_kept} {refusal}")?;

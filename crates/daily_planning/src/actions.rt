@@ -55,12 +55,18 @@ fn act(
     let serial = current.row.serial;
     if let Some(predecessor) = waited_for(view, action, current) {
         return Ok(Verdict::Refused(Refusal::PredecessorUncompleted {
-            serial: predecessor,
+            serial: predecessor.get(),
         }));
     }
     let changed = CurrentRow { status, ..*current };
     let change = status_change(alloc, view, action, &changed)?;
-    Ok(Verdict::Done(change, Reply::Changed { serial, status }))
+    Ok(Verdict::Done(
+        change,
+        Reply::Changed {
+            serial: serial.get(),
+            status,
+        },
+    ))
 }
 
 // The predecessor that forbids the action on a row of the current plan, which waits where it is to start.

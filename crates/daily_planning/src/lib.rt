@@ -21,3 +21,4 @@ pub use additions::cp_add;
 pub use daily_plans::{daily_need, end_by, extend, extend_by, replan};
 pub use laws::status_changes_leave_pairs;
 pub use new_ends::new_end;
+pub use planner_machine::Count;

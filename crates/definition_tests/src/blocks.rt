@@ -83,6 +83,17 @@ fn blocks_without_a_last_line_feed(rt: HostRuntime) {
     assert_eq!(rt; rows, 27);
 }
 
+// As many records as a block may have, all of one pair; the second is the first that is faulty.
+#[test]
+fn longest_block_of_one_pair(rt: HostRuntime) {
+    let mut text = Vec::new(rt.alloc());
+    for _ in 0..65_536u32 {
+        text.extend_from_slice(b"A,A\n").expect(&rt, "memory");
+    }
+    assert_eq!(rt; text.len(), LONGEST_BLOCK);
+    assert_eq!(rt; fault(rt.alloc(), Kind::Predecessors, &text), 2);
+}
+
 // The lists that a block gives, or none where it is refused.
 fn lists(alloc: Global, text: &[u8]) -> Option<ByName<Predecessors>> {
     if text.len() > LONGEST_BLOCK {

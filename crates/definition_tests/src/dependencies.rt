@@ -58,6 +58,16 @@ fn no_lists_have_no_loop(rt: HostRuntime) {
     assert_eq!(rt; find_loop(rt.alloc(), &links).expect(&rt, "memory"), None);
 }
 
+// An application that names itself is on no loop; of two that name each other the least is.
+#[test]
+fn loops_of_lists(rt: HostRuntime) {
+    for (text, wanted) in [("A B; B C; C B", Some("B")), ("A A", None)] {
+        let links = lists(&rt, rt.alloc(), text);
+        let found = find_loop(rt.alloc(), &links).expect(&rt, "memory");
+        assert_eq!(rt; found.as_ref().map(|app| app.as_str()), wanted, "of {text}");
+    }
+}
+
 fn numbered(rt: &impl Abort, alloc: Global, number: u32) -> App {
     let name = format!(in alloc; "A{number}").expect(rt, "memory");
     app(rt, &name)

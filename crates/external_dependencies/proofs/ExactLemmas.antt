@@ -15,7 +15,7 @@ use Rattle.external_dependencies.specs.declared.touch.Touch.{Touch}
 use Rattle.external_dependencies.specs.Change.{LeadsExactly}
 use Rattle.external_dependencies.specs.Reached.{AreAsked, HasSerialOf, HoldsReached, IsReachedIn}
 use Rattle.external_dependencies.specs.Settled.{AreSettled, IsSettledPair}
-use Rattle.external_dependencies.specs.Touch.{MayReach, Touches}
+use Rattle.external_dependencies.specs.Touch.{HasRowOf, MayReach, Touches}
 use Rattle.external_dependencies.proofs.NearestLemmas.{limited_alike}
 use Rattle.external_dependencies.proofs.ToldLemmas.{decide_open, decide_pairs, decide_reaches, member, open_lives}
 use Rattle.external_dependencies.proofs.UnreachedLemmas.{pairs_stay}
@@ -24,7 +24,7 @@ use Rattle.external_dependencies.proofs.UnreachedLemmas.{pairs_stay}
 abbrev pub AreHad : Touch → List Link → List PlacedRow → List Pair → List Pair → Type 0
 AreHad touch links rows pairs had =
     (pair : Pair) → Contains had pair
-    ↔ (Contains pairs pair × (IsReachedIn touch links rows pair.successor ⊎ Contains touch.withdrawn.items pair.successor))
+    ↔ (Contains pairs pair × (IsReachedIn touch links rows pair.successor ⊎ HasRowOf touch.withdrawn.items pair.successor))
 
 abbrev pub AreFound : List PlacedRow → List PlacedRow → List Link → List Pair → Type 0
 AreFound rows asked links found = (pair : Pair) → Contains found pair ↔ IsPairAmong rows asked links pair
@@ -87,16 +87,16 @@ module _ (touch : Touch) (was now : List PlacedRow) (was_links links : List Link
   reached_now serial (q, there, same, is_open, reached) = (q, holds.rows_stand q there, same, is_open, reached)
 
   -- what was withdrawn has no pair after the change
-  gone_none : (pair : Pair) → Contains touch.withdrawn.items pair.successor → IsSettledPair old now links pair → ⊥
+  gone_none : (pair : Pair) → HasRowOf touch.withdrawn.items pair.successor → IsSettledPair old now links pair → ⊥
   gone_none pair gone (inl is) = turn.withdrawn is.placed is.stands (open_lives is.placed.place is.waits)
-      (subst (Contains touch.withdrawn.items) (sym is.successor) gone)
+      (subst (HasRowOf touch.withdrawn.items) (sym is.successor) gone)
   gone_none pair gone (inr kept) = turn.withdrawn kept.placed kept.stands kept.live
-      (subst (Contains touch.withdrawn.items) (sym kept.successor) gone)
+      (subst (HasRowOf touch.withdrawn.items) (sym kept.successor) gone)
 
   had_old : (pair : Pair) → Contains had pair → Contains old pair
   had_old pair there = holds.pairs_stood pair ((are_had pair).0 there).0
 
-  had_where : (pair : Pair) → IsReachedIn touch links rows pair.successor ⊎ Contains touch.withdrawn.items pair.successor
+  had_where : (pair : Pair) → IsReachedIn touch links rows pair.successor ⊎ HasRowOf touch.withdrawn.items pair.successor
       → IsSettledPair old now links pair → (Contains found pair → ⊥) → ⊥
   had_where pair (inl reached) new not_found = not_found (new_found pair (reached_now pair.successor reached) new)
   had_where pair (inr gone) new not_found = gone_none pair gone new
@@ -139,7 +139,7 @@ module _ (touch : Touch) (was now : List PlacedRow) (was_links links : List Link
       lived p stood live same = elim (turn.lives_on p stood live) [
         | inl on ↦ at on.0 on.1 on.2 (on.3 ∙ same)
         | inr gone ↦
-            let gone' : Contains touch.withdrawn.items pair.successor = subst (Contains touch.withdrawn.items) same gone in
+            let gone' : HasRowOf touch.withdrawn.items pair.successor = (p.row, gone, same) in
             inl ((are_had pair).1 (holds.had pair there (inr gone'), inr gone'))
       ]
 
@@ -204,7 +204,7 @@ module _ (touch : Touch) (was now : List PlacedRow) (was_links links : List Link
 -- the pairs of the serials of those rows, and of what was withdrawn
 pub had_from : (touch : Touch) (links : List Link) (rows asked : List PlacedRow) → AreAsked touch links rows asked
     → (pairs had : List Pair) (serials : List ℕ)
-    → ((n : ℕ) → Contains serials n ↔ (HasSerialOf asked n ⊎ Contains touch.withdrawn.items n))
+    → ((n : ℕ) → Contains serials n ↔ (HasSerialOf asked n ⊎ HasRowOf touch.withdrawn.items n))
     → ((pair : Pair) → Contains had pair ↔ (Contains pairs pair × Contains serials pair.successor))
     → AreHad touch links rows pairs had
 had_from touch links rows asked are_asked pairs had serials are_serials are_had pair = (
@@ -212,12 +212,12 @@ had_from touch links rows asked are_asked pairs had serials are_serials are_had 
   λ is. (are_had pair).1 (is.0, (are_serials pair.successor).1 (to is.1)),
 )
   where
-    from : HasSerialOf asked pair.successor ⊎ Contains touch.withdrawn.items pair.successor
-        → IsReachedIn touch links rows pair.successor ⊎ Contains touch.withdrawn.items pair.successor
+    from : HasSerialOf asked pair.successor ⊎ HasRowOf touch.withdrawn.items pair.successor
+        → IsReachedIn touch links rows pair.successor ⊎ HasRowOf touch.withdrawn.items pair.successor
     from (inr gone) = inr gone
     from (inl (q, there, same)) = let is = (are_asked q).0 there in inl (q, is.0, same, is.1.0, is.1.1)
 
-    to : IsReachedIn touch links rows pair.successor ⊎ Contains touch.withdrawn.items pair.successor
-        → HasSerialOf asked pair.successor ⊎ Contains touch.withdrawn.items pair.successor
+    to : IsReachedIn touch links rows pair.successor ⊎ HasRowOf touch.withdrawn.items pair.successor
+        → HasSerialOf asked pair.successor ⊎ HasRowOf touch.withdrawn.items pair.successor
     to (inr gone) = inr gone
     to (inl (q, there, same, is_open, reached)) = inl (q, (are_asked q).1 (there, (is_open, reached)), same)

@@ -37,24 +37,24 @@ module _ {X : Type 0} (Passes : X → Type 0) (xs found : List X)
       ]
 
 -- the serials so far
-module _ (rows : List PlacedRow) (serials more : List ℕ)
-    (so_far : (n : ℕ) → Contains serials n ↔ (HasSerialOf rows n ⊎ Contains more n)) (placed : PlacedRow) where
+module _ (IsMore : ℕ → Type 0) (rows : List PlacedRow) (serials : List ℕ)
+    (so_far : (n : ℕ) → Contains serials n ↔ (HasSerialOf rows n ⊎ IsMore n)) (placed : PlacedRow) where
   pub serials_more : (n : ℕ) → Contains (serials ++ placed.row.serial ∷ []) n
-      ↔ (HasSerialOf (rows ++ placed ∷ []) n ⊎ Contains more n)
+      ↔ (HasSerialOf (rows ++ placed ∷ []) n ⊎ IsMore n)
   serials_more n = (forward, backward)
     where
-      wider : HasSerialOf rows n ⊎ Contains more n → HasSerialOf (rows ++ placed ∷ []) n ⊎ Contains more n
+      wider : HasSerialOf rows n ⊎ IsMore n → HasSerialOf (rows ++ placed ∷ []) n ⊎ IsMore n
       wider (inl (q, there, same)) = inl (q, Contains-append_left rows (placed ∷ []) q there, same)
       wider (inr there) = inr there
 
       forward : Contains (serials ++ placed.row.serial ∷ []) n
-          → HasSerialOf (rows ++ placed ∷ []) n ⊎ Contains more n
+          → HasSerialOf (rows ++ placed ∷ []) n ⊎ IsMore n
       forward there = elim (Contains-push_cases serials placed.row.serial n there) [
         | inl old ↦ wider ((so_far n).0 old)
         | inr same ↦ inl (placed, Contains-push rows placed, same)
       ]
 
-      backward : HasSerialOf (rows ++ placed ∷ []) n ⊎ Contains more n → Contains (serials ++ placed.row.serial ∷ []) n
+      backward : HasSerialOf (rows ++ placed ∷ []) n ⊎ IsMore n → Contains (serials ++ placed.row.serial ∷ []) n
       backward (inr there) = Contains-append_left serials (placed.row.serial ∷ []) n ((so_far n).1 (inr there))
       backward (inl (q, there, same)) = elim (Contains-push_cases rows placed q there) [
         | inl old ↦ Contains-append_left serials (placed.row.serial ∷ []) n ((so_far n).1 (inl (q, old, same)))

@@ -6,12 +6,12 @@ pub mod HoldsLemmas
 mod LawLemmas
 pub mod LexLemmas
 mod LoopLemmas
+pub mod MapLemmas
 pub mod NearestLemmas
 pub mod OrderLemmas
 pub mod PairLemmas
 mod PartLemmas
 mod PlaceLemmas
-mod ReachLemmas
 pub mod RingLemmas
 pub mod RisingLemmas
 mod SearchLemmas

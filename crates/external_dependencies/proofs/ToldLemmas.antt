@@ -1,5 +1,5 @@
 -- What can be told of a row: whether a change may reach it, and whether it is open.
-use Rattle.std.proofs.Common.{◌≡◌, ◌⊎◌, ℕ, zero, suc, ◌≤◌, List, [], ◌∷◌, Option, Some, None, refl, sym, ap, subst, inl, inr, arith}
+use Rattle.std.proofs.Common.{◌≡◌, ◌⊎◌, ℕ, zero, suc, ◌+◌, ◌*◌, ◌<◌, ◌≤◌, List, [], ◌∷◌, Option, Some, None, refl, sym, ap, subst, inl, inr, arith}
 use Rattle.std.specs.List.{Contains}
 use Rattle.std.specs.Prelude.{nat_eq}
 use Rattle.std.specs.Cmp.Lexicographic.{pointwise}
@@ -14,9 +14,11 @@ use Rattle.occurrences.specs.declared.row.Row.{Row}
 use Rattle.external_dependencies.specs.declared.links.Link.{Link}
 use Rattle.external_dependencies.specs.declared.pairs.Pair.{Pair}
 use Rattle.external_dependencies.proofs.NearestLemmas.{names_equal, names_differ}
-use Rattle.external_dependencies.specs.declared.touch.Stretch.{Stretch}
 use Rattle.external_dependencies.specs.declared.touch.Touch.{Touch}
-use Rattle.external_dependencies.specs.Touch.{Covers, IsWithin, MayReach}
+use Rattle.external_dependencies.specs.Touch.{HasMovedBefore, MayReach}
+use Rattle.external_dependencies.specs.Nearest.{ArrivesWithin, IsCandidate, arrival_of}
+use Rattle.external_dependencies.specs.declared.live.Arrival.{Arrival}
+use Rattle.occurrences.specs.declared.key.Key.{Key}
 
 abbrev pub Told : Type 0 → Type 0
 Told P = P ⊎ (P → ⊥)
@@ -62,21 +64,57 @@ member {X} decide xs y = elim (some_told (λ x. x ≡ y) (λ x. decide x y) xs) 
 at_most : (a b : ℕ) → Told (a ≤ b)
 at_most a b = elim (cases_lt b a) [ inl above ↦ inr (λ le. omega arith) | inr le ↦ inl le ]
 
-within : (last : Option ℕ) (ia : ℕ) → Told (IsWithin last ia)
-within None ia = inl tt
-within (Some last) ia = at_most ia last
+within_limit : (within : Option ℕ) (ia first : ℕ) → Told (ArrivesWithin within ia first)
+within_limit None ia first = inl tt
+within_limit (Some hours) ia first = at_most ia (first + hours * 60)
 
-pub decide_covers : (stretches : List Stretch) (app : List ℕ) (ia : ℕ) → Told (Covers stretches app ia)
-decide_covers stretches app ia = some_told (λ s. (s.app ≡ app) × ((s.first ≤ ia) × IsWithin s.last ia))
-    (λ s. both (decide_names s.app app) (both (at_most s.first ia) (within s.last ia))) stretches
+before_own : (app : List ℕ) (key : Key) (ia : ℕ) → Told (app ≡ key.app → ia < key.ia)
+before_own app key ia = elim (decide_names app key.app) [
+  | inr apart ↦ inl (λ same. absurd (apart same))
+  | inl same ↦ elim (cases_lt ia key.ia) [
+    | inl below ↦ inl (λ _. below)
+    | inr upto ↦ inr (λ is. let lt = is same in omega arith)
+  ]
+]
+
+decide_candidate : (key : Key) (app : List ℕ) (within : Option ℕ) (a : Arrival) → Told (IsCandidate key app within a)
+decide_candidate key app within a = told (both (decide_names a.app app) (both (at_most a.ia key.ia)
+    (both (before_own app key a.ia) (within_limit within key.ia a.ia))))
+  where
+    told : Told ((a.app ≡ app)
+        × ((a.ia ≤ key.ia) × ((app ≡ key.app → a.ia < key.ia) × ArrivesWithin within key.ia a.ia)))
+        → Told (IsCandidate key app within a)
+    told (inl is) = inl (record { of_app = is.0; in_time = is.1.0; before_own = is.1.1.0; close = is.1.1.1 })
+    told (inr never) = inr (λ may. never (may.of_app, (may.in_time, (may.before_own, may.close))))
+
+module _ (touch : Touch) (key : Key) (app : List ℕ) (within : Option ℕ) where
+  abbrev May : Row → Type 0
+  May row = IsCandidate key app within (arrival_of row)
+
+  may_told : (row : Row) → Told (May row)
+  may_told row = decide_candidate key app within (arrival_of row)
+
+  moved_told : Told (((row : Row) × Contains touch.made.items row × May row)
+      ⊎ ((row : Row) × Contains touch.withdrawn.items row × May row)) → Told (HasMovedBefore touch key app within)
+  moved_told (inl (inl (row, there, may))) = inl (row, inl there, may)
+  moved_told (inl (inr (row, there, may))) = inl (row, inr there, may)
+  moved_told (inr none) = inr (λ (row, moved, may). elim moved [
+    | inl there ↦ none (inl (row, there, may))
+    | inr there ↦ none (inr (row, there, may))
+  ])
+
+  decide_moved : Told (HasMovedBefore touch key app within)
+  decide_moved = moved_told
+      (either (some_told May may_told touch.made.items) (some_told May may_told touch.withdrawn.items))
 
 pub decide_reaches : (touch : Touch) (links : List Link) (row : Row) → Told (MayReach touch links row)
 decide_reaches touch links row = either
-    (either (member cases_eq touch.made.items row.serial) (member cases_eq touch.opened.items row.serial))
+    (either (some_told (λ (made : Row). made.serial ≡ row.serial) (λ made. cases_eq made.serial row.serial) touch.made.items)
+    (member cases_eq touch.opened.items row.serial))
     (either (member decide_names touch.lists.items row.key.app)
-    (some_told (λ link. (link.app ≡ row.key.app) × Covers touch.stretches.items link.predecessor row.key.ia)
+    (some_told (λ link. (link.app ≡ row.key.app) × HasMovedBefore touch row.key link.predecessor link.within)
     (λ link. both (decide_names link.app row.key.app)
-    (decide_covers touch.stretches.items link.predecessor row.key.ia)) links))
+    (decide_moved touch row.key link.predecessor link.within)) links))
 
 waits : (status : Status) → Told (status ≡ W)
 waits W = inl refl

@@ -1,5 +1,5 @@
 -- The pairs of an open occurrence that a change doesn't reach are those that it had.
-use Rattle.std.proofs.Common.{◌≡◌, ◌↔◌, ◌⊎◌, ℕ, List, Option, Some, None, refl, sym, ap, subst, ◌∙◌, inl, inr}
+use Rattle.std.proofs.Common.{◌≡◌, ◌↔◌, ℕ, List, Option, refl, sym, ap, subst, ◌∙◌, inl, inr}
 use Rattle.std.specs.List.{Contains}
 use Rattle.occurrences.specs.Place.{IsOpen}
 use Rattle.occurrences.specs.declared.key.Key.{Key}
@@ -7,34 +7,14 @@ use Rattle.external_dependencies.specs.declared.links.Link.{Link}
 use Rattle.external_dependencies.specs.declared.live.Arrival.{Arrival}
 use Rattle.external_dependencies.specs.declared.pairs.Pair.{Pair}
 use Rattle.external_dependencies.specs.declared.rows.PlacedRow.{PlacedRow}
-use Rattle.external_dependencies.specs.Link.{Lists, ListsWithin}
-use Rattle.external_dependencies.specs.Nearest.{IsLiveIn, IsNearest}
-use Rattle.external_dependencies.specs.declared.touch.Stretch.{Stretch}
+use Rattle.external_dependencies.specs.Link.{ListsWithin}
+use Rattle.external_dependencies.specs.Nearest.{IsCandidate, IsLiveIn, IsNearest}
+use Rattle.external_dependencies.specs.Reach.{HasMoved}
 use Rattle.external_dependencies.specs.declared.touch.Touch.{Touch}
 use Rattle.external_dependencies.specs.Settled.{AreSettled, IsSettledPair}
-use Rattle.external_dependencies.specs.Touch.{Covers, HasSameList, IsBorder, IsMarked, IsOpenIn, MayReach, Touches}
+use Rattle.external_dependencies.specs.Touch.{HasSameList, IsOpenIn, MayReach, Touches}
 use Rattle.external_dependencies.proofs.StayLemmas.{nearest_stays}
-
--- a border is one in both directions
-border_back : (was now : List PlacedRow) (a : Arrival) (last : Option ℕ) → IsBorder was now a last
-    → IsBorder now was a last
-border_back was now a None is = tt
-border_back was now a (Some last) (n, before, after, of_app, at, later) = (n, after, before, of_app, at, later)
-
-pub marked_back : (stretches : List Stretch) (was now : List PlacedRow) (a : Arrival) → IsMarked stretches was now a
-    → IsMarked stretches now was a
-marked_back stretches was now a is = record {
-  stretch = is.stretch;
-  listed = is.listed;
-  of_app = is.of_app;
-  begun = is.begun;
-  border = border_back was now a is.stretch.last is.border;
-}
-
-turned : (stretches : List Stretch) (was now : List PlacedRow) {P : Type 0} (a : Arrival)
-    → P ⊎ IsMarked stretches was now a → P ⊎ IsMarked stretches now was a
-turned stretches was now a (inl here) = inl here
-turned stretches was now a (inr marked) = inr (marked_back stretches was now a marked)
+use Rattle.external_dependencies.proofs.TouchLemmas.{came, went}
 
 module _ (touch : Touch) (was now : List PlacedRow) (was_links links : List Link)
     (turn : Touches touch was now was_links links) (old : List Pair) (settled : AreSettled was was_links old)
@@ -53,21 +33,22 @@ module _ (touch : Touch) (was now : List PlacedRow) (was_links links : List Link
     | inr changed ↦ absurd (unreached (inr (inl changed)))
   ]
 
-  clear : (app : List ℕ) → Lists links q.row.key.app app → Covers touch.stretches.items app q.row.key.ia → ⊥
-  clear app (within, listed) covers = unreached (inr (inr (
+  clear : (app : List ℕ) (within : Option ℕ) → ListsWithin links q.row.key.app app within → (a : Arrival)
+      → HasMoved touch a → IsCandidate q.row.key app within a → ⊥
+  clear app within listed a (row, moved, arrives) may = unreached (inr (inr (
     record { app = q.row.key.app; predecessor = app; within = within },
     listed,
-    (refl, covers),
+    (refl, (row, moved, subst (IsCandidate q.row.key app within) (sym arrives) may)),
   )))
 
   -- its nearest predecessors are those before
-  pub nearest_on : (app : List ℕ) (within : Option ℕ) → Lists links q.row.key.app app → (near : Arrival)
+  pub nearest_on : (app : List ℕ) (within : Option ℕ) → ListsWithin links q.row.key.app app within → (near : Arrival)
       → IsNearest (IsLiveIn was) q.row.key app within near ↔ IsNearest (IsLiveIn now) q.row.key app within near
   nearest_on app within listed near = (
-    nearest_stays touch.stretches.items was now q.row.key app within (clear app listed) turn.went turn.came near,
-    nearest_stays touch.stretches.items now was q.row.key app within (clear app listed)
-        (λ a here. turned touch.stretches.items was now a (turn.came a here))
-        (λ a here. turned touch.stretches.items was now a (turn.went a here)) near,
+    nearest_stays (HasMoved touch) was now q.row.key app within (clear app within listed)
+        (went touch was now was_links links turn) (came touch was now was_links links turn) near,
+    nearest_stays (HasMoved touch) now was q.row.key app within (clear app within listed)
+        (came touch was now was_links links turn) (went touch was now was_links links turn) near,
   )
 
   -- what stood before under its serial had its key
@@ -96,7 +77,7 @@ module _ (touch : Touch) (was now : List PlacedRow) (was_links links : List Link
               within = is.within;
               listed = listed;
               near = is.near;
-              nearest = (nearest_on is.app is.within (is.within, listed) is.near).0
+              nearest = (nearest_on is.app is.within listed is.near).0
                   (subst (λ (k : Key). IsNearest (IsLiveIn was) k is.app is.within is.near) keys is.nearest);
               predecessor = is.predecessor;
             })
@@ -124,6 +105,6 @@ module _ (touch : Touch) (was now : List PlacedRow) (was_links links : List Link
                 ((same_lists is.app is.within).1 listed);
             near = is.near;
             nearest = subst (λ (k : Key). IsNearest (IsLiveIn was) k is.app is.within is.near) keys
-                ((nearest_on is.app is.within (is.within, listed) is.near).1 nearest);
+                ((nearest_on is.app is.within listed is.near).1 nearest);
             predecessor = is.predecessor;
           }))

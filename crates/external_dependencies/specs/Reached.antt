@@ -8,7 +8,7 @@ use Rattle.external_dependencies.specs.declared.rows.PlacedRow.{PlacedRow}
 use Rattle.external_dependencies.specs.declared.touch.Touch.{Touch}
 use Rattle.external_dependencies.specs.Link.{Lists}
 use Rattle.external_dependencies.specs.Nearest.{IsLiveIn, IsNearest}
-use Rattle.external_dependencies.specs.Touch.{MayReach}
+use Rattle.external_dependencies.specs.Touch.{HasRowOf, MayReach}
 
 -- one of the rows has the serial
 abbrev pub HasSerialOf : List PlacedRow → ℕ → Type 0
@@ -36,5 +36,5 @@ pub record HoldsReached (touch : Touch) (links : List Link) (now : List PlacedRo
       → IsNearest (IsLiveIn rows) q.row.key app None near ↔ IsNearest (IsLiveIn now) q.row.key app None near
   pub pairs_stood : (pair : Pair) → Contains pairs pair → Contains old pair
   pub had : (pair : Pair) → Contains old pair
-      → IsReachedIn touch links now pair.successor ⊎ Contains touch.withdrawn.items pair.successor
+      → IsReachedIn touch links now pair.successor ⊎ HasRowOf touch.withdrawn.items pair.successor
       → Contains pairs pair

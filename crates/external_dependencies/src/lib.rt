@@ -42,4 +42,4 @@ pub use loops::find_loop;
 pub use pairs::{Pair, Pairs, resolve_all, resolve_some};
 pub use repair::resolve_touched;
 pub use rows::{PlacedRow, Rows};
-pub use touch::{Stretch, Touch};
+pub use touch::Touch;

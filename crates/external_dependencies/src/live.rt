@@ -65,6 +65,15 @@ impl Live {
         })
     }
 
+    // These arrivals, each once.
+    pub(crate) fn from_arrivals(arrivals: Vec<Arrival>) -> Live
+        ensures { (arrival : Arrival) → Contains result arrival ↔ Contains arrivals.items arrival }
+    {
+        Live {
+            arrivals: into_rising(arrivals),
+        }
+    }
+
     /// The arrivals of the live occurrences, in rising order.
     pub fn as_slice(&self) -> &[Arrival]
         ensures all { result.now ≡ self.now }

@@ -1,26 +1,28 @@
-ghost use Rattle.std.specs.Prelude.{◌↔◌, ◌⊎◌, ◌≡◌, ◌≤◌, ℕ, Contains, IfOk, IsTrue};
+ghost use Rattle.std.specs.Prelude.{◌≡◌, ◌↔◌, ◌⊎◌, ℕ, Contains, IfOk, IsTrue, map};
 ghost use Rattle.std.specs.Cmp.Lexicographic.{slice_cmp};
 ghost use Rattle.std.specs.Ordering.{nat_cmp};
-ghost use Rattle.external_dependencies.specs.Reach.{AreByApp, IsReachOf};
+ghost use Rattle.external_dependencies.specs.Nearest.{IsCandidate, arrival_of};
+ghost use Rattle.external_dependencies.specs.Reach.{HasMoved, IsReachOf};
 ghost use Rattle.external_dependencies.specs.Rising.{IsRising};
-ghost use Rattle.external_dependencies.specs.Touch.{Covers, IsAnew, IsWithin, MayReach};
+ghost use Rattle.external_dependencies.specs.Touch.{IsAnew, MayReach};
 ghost use Rattle.external_dependencies.specs.declared.links.Link.{Link as LinkValue};
-ghost use Rattle.external_dependencies.specs.declared.touch.Stretch.{Stretch as StretchValue};
+ghost use Rattle.external_dependencies.specs.declared.live.Arrival.{Arrival as ArrivalValue};
 ghost use Rattle.external_dependencies.specs.declared.touch.Touch.{Touch as TouchValue};
 
 use crate::links::{Link, Links};
+use crate::live::{Arrival, Live, nearest};
 use crate::rising::into_rising;
-use crate::touch::{Stretch, Touch};
-use occurrences::{Row, Serial};
+use crate::touch::{Touch, row_serials};
+use occurrences::{Key, Row, Serial};
 use std::alloc::{AllocError, Global};
-use work_calendars::{App, Moment};
+use work_calendars::App;
 
-/// What a change may reach, in order: the serials and the lists rise, and the stretches are by application.
+/// What a change may reach, in order: the serials and the lists rise, and so do the arrivals of what came or went.
 #[derive(Drop)]
 pub(crate) struct Reach {
     serials: Vec<Serial>,
     lists: Vec<App>,
-    stretches: Vec<Stretch>,
+    moved: Live,
 }
 
 impl Reach {
@@ -31,7 +33,7 @@ impl Reach {
         Ok(Reach {
             serials: into_rising(anew(alloc, touch)?),
             lists: into_rising(touch.lists.clone()?),
-            stretches: by_app(touch.stretches.clone()?),
+            moved: Live::from_arrivals(moved(alloc, touch)?),
         })
     }
 
@@ -40,7 +42,7 @@ impl Reach {
         ensures { (touch : TouchValue) → IsReachOf touch self.now →
             IsTrue result ↔ MayReach touch links.now row.now }
     {
-        self.names(row) || covers_any(&self.stretches, links.list(&row.key.app), row.key.ia)
+        self.names(row) || precedes_any(&self.moved, links.list(&row.key.app), &row.key)
     }
 
     // Whether the occurrence was made or opened, or its list changed.
@@ -57,18 +59,33 @@ fn anew(alloc: Global, touch: &Touch) -> Result<Vec<Serial>, AllocError>
     ensures { IfOk result (λ serials. (serial : ℕ) → Contains serials.items serial
         ↔ IsAnew touch.now serial) }
 {
-    let mut serials = touch.made.clone()?;
+    let mut serials = row_serials(alloc, &touch.made)?;
     serials.extend_from_slice(&touch.opened)?;
     Ok(serials)
 }
 
-// The stretches, by application.
-fn by_app(mut stretches: Vec<Stretch>) -> Vec<Stretch>
-    ensures sorted { AreByApp result.items }
-    ensures same { (s : StretchValue) → Contains result.items s ↔ Contains stretches.items s }
+// The arrivals of the rows that were made and of those that were withdrawn.
+fn moved(alloc: Global, touch: &Touch) -> Result<Vec<Arrival>, AllocError>
+    ensures { IfOk result (λ arrivals. (a : ArrivalValue) → Contains arrivals.items a
+        ↔ HasMoved touch.now a) }
 {
-    stretches.sort_unstable_by_key(|stretch| stretch.app);
-    stretches
+    let mut arrivals = arrivals_of(alloc, &touch.made)?;
+    let more = arrivals_of(alloc, &touch.withdrawn)?;
+    arrivals.extend_from_slice(&more)?;
+    Ok(arrivals)
+}
+
+// The arrivals of rows.
+fn arrivals_of(alloc: Global, rows: &[Row]) -> Result<Vec<Arrival>, AllocError>
+    ensures { IfOk result (λ arrivals. arrivals.items ≡ map arrival_of rows.now) }
+{
+    rows.iter()
+        .map(|row| Arrival {
+            app: row.key.app,
+            ia: row.key.ia,
+            serial: row.serial,
+        })
+        .collect(alloc)
 }
 
 // Whether the serial is one of these, which rise.
@@ -85,49 +102,18 @@ fn has_app(apps: &[App], app: &App) -> bool
     apps.binary_search(app).is_ok()
 }
 
-// Whether a stretch of an application that a list names holds the moment.
-fn covers_any(stretches: &[Stretch], list: &[Link], ia: Moment) -> bool
-    ensures { AreByApp stretches.now → IsTrue result
-        ↔ ((link : LinkValue) × Contains list.now link × Covers stretches.now link.predecessor ia) }
+// Whether one of these arrivals may precede the occurrence with the key, by a link of its list.
+fn precedes_any(moved: &Live, list: &[Link], key: &Key) -> bool
+    ensures { IsTrue result ↔ ((link : LinkValue) × Contains list.now link × ((a : ArrivalValue)
+        × Contains moved.now a × IsCandidate key.now link.predecessor link.within a)) }
 {
-    list.iter()
-        .any(|link| covers(stretches, &link.predecessor, ia))
+    list.iter().any(|link| precedes(moved, link, key))
 }
 
-// Whether a stretch of the application holds the moment.
-fn covers(stretches: &[Stretch], app: &App, ia: Moment) -> bool
-    ensures { AreByApp stretches.now → IsTrue result ↔ Covers stretches.now app.now ia }
+// Whether one of these arrivals may precede the occurrence with the key, by the link.
+fn precedes(moved: &Live, link: &Link, key: &Key) -> bool
+    ensures { IsTrue result ↔ ((a : ArrivalValue) × Contains moved.now a
+        × IsCandidate key.now link.now.predecessor link.now.within a) }
 {
-    any_holds(of_app(stretches, app), ia)
-}
-
-// Whether one of the stretches holds the moment.
-fn any_holds(stretches: &[Stretch], ia: Moment) -> bool
-    ensures { IsTrue result ↔ ((s : StretchValue) × Contains stretches.now s
-        × ((s.first ≤ ia) × IsWithin s.last ia)) }
-{
-    stretches
-        .iter()
-        .any(|s| s.first <= ia && is_within(s.last, ia))
-}
-
-// The stretches of an application.
-fn of_app<'a>(stretches: &'a [Stretch], app: &App) -> &'a [Stretch]
-    ensures { AreByApp stretches.now → (s : StretchValue) →
-        Contains result.now s ↔ (Contains stretches.now s × (s.app ≡ app.now)) }
-{
-    let start = stretches.partition_point(|s| s.app < *app);
-    let rest = &stretches[start..];
-    let count = rest.partition_point(|s| s.app <= *app);
-    &rest[..count]
-}
-
-// Whether the moment is at or before the end, if there is one.
-fn is_within(last: Option<Moment>, ia: Moment) -> bool
-    ensures { IsTrue result ↔ IsWithin last ia }
-{
-    match last {
-        None => true,
-        Some(last) => ia <= last,
-    }
+    nearest(moved, key, &link.predecessor, link.within).is_some()
 }

@@ -3,7 +3,7 @@ ghost use Rattle.external_dependencies.specs.Change.{LeadsExactly};
 ghost use Rattle.external_dependencies.specs.Reached.{AreAsked, HasSerialOf, HoldsReached};
 ghost use Rattle.external_dependencies.specs.Reach.{IsReachOf};
 ghost use Rattle.external_dependencies.specs.Settled.{AreSettled, IsSettledPair};
-ghost use Rattle.external_dependencies.specs.Touch.{MayReach, Touches};
+ghost use Rattle.external_dependencies.specs.Touch.{HasRowOf, MayReach, Touches};
 ghost use Rattle.occurrences.specs.Place.{IsOpen};
 ghost use Rattle.external_dependencies.specs.declared.links.Link.{Link as LinkValue};
 ghost use Rattle.external_dependencies.specs.declared.pairs.Pair.{Pair as PairValue};
@@ -15,8 +15,8 @@ use crate::links::Links;
 use crate::pairs::{Pairs, resolve_some};
 use crate::reach::Reach;
 use crate::rows::{PlacedRow, Rows};
-use crate::touch::Touch;
-use occurrences::Serial;
+use crate::touch::{Touch, row_serials};
+use occurrences::{Row, Serial};
 use std::alloc::{AllocError, Global};
 
 /// What leads from the pairs before a change to those after it: exactly the difference. `touch` names all that the
@@ -70,13 +70,12 @@ fn is_asked(placed: &PlacedRow, links: &Links, reach: &Reach) -> bool
     placed.place.is_open() && reach.has(links, &placed.row)
 }
 
-// The serials of these rows, and these serials.
-fn serials_of(alloc: Global, rows: &[PlacedRow], more: &[Serial]) -> Result<Vec<Serial>, AllocError>
+// The serials of these rows, and of those.
+fn serials_of(alloc: Global, rows: &[PlacedRow], more: &[Row]) -> Result<Vec<Serial>, AllocError>
     ensures { IfOk result (λ serials. (serial : ℕ) → Contains serials.items serial
-        ↔ (HasSerialOf rows.now serial ⊎ Contains more.now serial)) }
+        ↔ (HasSerialOf rows.now serial ⊎ HasRowOf more.now serial)) }
 {
-    let mut serials = Vec::with_capacity(alloc, rows.len())?;
-    serials.extend_from_slice(more)?;
+    let mut serials = row_serials(alloc, more)?;
     for placed in rows {
         serials.push(placed.row.serial)?;
     }

@@ -1,36 +1,23 @@
-ghost use Rattle.std.specs.Prelude.{◌≡◌, []};
+ghost use Rattle.std.specs.Prelude.{◌≡◌, [], IfOk, map};
+ghost use Rattle.occurrences.specs.declared.row.Row.{Row as RowValue};
 
-use occurrences::Serial;
-use std::alloc::Global;
-use work_calendars::{App, Moment};
-
-/// A stretch of time in which occurrences of an application came or went.
-#[derive(Clone, Copy, Debug, PartialEq, Eq, Hash)]
-pub struct Stretch {
-    /// The application.
-    pub app: App,
-    /// At or before the first arrival that came or went.
-    pub first: Moment,
-    /// Where an occurrence of it arrives that is live before and after, later than what came or went; `None` where the
-    /// stretch has no end.
-    pub last: Option<Moment>,
-}
+use occurrences::{Row, Serial};
+use std::alloc::{AllocError, Global};
+use work_calendars::App;
 
 /// What a change touches. Each list is in any order.
 #[derive(Drop)]
 pub struct Touch {
     /// The occurrences that were made.
-    pub made: Vec<Serial>,
+    pub made: Vec<Row>,
     /// The occurrences that were withdrawn: they lived, and live no more.
-    pub withdrawn: Vec<Serial>,
+    pub withdrawn: Vec<Row>,
     /// The occurrences that were opened: they live on, and wait again.
     pub opened: Vec<Serial>,
     /// The occurrences that were closed: they live on, and wait no more. They keep the pairs that they had.
     pub closed: Vec<Serial>,
     /// The applications whose lists changed.
     pub lists: Vec<App>,
-    /// Where occurrences came or went.
-    pub stretches: Vec<Stretch>,
 }
 
 impl Touch {
@@ -41,7 +28,6 @@ impl Touch {
         ensures opened { result.opened.items ≡ [] }
         ensures closed { result.closed.items ≡ [] }
         ensures lists { result.lists.items ≡ [] }
-        ensures stretches { result.stretches.items ≡ [] }
     {
         Touch {
             made: Vec::new(alloc),
@@ -49,7 +35,14 @@ impl Touch {
             opened: Vec::new(alloc),
             closed: Vec::new(alloc),
             lists: Vec::new(alloc),
-            stretches: Vec::new(alloc),
         }
     }
+}
+
+// The serials of rows.
+pub(crate) fn row_serials(alloc: Global, rows: &[Row]) -> Result<Vec<Serial>, AllocError>
+    ensures { IfOk result (λ serials.
+        serials.items ≡ map (λ (row : RowValue). row.serial) rows.now) }
+{
+    rows.iter().map(|row| row.serial).collect(alloc)
 }

@@ -59,6 +59,6 @@ fn delete_row(alloc: Global, view: &View<'_>, row: &Row) -> Result<Verdict, Allo
         pairs,
         job: None,
     };
-    let serial = row.serial;
+    let serial = row.serial.get();
     Ok(Verdict::Done(change, Reply::Numbered { serial }))
 }

@@ -1,7 +1,6 @@
 ghost use Rattle.std.specs.Prelude.{◌≡◌, ◌≤◌, ◌↔◌, IsTrue};
 ghost use Rattle.occurrences.specs.Refusal.{refusal_number};
 
-use crate::serial::Serial;
 use thiserror::Error;
 use work_calendars::App;
 
@@ -64,10 +63,10 @@ pub enum Refusal {
     #[error("the status does not allow it")]
     StatusForbids,
     /// 30: a predecessor isn't complete, the least such serial.
-    #[error("predecessor {} is not complete", serial.get())]
+    #[error("predecessor {serial} is not complete")]
     PredecessorUncompleted {
-        /// The least serial of such a predecessor.
-        serial: Serial,
+        /// The number of the least serial of such a predecessor.
+        serial: u32,
     },
     /// 31: too many rows in the plans, or no serials left.
     #[error("too many rows, or no serials left")]

@@ -1,7 +1,7 @@
-use crate::serial::Serial;
 use crate::status::Status;
 
-/// What an accepted statement answers, one variant for each line that begins with `ok`.
+/// What an accepted statement answers, one variant for each line that begins with `ok`. A serial is its number here:
+/// a kept reply that is read back may show any number from 0 to 999,999,999.
 #[derive(Clone, Copy, Debug, PartialEq, Eq, Hash)]
 pub enum Reply {
     /// `ok defined N`: how many names a block gave.
@@ -20,13 +20,13 @@ pub enum Reply {
     },
     /// `ok serial S`: the occurrence that was added to a plan, or deleted from the long-term plan.
     Numbered {
-        /// Its serial.
-        serial: Serial,
+        /// The number of its serial.
+        serial: u32,
     },
     /// `ok serial S status X`: an occurrence of the current plan, and the status that it took.
     Changed {
-        /// Its serial.
-        serial: Serial,
+        /// The number of its serial.
+        serial: u32,
         /// Its status from now on.
         status: Status,
     },

@@ -26,3 +26,10 @@ keeps_answers left.Replaced = false
 keeps_answers left.ReplacedBesideLog = false
 keeps_answers left.Cut = false
 keeps_answers _ = true
+
+-- whether FILE and FILE-wal are said to have all that was written
+abbrev pub has_all : Ending → Bool
+has_all left.Whole = true
+has_all left.OtherLog = true
+has_all left.LogStands = true
+has_all _ = false

@@ -1,13 +1,13 @@
 //! How the files of a run were left, as it is told.
 
 ghost use Rattle.std.specs.Prelude.{◌≡◌, ◌↔◌, false, true};
-ghost use Rattle.plan_store.specs.declared.stores.StoreFault.TheVariants.{Device, Memory};
-ghost use Rattle.opcplan.specs.Endings.{ending_of, keeps_answers};
-ghost use Rattle.opcplan.specs.declared.endings.Closed.TheVariants.{Failed, NoMemory};
+ghost use Rattle.file_closing.specs.declared.copying.CopyFault.TheVariants.{Device, Memory};
+ghost use Rattle.opcplan.specs.Endings.{ending_of, has_all, keeps_answers};
+ghost use Rattle.opcplan.specs.declared.endings.Closed.TheVariants.{Failed, LogCut, NoMemory};
 ghost use Rattle.opcplan.specs.declared.looks.Fate.TheVariants.{Same};
 
 use crate::looks::Fate;
-use plan_store::StoreFault;
+use file_closing::CopyFault;
 
 /// How files were closed.
 #[derive(Clone, Copy, Debug, PartialEq, Eq)]
@@ -18,18 +18,28 @@ pub enum Closed {
     NoMemory,
     /// It was not, since the device failed.
     Failed,
+    /// Somebody cut the log before, so what it had is copied in part, if at all.
+    LogCut,
 }
 
 impl Closed {
     /// How files were closed where that failed for this.
-    pub fn after(fault: StoreFault) -> Closed
+    pub fn after(fault: CopyFault) -> Closed
         ensures memory { fault ≡ Memory → result ≡ NoMemory }
         ensures device { fault ≡ Device → result ≡ Failed }
     {
         match fault {
-            StoreFault::Memory => Closed::NoMemory,
-            StoreFault::Device => Closed::Failed,
+            CopyFault::Memory => Closed::NoMemory,
+            CopyFault::Device => Closed::Failed,
         }
+    }
+
+    /// The same of files whose log was cut or not.
+    pub fn with_log(self, was_cut: bool) -> Closed
+        ensures cut { was_cut ≡ true → result ≡ LogCut }
+        ensures whole { was_cut ≡ false → result ≡ self }
+    {
+        if was_cut { Closed::LogCut } else { self }
     }
 }
 
@@ -58,6 +68,7 @@ pub enum Ending {
 /// were closed. What holds of several is told of the first.
 pub fn ending_by(file: Fate, is_cut: bool, log: Fate, closed: Closed) -> Ending
     ensures ending { result ≡ ending_of file is_cut log closed }
+    ensures all { closed ≡ LogCut → has_all result ≡ false }
     ensures kept { (keeps_answers result ≡ true) ↔ ((file ≡ Same) × (is_cut ≡ false)) }
 {
     match file {
@@ -71,7 +82,8 @@ pub fn ending_by(file: Fate, is_cut: bool, log: Fate, closed: Closed) -> Ending
 
 /// The same of files of which FILE stands as it should.
 fn ending_of_log(log: Fate, closed: Closed) -> Ending
-    ensures { result ≡ ending_of Same false log closed }
+    ensures ending { result ≡ ending_of Same false log closed }
+    ensures all { closed ≡ LogCut → has_all result ≡ false }
 {
     match (closed, log) {
         (Closed::Whole, Fate::Other) => Ending::OtherLog,

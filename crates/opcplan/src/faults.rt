@@ -20,10 +20,15 @@ pub fn tell_so<R: Print + Eprint>(rt: &R, number: u8, meaning: &str) -> u8 {
     FAILED
 }
 
-/// Says on standard error what ended a run, if a fault did. No memory is taken.
-pub fn explain(rt: &impl Eprint, outcome: &Result<Tally, RunFault>) {
+/// Says on standard error what ended a run, if a fault did. Of a store that is not known to be whole it says that the next
+/// statement may stand too. No memory is taken.
+pub fn explain(rt: &impl Eprint, outcome: &Result<Tally, RunFault>, is_whole: bool) {
     if let Err(fault) = outcome {
-        let _ = rt.eprintln(meaning(fault));
+        let _ = rt.eprintln(if is_whole {
+            meaning(fault)
+        } else {
+            meaning_in_doubt(fault)
+        });
     }
 }
 
@@ -40,6 +45,22 @@ fn meaning_before_run(number: u8) -> &'static str {
     }
 }
 
+/// What a fault means that ended a run over a store that is not known to be whole.
+fn meaning_in_doubt(fault: &RunFault) -> &'static str {
+    match fault {
+        RunFault::Memory { .. } => {
+            "opcplan: fault 40: memory was refused; what was answered stands, or that and the next statement. Run the whole stream again"
+        }
+        RunFault::Device {
+            part: Part::Reader,
+            ..
+        } => {
+            "opcplan: fault 41: standard input failed; what was answered stands, or that and the next statement. Run the whole stream again"
+        }
+        _ => meaning(fault),
+    }
+}
+
 /// What a fault that ended a run means.
 fn meaning(fault: &RunFault) -> &'static str {
     match fault {
@@ -48,7 +69,7 @@ fn meaning(fault: &RunFault) -> &'static str {
         }
         RunFault::Device { part, .. } => match part {
             Part::Store => {
-                "opcplan: fault 41: the plan's disk failed, or an index or row of yours in FILE leaves no room for a row (docs/REFUSALS.md); what was answered stands. Run the whole stream again once that is mended"
+                "opcplan: fault 41: the plan's disk failed, or an index or row of yours in FILE leaves no room for a row (docs/rules/REFUSALS.md); what was answered stands. Run the whole stream again once that is mended"
             }
             Part::Reader => {
                 "opcplan: fault 41: standard input failed; what was answered stands. Run the whole stream again"

@@ -1,6 +1,6 @@
 //! What stands at a name, and what became of it.
 
-ghost use Rattle.std.specs.Prelude.{◌≡◌, ◌*◌, ◌↔◌, IsTrue};
+ghost use Rattle.std.specs.Prelude.{◌≡◌, ◌*◌, ◌↔◌, ◌<◌, ◌⊎◌, IsTrue, max};
 ghost use Rattle.opcplan.specs.Looks.{IsFate, IsShorter, LacksPages, page_count, page_size};
 
 /// A file, whatever its name.
@@ -62,6 +62,28 @@ pub fn lacks_pages(now: Look, pages: u64) -> bool
     match now {
         Look::File(_, found) => found < pages,
         _ => false,
+    }
+}
+
+/// What was seen of the length of a file that grows while it is used.
+#[derive(Clone, Copy, Debug, PartialEq, Eq)]
+pub struct Growth {
+    /// The most bytes that it had.
+    pub longest: u64,
+    /// Whether it had fewer bytes at some look than at one before.
+    pub was_cut: bool,
+}
+
+impl Growth {
+    /// The same after one more look, at which it has so many bytes.
+    pub fn seen(self, bytes: u64) -> Growth
+        ensures longest { result.longest ≡ max self.longest bytes }
+        ensures cut { IsTrue result.was_cut ↔ (IsTrue self.was_cut ⊎ (bytes < self.longest)) }
+    {
+        Growth {
+            longest: self.longest.max(bytes),
+            was_cut: self.was_cut || bytes < self.longest,
+        }
     }
 }
 

@@ -72,11 +72,12 @@ fn run_over_file<R: Read, W: Write>(
         writer,
     ) {
         Ok(ended) => {
-            let closed = match &ended.files {
-                Ok(_) => Closed::Whole,
-                Err((fault, _left)) => Closed::after(*fault),
+            let closed = match ended.let_go.copied {
+                Ok(()) => Closed::Whole,
+                Err(fault) => Closed::after(fault),
             };
-            tell_ending(rt, reader.get_ref().watch.ending(closed), &ended.outcome);
+            let ending = reader.get_ref().watch.ending(closed);
+            tell_ending(rt, ending, &ended.outcome, ended.is_whole);
             exit_status(&ended.outcome)
         }
         Err((fault, left, error)) => tell_refusal(rt, file, fault, &left, &error),
@@ -85,9 +86,14 @@ fn run_over_file<R: Read, W: Write>(
 
 /// Says on standard error what ended a run, if a fault did and what was answered stands, and how the files were left. No
 /// memory is taken.
-fn tell_ending(rt: &impl Eprint, ending: Ending, outcome: &Result<Tally, RunFault>) {
+fn tell_ending(
+    rt: &impl Eprint,
+    ending: Ending,
+    outcome: &Result<Tally, RunFault>,
+    is_whole: bool,
+) {
     if ending.keeps_answers() {
-        explain(rt, outcome);
+        explain(rt, outcome, is_whole);
     }
     if let Some(words) = ending.words() {
         let _ = rt.eprintln(words);

@@ -17,6 +17,6 @@ pub fn answer_over_lists<R: AllocGlobal + Input + Print + Eprint>(rt: &R, is_typ
         return tell(rt, MEMORY);
     };
     let outcome = run_lists(alloc, &mut reader, &mut writer);
-    explain(rt, &outcome);
+    explain(rt, &outcome, true);
     exit_status(&outcome)
 }

@@ -3,15 +3,15 @@
 ghost use Rattle.std.specs.Prelude.{◌≡◌, IsTrue, false};
 ghost use Rattle.std.specs.Io.{ReadsAtMost};
 ghost use Rattle.std.specs.Io.KnownBytes.{ReadConsumes};
-ghost use Rattle.opcplan.specs.Endings.{keeps_answers};
+ghost use Rattle.opcplan.specs.Endings.{has_all, keeps_answers};
 
 use crate::endings::{Closed, Ending, ending_by};
-use crate::looks::{Inode, Look, bytes_of_pages, fate_between, is_shorter, lacks_pages};
+use crate::looks::{Growth, Inode, Look, bytes_of_pages, fate_between, is_shorter, lacks_pages};
 use std::fs::{self, File, Files};
 use std::io::{self, ErrorKind, Read};
 use std::os::unix::fs::MetadataExt;
 
-/// What stood at FILE and FILE-wal as a run began, and whether FILE was cut since.
+/// What was at FILE and FILE-wal when a run began, and whether either was cut since.
 #[derive(Drop)]
 pub struct Watch<'a> {
     rt: &'a HostRuntime,
@@ -21,6 +21,8 @@ pub struct Watch<'a> {
     file: Look,
     log: Look,
     was_cut: bool,
+    log_file: Option<File>,
+    log_growth: Growth,
 }
 
 impl<'a> Watch<'a> {
@@ -34,18 +36,46 @@ impl<'a> Watch<'a> {
             file: Look::Untold,
             log: Look::Untold,
             was_cut: false,
+            log_file: None,
+            log_growth: Growth {
+                longest: 0,
+                was_cut: false,
+            },
         }
     }
 
     /// Looks at both files for the first time. They are open then.
     fn begin(&mut self)
-        ensures { self.new.was_cut ≡ self.old.was_cut }
+        ensures file { self.new.was_cut ≡ self.old.was_cut }
+        ensures log { self.new.log_growth ≡ self.old.log_growth }
     {
         self.has_begun = true;
         self.file = look(self.rt, self.path);
         if let Ok(path) = path_of_log(self.rt, self.path) {
             self.log = look(self.rt, path.as_str());
+            self.log_file = File::open(self.rt, path.as_str()).ok();
             self.log_path = Some(path);
+        }
+    }
+
+    /// How many bytes the log has that was opened, whatever has its name now; none where the system doesn't say.
+    fn bytes_of_log(&self) -> Option<u64> {
+        match &self.log_file {
+            Some(file) => match file.metadata() {
+                Ok(found) => Some(found.len()),
+                Err(_) => None,
+            },
+            None => None,
+        }
+    }
+
+    /// Looks whether the log was cut: while a run goes on it only grows, and is emptied in its place where it is long.
+    fn look_at_log(&mut self)
+        ensures file { self.new.was_cut ≡ self.old.was_cut }
+        ensures remembered { IsTrue self.old.log_growth.was_cut → IsTrue self.new.log_growth.was_cut }
+    {
+        if let Some(bytes) = self.bytes_of_log() {
+            self.log_growth = self.log_growth.seen(bytes);
         }
     }
 
@@ -54,18 +84,22 @@ impl<'a> Watch<'a> {
         is_shorter(self.file, now) && lacks_pages(now, pages_of(self.rt, self.path))
     }
 
-    /// Looks whether FILE was cut: a run that ends well copies its log into FILE, which has its length again then.
+    /// Looks whether FILE or its log was cut: a run that ends well copies its log into FILE, which has its length again
+    /// then, and empties it.
     fn look_again(&mut self)
         ensures remembered { IsTrue self.old.was_cut → IsTrue self.new.was_cut }
+        ensures log { IsTrue self.old.log_growth.was_cut → IsTrue self.new.log_growth.was_cut }
     {
         if self.is_cut(look(self.rt, self.path)) {
             self.was_cut = true;
         }
+        self.look_at_log();
     }
 
     /// How the files were left, which have to be open still, so that no other file has the inode of one.
     pub fn ending(&self, closed: Closed) -> Ending
         ensures cut { IsTrue self.now.was_cut → keeps_answers result ≡ false }
+        ensures log { IsTrue self.now.log_growth.was_cut → has_all result ≡ false }
     {
         let file = look(self.rt, self.path);
         let log = match &self.log_path {
@@ -76,12 +110,12 @@ impl<'a> Watch<'a> {
             fate_between(self.file, file),
             self.was_cut || self.is_cut(file),
             fate_between(self.log, log),
-            closed,
+            closed.with_log(self.log_growth.was_cut),
         )
     }
 }
 
-/// What reads a stream, and looks at the files of its run before the first read and after each.
+/// A reader of a stream that looks at the files of its run before each read and after it.
 #[derive(Drop)]
 pub struct Watched<'a, R> {
     reader: R,
@@ -104,10 +138,12 @@ impl<R: Read> Read for Watched<'_, R> {
         ensures bytes { ReadConsumes (R.remaining self.old.reader) (R.remaining self.new.reader)
             result buf.new }
         ensures remembered { IsTrue self.old.watch.was_cut → IsTrue self.new.watch.was_cut }
+        ensures log { IsTrue self.old.watch.log_growth.was_cut → IsTrue self.new.watch.log_growth.was_cut }
     {
         if !self.watch.has_begun {
             self.watch.begin();
         }
+        self.watch.look_at_log();
         let taken = self.reader.read(buf);
         self.watch.look_again();
         taken

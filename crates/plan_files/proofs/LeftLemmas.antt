@@ -1,6 +1,6 @@
 -- What a store that is let go leaves in its files.
-use Rattle.std.proofs.Common.{◌≡◌, ◌⊎◌, IsTrue, refl, subst, sym}
-use Rattle.std.proofs.Math.Logic.{∥∥₁_elim, ∥∥₁_map}
+use Rattle.std.proofs.Common.{IsTrue}
+use Rattle.std.proofs.Math.Logic.{∥∥₁_map}
 use Rattle.sqlite.proofs.Theorems.{opens_again}
 use Rattle.sqlite.specs.Held.{AreDatabases}
 use Rattle.sqlite.specs.State.{State}
@@ -10,8 +10,8 @@ use Rattle.sqlite_store.specs.FileStore as files
 use Rattle.sqlite_store.specs.declared.store.FileStore.{FileStore}
 use Rattle.sqlite_wal.specs.Recovery.{Image}
 use Rattle.planner_machine.specs.Content.{Content}
-use Rattle.plan_tables.specs.Found.{KeepsAlone, TellsLeft}
-use Rattle.plan_files.specs.Left.{HoldsLedAlone, HoldsSuch, TellsLed}
+use Rattle.plan_tables.specs.Found.{TellsLeft}
+use Rattle.plan_files.specs.Left.{HoldsSuch, TellsLed}
 
 -- what a crash may leave is led to
 pub led_both : (s : State) (Led : Content → Type 0) → ((db : Trees) (told : TellsLeft s db) → Led told.content)
@@ -22,17 +22,6 @@ led_both s Led leads db tells = record {
   told = tells.told;
   rowids = tells.rowids;
   led = leads db tells;
-}
-
-pub led_alone : (image : Image) (s : State) (Led : Content → Type 0)
-    → ((db : Trees) (told : TellsLeft s db) → Led told.content) → KeepsAlone image s → HoldsLedAlone image Led
-led_alone image s Led leads kept = record {
-  held = record {
-    db = kept.db;
-    both = kept.both;
-    tells = led_both s Led leads kept.db kept.tells;
-  };
-  alone = kept.alone;
 }
 
 -- whatever a crash left of files that were refused, they hold a database

@@ -1,5 +1,5 @@
 -- Files whose plan was of schema 1, and files over which no stream is run.
-use Rattle.std.proofs.Common.{◌≡◌, ◌⊎◌, ◌∙◌, Some, ap, arith, inl, inr, length, refl, slice_get, subst, sym}
+use Rattle.std.proofs.Common.{◌≡◌, ◌⊎◌, ◌∙◌, Some, ap, arith, inl, inr, length, slice_get, subst, sym}
 use Rattle.sqlite.specs.Change.{KeepsRows}
 use Rattle.sqlite.specs.Effect.{Database}
 use Rattle.sqlite.specs.Files.{AreFoundIn}
@@ -17,7 +17,7 @@ use Rattle.table_schema.specs.declared.tables.Table.TheVariants.{Predecessor}
 use Rattle.table_remaking.specs.FirstSchema.{HasFirstTables, first_table_at}
 use Rattle.table_reading.specs.Reading.{HasPlan}
 use Rattle.table_opening.specs.Held.{HoldSound, HoldsPlan}
-use Rattle.table_opening.specs.Opened.{HasRoom, IsToldBy, MakesFirst}
+use Rattle.table_opening.specs.Opened.{IsToldBy, MakesFirst}
 use Rattle.table_opening.proofs.OpeningLemmas.{room_has_none}
 use Rattle.plan_migrations.specs.Migrating.{IsRenewed, MayRenew}
 use Rattle.plan_tables.specs.Found.{IsFoundIn}
@@ -91,7 +91,7 @@ spared s law db (inl may) = inl (law db may)
 spared s law db (inr new) = inr new
 
 -- tables of the current schema and of schema 1 don't stand in one schema
-never_both : (s : Schema) → HasTables s → HasFirstTables s → ⊥
+pub never_both : (s : Schema) → HasTables s → HasFirstTables s → ⊥
 never_both s has first =
     let one : Some (has.at Predecessor) ≡ Some (first.at Predecessor) =
     sym (has.stands Predecessor).named ∙ (first.stands Predecessor).named in

@@ -1,14 +1,18 @@
 -- What a run over files leaves in them.
 use Rattle.std.proofs.Common.{◌≡◌, ℕ, arith, refl, subst, sym}
-use Rattle.std.proofs.Math.Logic.{∥∥₁_map}
-use Rattle.std.specs.Prelude.{Bool, Err, IfErr, IfOk, Ok, OnOk, Result, false, true}
-use Rattle.sqlite.specs.State.{HasCleanDisk, State}
+use Rattle.std.proofs.Math.Logic.{∥∥₁_elim, ∥∥₁_map}
+use Rattle.std.proofs.lemmas.Bool.{both_ways}
+use Rattle.std.specs.Prelude.{Bool, Err, IfErr, IfOk, IsTrue, Ok, OnOk, Result, false, true}
+use Rattle.sqlite.specs.Files.{file_state, over_files}
+use Rattle.sqlite.specs.Held.{Held}
+use Rattle.sqlite.specs.State.{HasCleanDisk, IsLive, State}
 use Rattle.sqlite.specs.Tree.{Trees}
 use Rattle.sqlite_disk.specs.declared.Disk as disk
-use Rattle.sqlite_store.specs.FileStore.{recovers, view}
-use Rattle.sqlite_trees.specs.View.{IsClean, doubt}
+use Rattle.sqlite_store.specs.Laws.{settled_at}
+use Rattle.sqlite_store.specs.declared.store.FileStore.{FileStore}
+use Rattle.sqlite_trees.specs.View.{doubt}
+use Rattle.sqlite_wal.proofs.LogLemmas.{SeenMayStay}
 use Rattle.sqlite_wal.specs.Files.{outcomes}
-use Rattle.sqlite_wal.specs.Reads.{AreClean}
 use Rattle.sqlite_wal.specs.Recovery.{Image}
 use Rattle.planner_machine.specs.Content.{Content}
 use Rattle.planner_machine.specs.Sound.{IsSound}
@@ -19,12 +23,18 @@ use Rattle.planner_cli.specs.Runs.{Ends, with_last}
 use Rattle.planner_cli.specs.Stores.{LeavesOnly}
 use Rattle.planner_cli.specs.declared.faults.RunFault.{RunFault}
 use Rattle.planner_cli.specs.declared.tally.Tally.{Tally}
-use Rattle.plan_tables.specs.Found.{KeepsAlone, TellsLeft}
-use Rattle.plan_tables.specs.Stored.{MayLeave, TellsSound}
+use Rattle.file_closing.specs.Closing.{HoldsLeft, HoldsLeftAlone}
+use Rattle.file_closing.specs.declared.closing.LetGo.{LetGo}
+use Rattle.table_schema.specs.Rows.{tables_of}
+use Rattle.table_facts.specs.Content.{HaveOneContent}
+use Rattle.table_opening.specs.Opened.{IsStored}
+use Rattle.plan_tables.specs.Found.{Tells, TellsLeft}
+use Rattle.plan_tables.proofs.FoundLemmas.{tells_kept}
+use Rattle.plan_tables.specs.Stored.{LeavesSound, MayLeave, TellsSound}
 use Rattle.plan_files.specs.FileRuns.{Leaves}
-use Rattle.plan_files.specs.Left.{HoldsLedAlone, TellsLed}
-use Rattle.plan_files.specs.Over.{AreHonest, LetGo, RunsFiles}
-use Rattle.plan_files.proofs.LeftLemmas.{led_alone, led_both}
+use Rattle.plan_files.specs.Left.{HoldsLed, HoldsLedAlone, TellsLed}
+use Rattle.plan_files.specs.Over.{AreHonest, RunsFiles}
+use Rattle.plan_files.proofs.LeftLemmas.{led_both}
 
 abbrev may : State → Content → Type 0
 may s c = HasCleanDisk s × MayLeave s c
@@ -46,28 +56,43 @@ tells_left s db left tells = record {
   rowids = tells.3;
 }
 
-module _ {D : Type 0} {g : disk.Ghosts D} (now : State) (Led : Content → Type 0)
-    (led : HasCleanDisk now → (db : Trees) (told : TellsLeft now db) → Led told.content) where
-  pub honest_led : (files : LetGo g) → IfOk files (λ both. AreClean g both.log both.db → HasCleanDisk now)
-      → IfErr files (λ it. IsClean (view it.1) → HasCleanDisk now) → AreHonest g files → HasCleanDisk now
-  honest_led (Ok both) closed stands clean = closed clean
-  honest_led (Err it) closed stands clean = stands clean
+module _ (now : State) (Led : Content → Type 0)
+    (led : HasCleanDisk now → (db : Trees) (told : TellsLeft now db) → Led told.content)
+    (told : ∥ (HasCleanDisk now → LeavesSound now) ∥₁) where
+  tells_led : HasCleanDisk now → (db : Trees) → now.may_leave db → ∥ TellsLed Led db ∥₁
+  tells_led clean db may = ∥∥₁_elim told squash₁ (λ h. ∥∥₁_map (h clean db may) (λ tells.
+      led_both now Led (led clean) db (tells_left now db may tells)))
 
-  pub closed_led : (files : LetGo g) → IfOk files (λ both. AreClean g both.log both.db → HasCleanDisk now)
-      → IfOk files (λ both. AreClean g both.log both.db → (left : Image) → outcomes g both.log both.db left
-      → ∥ KeepsAlone left now ∥₁)
-      → IfOk files (λ both. AreClean g both.log both.db → (left : Image) → outcomes g both.log both.db left
-      → ∥ HoldsLedAlone left Led ∥₁)
-  closed_led (Ok both) honest kept = λ clean left out. ∥∥₁_map (kept clean left out) (led_alone left now Led (led (honest clean)))
-  closed_led (Err it) honest kept = tt
+  pub holds_led : (left : Image) → HasCleanDisk now → HoldsLeft left now → ∥ HoldsLed left Led ∥₁
+  holds_led left clean held = ∥∥₁_map (tells_led clean held.db held.may) (λ tells. record {
+    db = held.db;
+    both = held.both;
+    tells = tells;
+  })
 
-  pub stands_led : (files : LetGo g) → IfErr files (λ it. IsClean (view it.1) → HasCleanDisk now)
-      → IfErr files (λ it. (db : Trees) → recovers it.1 db → now.may_leave db)
-      → IfErr files (λ it. IsClean (view it.1) → (db : Trees) → recovers it.1 db → ∥ TellsSound db ∥₁)
-      → IfErr files (λ it. IsClean (view it.1) → (db : Trees) → recovers it.1 db → ∥ TellsLed Led db ∥₁)
-  stands_led (Ok both) honest stays told = tt
-  stands_led (Err it) honest stays told = λ clean db found. ∥∥₁_map (told clean db found) (λ tells.
-      led_both now Led (led (honest clean)) db (tells_left now db (stays db found) tells))
+  pub holds_alone : (left : Image) → HasCleanDisk now → HoldsLeftAlone left now → ∥ HoldsLedAlone left Led ∥₁
+  holds_alone left clean held = ∥∥₁_map (tells_led clean held.db held.may) (λ tells. record {
+    held = record { db = held.db; both = held.both; tells = tells };
+    alone = held.alone;
+  })
+
+-- the same, where that is told by what may not be named
+holds_so : (now : State) (Led : Content → Type 0)
+    → (HasCleanDisk now → (db : Trees) (told : TellsLeft now db) → ∥ Led told.content ∥₁)
+    → ∥ (HasCleanDisk now → LeavesSound now) ∥₁ → (left : Image) → HasCleanDisk now → HoldsLeft left now
+    → ∥ HoldsLed left Led ∥₁
+holds_so now Led led told left clean held =
+    ∥∥₁_elim told squash₁ (λ h. ∥∥₁_elim (h clean held.db held.may) squash₁ (λ tells.
+    let it = tells_left now held.db held.may tells in
+    ∥∥₁_map (led clean held.db it) (λ is. record {
+      db = held.db;
+      both = held.both;
+      tells = record { content = it.content; sound = it.sound; told = it.told; rowids = it.rowids; led = is };
+    })))
+
+on_ok : {T E : Type 0} (r : Result T E) (P Q : Type 0) → (P → Q) → OnOk r P → OnOk r Q
+on_ok (Ok x) P Q f h = f h
+on_ok (Err e) P Q f h = tt
 
 -- ---- a run over a store that was honest, and whose disk did what it was told
 
@@ -79,6 +104,12 @@ module _ {S : Type 0} {is_honest : S → Type 0} {failures : S → ℕ} {may_lea
       → is_honest before → is_clean now → IfOk outcome (RanPlan ends)
   ran_honest (Ok tally) runs honest clean = runs.ran (runs.stays_honest honest clean tt)
   ran_honest (Err fault) runs honest clean = tt
+
+  -- and where it is honest, the same holds of what it keeps after a fault
+  pub still_honest : (outcome : Result Tally RunFault)
+      → RunsPlan is_honest failures may_leave is_clean is_whole before now ends outcome
+      → is_honest now → IfErr outcome (StoppedPlan ends)
+  still_honest outcome runs honest = runs.fault honest
 
   pub settled_honest : (outcome : Result Tally RunFault)
       → RunsPlan is_honest failures may_leave is_clean is_whole before now ends outcome
@@ -118,57 +149,112 @@ crashed_with ends last fault left h = record {
   leads = h.leads;
 }
 
--- a run and the closing of its store: the content after it is what the store has, or after a fault what such a run may
--- leave
-module _ {D : Type 0} {g : disk.Ghosts D} (ends : Ends) (now : State) (files : LetGo g)
-    (honest : IfOk files (λ both. AreClean g both.log both.db → HasCleanDisk now))
-    (holds : IfOk files (λ both. AreClean g both.log both.db → (left : Image) → outcomes g both.log both.db left
-    → ∥ KeepsAlone left now ∥₁))
-    (still_honest : IfErr files (λ it. IsClean (view it.1) → HasCleanDisk now))
-    (stays : IfErr files (λ it. (db : Trees) → recovers it.1 db → now.may_leave db))
-    (plans : IfErr files (λ it. IsClean (view it.1) → (db : Trees) → recovers it.1 db → ∥ TellsSound db ∥₁)) where
-  ends_clean : AreHonest g files → HasCleanDisk now
-  ends_clean = honest_led now (λ _. HasCleanDisk now) (λ clean db told. clean) files honest still_honest
+-- where each database that a crash may leave tells one content, it has no other
+kept_so : (ends : Ends) (now : State) → HaveOneContent → ((db : Trees) → now.may_leave db → ∥ Tells db ends.after ∥₁)
+    → (db : Trees) (told : TellsLeft now db) → ∥ (told.content ≡ ends.after) ∥₁
+kept_so ends now one tell db told =
+    ∥∥₁_map (tell db told.left) (λ tells. one (tables_of db) told.content ends.after told.told.content tells.content)
 
+-- what is said of a connection that was let go, is said of the same one
+pub let_go_of : {D : Type 0} {g : disk.Ghosts D} (held own : Held (FileStore D g)) → held ≡ own → (go : LetGo D)
+    → (AreHonest g go.files → HasCleanDisk (file_state held))
+    → (AreHonest g go.files → (left : Image) → outcomes g go.files.log go.files.db left → ∥ HoldsLeft left (file_state held) ∥₁)
+    → OnOk go.copied (AreHonest g go.files → (left : Image) → outcomes g go.files.log go.files.db left
+    → ∥ HoldsLeftAlone left (file_state held) ∥₁)
+    → (let r : Type 0 = (AreHonest g go.files → HasCleanDisk (file_state own))
+    × ((AreHonest g go.files → (left : Image) → outcomes g go.files.log go.files.db left → ∥ HoldsLeft left (file_state own) ∥₁)
+    × OnOk go.copied (AreHonest g go.files → (left : Image) → outcomes g go.files.log go.files.db left
+    → ∥ HoldsLeftAlone left (file_state own) ∥₁)) in r)
+let_go_of {D} {g} held own same go honest holds alone =
+    subst (λ (x : Held (FileStore D g)). (let r : Type 0 = (AreHonest g go.files → HasCleanDisk (file_state x))
+    × ((AreHonest g go.files → (left : Image) → outcomes g go.files.log go.files.db left → ∥ HoldsLeft left (file_state x) ∥₁)
+    × OnOk go.copied (AreHonest g go.files → (left : Image) → outcomes g go.files.log go.files.db left
+    → ∥ HoldsLeftAlone left (file_state x) ∥₁)) in r)) same (honest, (holds, alone))
+
+-- a run and the letting go of its files: the content after it is what the store has, or after a fault what such a run may
+-- leave
+module _ {D : Type 0} {g : disk.Ghosts D} (ends : Ends) (now : State) (is_whole : Bool) (go : LetGo D)
+    (known : IsTrue is_whole → AreHonest g go.files → IsTrue now.is_open × ((db : Trees) → now.may_leave db → ∥ Tells db ends.after ∥₁))
+    (one : HaveOneContent)
+    (honest : AreHonest g go.files → HasCleanDisk now)
+    (holds : AreHonest g go.files → (left : Image) → outcomes g go.files.log go.files.db left → ∥ HoldsLeft left now ∥₁)
+    (alone : OnOk go.copied (AreHonest g go.files → (left : Image) → outcomes g go.files.log go.files.db left
+    → ∥ HoldsLeftAlone left now ∥₁))
+    (told : ∥ (HasCleanDisk now → LeavesSound now) ∥₁) where
   runs_so : (outcome : Result Tally RunFault) (after : Content)
       → (HasCleanDisk now → IfOk outcome (RanPlan (with_last ends after)))
       → (HasCleanDisk now → IfErr outcome (StoppedPlan (with_last ends after)))
       → (HasCleanDisk now → (db : Trees) (told : TellsLeft now db) → Leaves (with_last ends after) outcome told.content)
-      → RunsFiles {D = D} {g = g} (with_last ends after) outcome files
-  runs_so outcome after ran fault led = record {
-    ran = λ clean. ran (ends_clean clean);
-    fault = λ clean. fault (ends_clean clean);
-    closed = closed_led now (Leaves (with_last ends after) outcome) led files honest holds;
-    stands = stands_led now (Leaves (with_last ends after) outcome) led files still_honest stays plans;
-  }
+      → (IsTrue is_whole → AreHonest g go.files → HasCleanDisk now → (db : Trees) (told : TellsLeft now db) → ∥ (told.content ≡ after) ∥₁)
+      → RunsFiles g (with_last ends after) outcome is_whole go
+  runs_so outcome after ran fault led same =
+      let Led = Leaves (with_last ends after) outcome in
+      record {
+        ran = λ clean. ran (honest clean);
+        fault = λ clean. fault (honest clean);
+        holds = λ clean left out. ∥∥₁_elim (holds clean left out) squash₁ (holds_led now Led led told left (honest clean));
+        settled = λ whole clean left out. ∥∥₁_elim (holds clean left out) squash₁ (λ held.
+            holds_so now (λ c. c ≡ after) (same whole clean) told left (honest clean) held);
+        alone = on_ok go.copied _ _ (λ h clean left out.
+            ∥∥₁_elim (h clean left out) squash₁ (holds_alone now Led led told left (honest clean))) alone;
+      }
 
-  stopped_so : (fault : RunFault)
+  stopped_so : (fault : RunFault) → now.is_open ≡ false
       → (HasCleanDisk now → (last : Content) × StoppedPlan (with_last ends last) fault)
       → (HasCleanDisk now → (left : Content) → may now left → CrashedPlan ends fault left)
       → (is_clean : Bool) → is_clean ≡ now.is_clean
-      → (after : Content) × RunsFiles {D = D} {g = g} (with_last ends after) (Err fault) files
-  stopped_so fault stopped crash true is =
+      → (after : Content) × RunsFiles g (with_last ends after) (Err fault) is_whole go
+  stopped_so fault shut stopped crash true is =
       let clean : HasCleanDisk now = subst (λ b. doubt b ≡ 0) is doubtless in
       let (last, plan) = stopped clean in (
         last,
         runs_so (Err fault) last (λ clean. tt) (λ clean. plan)
             (λ clean. leaves (with_last ends last) (Err fault) now clean tt
-            (λ left may_be. crashed_with ends last fault left (crash clean left may_be))),
+            (λ left may_be. crashed_with ends last fault left (crash clean left may_be)))
+            (λ whole honest' clean db told. absurd (both_ways now.is_open shut (known whole honest').0)),
       )
-  stopped_so fault stopped crash false is =
+  stopped_so fault shut stopped crash false is =
       let never : HasCleanDisk now → ⊥ = λ clean. doubted (subst (λ b. doubt b ≡ 0) (sym is) clean) in (
         ends.after,
-        runs_so (Err fault) ends.after (λ clean. tt) (λ clean. absurd (never clean)) (λ clean. absurd (never clean)),
+        runs_so (Err fault) ends.after (λ clean. tt) (λ clean. absurd (never clean)) (λ clean. absurd (never clean))
+            (λ whole honest' clean. absurd (never clean)),
       )
+
+  ended_so : (fault : RunFault) → (HasCleanDisk now → IsTrue now.is_open → StoppedPlan ends fault)
+      → (HasCleanDisk now → (last : Content) × StoppedPlan (with_last ends last) fault)
+      → (HasCleanDisk now → (left : Content) → may now left → CrashedPlan ends fault left)
+      → (is_open : Bool) → is_open ≡ now.is_open
+      → (after : Content) × RunsFiles g (with_last ends after) (Err fault) is_whole go
+  ended_so fault still stopped crash true is = (
+    ends.after,
+    runs_so (Err fault) ends.after (λ clean. tt) (λ clean. still clean (sym is))
+        (λ clean. leaves ends (Err fault) now clean tt (crash clean))
+        (λ whole honest' clean. kept_so ends now one (known whole honest').1),
+  )
+  ended_so fault still stopped crash false is = stopped_so fault (sym is) stopped crash now.is_clean refl
 
   pub runs_files : (outcome : Result Tally RunFault)
       → (HasCleanDisk now → IfOk outcome (RanPlan ends))
+      → (HasCleanDisk now → IsTrue now.is_open → IfErr outcome (StoppedPlan ends))
       → (HasCleanDisk now → IfErr outcome (λ fault. (last : Content) × StoppedPlan (with_last ends last) fault))
       → (HasCleanDisk now → OnOk outcome (LeavesOnly (may now) ends.after))
       → (HasCleanDisk now → IfErr outcome (λ fault. (left : Content) → may now left → CrashedPlan ends fault left))
-      → (after : Content) × RunsFiles {D = D} {g = g} (with_last ends after) outcome files
-  runs_files (Ok tally) ran stopped settled crash = (
+      → (after : Content) × RunsFiles g (with_last ends after) outcome is_whole go
+  runs_files (Ok tally) ran still stopped settled crash = (
     ends.after,
-    runs_so (Ok tally) ends.after ran (λ clean. tt) (λ clean. leaves ends (Ok tally) now clean (settled clean) tt),
+    runs_so (Ok tally) ends.after ran (λ clean. tt) (λ clean. leaves ends (Ok tally) now clean (settled clean) tt)
+        (λ whole honest' clean. kept_so ends now one (known whole honest').1),
   )
-  runs_files (Err fault) ran stopped settled crash = stopped_so fault stopped crash now.is_clean refl
+  runs_files (Err fault) ran still stopped settled crash = ended_so fault still stopped crash now.is_open refl
+
+-- a store that counted no failure, and whose connection was open, kept this, and each database that a crash may leave of it
+-- tells it
+pub known_of : {D : Type 0} {g : disk.Ghosts D} (own held : Held (FileStore D g)) (k : Content) (failures : ℕ) → held ≡ own
+    → SeenMayStay g → failures ≡ 0
+    → ∥ (let r : Type 0 = failures ≡ 0 → HasCleanDisk (file_state own) → IsTrue (file_state own).is_open → IsStored (file_state own) k in r) ∥₁
+    → IsTrue (file_state own).is_open → HasCleanDisk (file_state held) → IsLive (file_state held)
+    → (db : Trees) → (file_state own).may_leave db → ∥ Tells db k ∥₁
+known_of {D} {g} own held k failures same stays none stored is_open clean live db may' =
+    tells_kept over_files (λ s. settled_at s stays) own held k failures same none
+    (∥∥₁_map stored (λ h none clean. h none clean is_open)) clean live db
+    (subst (λ (x : Held (FileStore D g)). (file_state x).may_leave db) (sym same) may')

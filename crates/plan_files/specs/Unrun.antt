@@ -1,5 +1,5 @@
 -- Why a stream is not run over files, and what they hold then.
-use Rattle.std.specs.Prelude.{◌≡◌, ◌⊎◌, Bool, true, false, IfSome, IsTrue, None, Option, ⊤}
+use Rattle.std.specs.Prelude.{◌≡◌, ◌⊎◌, Bool, true, false, IfSome, IsSome, IsTrue, None, Option, ⊤}
 use Rattle.sqlite.specs.Files.{IsCleanLeft, IsFullLeft, IsOpened, LeavesFiles, faults_left, faults_of, file_state}
 use Rattle.sqlite.specs.Files.{tally_left}
 use Rattle.sqlite.specs.Held.{Held, IsNew}
@@ -16,6 +16,8 @@ use Rattle.sqlite_trees.specs.View.{IsClean, IsQuiet}
 use Rattle.sqlite_wal.specs.Recovery.{Image}
 use Rattle.sqlite_store.specs.Report.{named}
 use Rattle.sqlite_wal.specs.Reads.{tally_of_files}
+use Rattle.sqlite.specs.declared.error.Error.{Error}
+use Rattle.table_opening.specs.Faults.{unopened_for}
 use Rattle.table_opening.specs.Files.{IsRefused, Refuses}
 use Rattle.table_opening.specs.Foreign.{version_sql}
 use Rattle.table_opening.specs.Held.{HoldsPlan}
@@ -122,7 +124,10 @@ pub record AreRefused {D : Type 0} {g : disk.Ghosts D} (IsFresh : Bool → D →
 -- no stream is run over the files at a path: there are none; they are refused; or the database that they hold is not that
 -- of a plan, or can't be made one
 pub record IsNotRun {D : Type 0} {g : disk.Ghosts D} (IsFresh : Bool → D → Type 0) (image : Image)
-    (fault : Unrun) (remains : Option (Leftover D g)) : Type 0 where
-  pub none : remains ≡ None → (fault ≡ Unopened open_fault.Memory) ⊎ (fault ≡ Unopened open_fault.Unopened)
+    (fault : Unrun) (remains : Option (Leftover D g)) (error : Option Error) : Type 0 where
+  -- where `sqlite` told an error, the fault is that of it
+  pub told : IfSome error (λ e. fault ≡ Unopened (unopened_for e))
+  -- and it told one where nothing is left
+  pub none : remains ≡ None → IsSome error × ((fault ≡ Unopened open_fault.Memory) ⊎ (fault ≡ Unopened open_fault.Unopened))
   pub some : IfSome remains (λ rest. AreRefused IsFresh image fault rest
       ⊎ ((store : FileStore D g) × (rest ≡ left.Store store) × HoldsNoPlan image fault store))

@@ -8,7 +8,7 @@ mod refusals;
 mod running;
 
 pub use life::{file_life, plan_life};
-pub use next::next_run;
+pub use next::{hands_on, next_run};
 pub use over_files::{Begun, Opening, run_over_connection, run_over_files};
 pub use refusals::Unrun;
 pub use running::Ended;

@@ -46,7 +46,7 @@ fn begun_with(version: Option<u32>) -> Begun {
     }
 }
 
-// Adopts a database, runs a stream over it, and closes it.
+// Adopts a database, runs a stream over it, and lets its files go.
 fn run_adopted<D: Disk + Drop, O: Opening, R: BufRead, W: Write>(
     alloc: Global,
     conn: Connection<FileStore<D>>,
@@ -58,7 +58,7 @@ fn run_adopted<D: Disk + Drop, O: Opening, R: BufRead, W: Write>(
     requires { conn.in_transaction ≡ false }
     ensures ran { IfOk result (λ ended. (before : Content) × (after : Content)
         × RunsOverConnection conn (ends_of before after (W.contents writer.old)
-        (W.contents writer.new) (R.remaining reader.old)) ended.outcome ended.files) }
+        (W.contents writer.new) (R.remaining reader.old)) ended.outcome ended.is_whole ended.let_go) }
     ensures unrun { IfErr result (IsUnadopted conn) }
     ensures silent { IfErr result (λ _. writer.new ≡ writer.old) }
     ensures unread { IfErr result (λ _. reader.new ≡ reader.old) }
@@ -72,7 +72,7 @@ fn run_adopted<D: Disk + Drop, O: Opening, R: BufRead, W: Write>(
     }
 }
 
-/// Runs a stream over the plan in the database of a connection, and closes its files: a plan of schema 1 is migrated
+/// Runs a stream over the plan in the database of a connection, and lets its files go: a plan of schema 1 is migrated
 /// first, and where there is none it gets one. Where no stream is run, it comes back why, with what is left of the files;
 /// nothing was read or written then.
 pub fn run_over_connection<D: Disk + Drop, O: Opening, R: BufRead, W: Write>(
@@ -85,7 +85,7 @@ pub fn run_over_connection<D: Disk + Drop, O: Opening, R: BufRead, W: Write>(
     requires { conn.in_transaction ≡ false }
     ensures ran { IfOk result (λ ended. (before : Content) × (after : Content)
         × RunsMigrated conn (ends_of before after (W.contents writer.old)
-        (W.contents writer.new) (R.remaining reader.old)) ended.outcome ended.files) }
+        (W.contents writer.new) (R.remaining reader.old)) ended.outcome ended.is_whole ended.let_go) }
     ensures unrun { IfErr result (IsUnmade conn) }
     ensures silent { IfErr result (λ _. writer.new ≡ writer.old) }
     ensures unread { IfErr result (λ _. reader.new ≡ reader.old) }
@@ -97,7 +97,7 @@ pub fn run_over_connection<D: Disk + Drop, O: Opening, R: BufRead, W: Write>(
     }
 }
 
-/// Runs a stream over the plan in the files at the path, whatever they hold, and closes them. They are made where there
+/// Runs a stream over the plan in the files at the path, whatever they hold, and lets them go. They are made where there
 /// are none, and get a plan where they hold none; one of schema 1 is migrated; `start` stands for what they hold. A file
 /// that is new gets the sums of its pages if that is asked for. Where no stream is run, it comes back why, with what
 /// `sqlite` said where the files were not opened, and with what is left of them; nothing was read or written then.
@@ -111,10 +111,10 @@ pub fn run_over_files<S: Start, O: Opening, R: BufRead, W: Write>(
     writer: &mut W,
 ) -> Result<Ended<FileFrom<S>>, (Unrun, Option<Leftover<FileFrom<S>>>, Option<Error>)>
     ensures ran { IfOk result (λ ended. (before : Content) × (after : Content)
-        × RunsOverFiles (image_at S.Start) (ends_of before after (W.contents writer.old)
-        (W.contents writer.new) (R.remaining reader.old)) ended.outcome ended.files) }
+        × RunsOverFiles ⟦<FileFrom<S> as Disk>⟧ (image_at S.Start) (ends_of before after (W.contents writer.old)
+        (W.contents writer.new) (R.remaining reader.old)) ended.outcome ended.is_whole ended.let_go) }
     ensures refused { IfErr result (λ left. IsNotRun (λ is_log file. IsFresh is_log file)
-        (image_at S.Start) left.0 left.1) }
+        (image_at S.Start) left.0 left.1 left.2) }
     ensures silent { IfErr result (λ _. writer.new ≡ writer.old) }
     ensures unread { IfErr result (λ _. reader.new ≡ reader.old) }
 {

@@ -1,5 +1,6 @@
 //! A run over a store that is open, and its closing.
 
+ghost use Rattle.std.specs.Prelude.{◌≡◌, IsTrue};
 ghost use Rattle.sqlite.specs.Files.{file_state};
 ghost use Rattle.sqlite.specs.State.{HasCleanDisk};
 ghost use Rattle.planner_cli.specs.Runs.{ends_of};
@@ -9,26 +10,43 @@ ghost use Rattle.plan_tables.specs.Kept.{IsKept, kept_in};
 ghost use Rattle.plan_tables.specs.Stored.{LeavesOne};
 ghost use Rattle.plan_files.specs.Over.{AreHonest, RunsFiles};
 
-use plan_store::StoreFault;
+use file_closing::{LetGo, let_go};
+use plan_store::PlanStore;
 use plan_tables::TableStore;
 use planner_cli::{RunFault, Tally, run};
 use planner_machine::streams;
-use sqlite::FileStore;
-use sqlite_disk::{Disk, Files};
+use sqlite::{Alter, FileStore};
+use sqlite_disk::Disk;
 use std::alloc::Global;
 use std::io::{BufRead, Write};
+use table_facts::tables_have_one_content;
 
 /// How a run over files ended.
 #[derive(Drop)]
 pub struct Ended<D: Disk> {
     /// What the run answered.
     pub outcome: Result<Tally, RunFault>,
-    /// Both files, of which the database file holds all; or, where the log could not be copied into it, why, and what
-    /// stands in both together.
-    pub files: Result<Files<D>, (StoreFault, FileStore<D>)>,
+    /// Whether the store is known to have been whole then: no failure was counted, and its connection was open.
+    pub is_whole: bool,
+    /// Both files as they were let go, and whether the log was copied into the database file, which then holds all.
+    pub let_go: LetGo<D>,
 }
 
-/// Runs a stream over a store that is open, and closes it.
+// Whether no failure of the device was counted.
+fn is_unfailed<S: Alter + Drop>(store: &mut TableStore<S>) -> bool
+    ensures same { store.new ≡ store.old }
+    ensures unfailed { IsTrue result → store.old.failures ≡ 0 }
+{
+    store.bounds().is_ok()
+}
+
+fn are_both(a: bool, b: bool) -> bool
+    ensures { IsTrue result → IsTrue a × IsTrue b }
+{
+    a && b
+}
+
+/// Runs a stream over a store that is open, and lets its files go.
 pub(crate) fn run_and_close<D: Disk + Drop, R: BufRead, W: Write>(
     alloc: Global,
     store: TableStore<FileStore<D>>,
@@ -39,16 +57,23 @@ pub(crate) fn run_and_close<D: Disk + Drop, R: BufRead, W: Write>(
         → IsKept (file_state store.conn) (content_of store.lists) }
     requires alone { LeavesOne (file_state store.conn)
         (kept_in (file_state store.conn) (content_of store.lists)) }
-    ensures honest { AreHonest D.Disk result.files → HasCleanDisk (file_state store.conn) }
-    ensures runs { (after : Content) × RunsFiles (ends_of
+    ensures honest { AreHonest D.Disk result.let_go.files → HasCleanDisk (file_state store.conn) }
+    ensures runs { (after : Content) × RunsFiles D.Disk (ends_of
         (kept_in (file_state store.conn) (content_of store.lists)) after
-        (W.contents writer.old) (W.contents writer.new) (R.remaining reader.old)) result.outcome result.files }
+        (W.contents writer.old) (W.contents writer.new) (R.remaining reader.old)) result.outcome result.is_whole result.let_go }
 {
     streams();
+    tables_have_one_content();
     let mut store = store;
     let outcome = run(alloc, &mut store, reader, writer);
+    let is_unfailed = is_unfailed(&mut store);
+    let conn = store.into_connection();
+    // its clause says that an open connection has a database
+    let _ = conn.schema();
+    let let_go = let_go(alloc, conn);
     Ended {
         outcome,
-        files: store.close(),
+        is_whole: are_both(is_unfailed, let_go.was_open),
+        let_go,
     }
 }

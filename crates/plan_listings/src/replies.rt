@@ -36,9 +36,9 @@ pub fn reply_line(alloc: Global, reply: &Reply) -> Result<Vec<u8>, AllocError>
             append_count(&mut line, "ok made", *made)?;
             append_count(&mut line, " withdrawn", *withdrawn)?;
         }
-        Reply::Numbered { serial } => append_count(&mut line, "ok serial", serial.get() as usize)?,
+        Reply::Numbered { serial } => append_count(&mut line, "ok serial", *serial as usize)?,
         Reply::Changed { serial, status } => {
-            append_count(&mut line, "ok serial", serial.get() as usize)?;
+            append_count(&mut line, "ok serial", *serial as usize)?;
             line.extend_from_slice(b" status ")?;
             line.push(status.letter())?;
         }
@@ -70,7 +70,7 @@ fn append_detail(line: &mut Vec<u8>, refusal: &Refusal) -> Result<(), AllocError
             line.extend_from_slice(b" ")?;
             line.extend_from_slice(app.as_bytes())
         }
-        Refusal::PredecessorUncompleted { serial } => append_count(line, "", serial.get() as usize),
+        Refusal::PredecessorUncompleted { serial } => append_count(line, "", *serial as usize),
         Refusal::NotAStatement
         | Refusal::JobWithAnotherText
         | Refusal::NotDefined

@@ -1,6 +1,6 @@
 // A plan of an older version is migrated before it is adopted.
 
-ghost use Rattle.std.specs.Prelude.{◌≡◌, false, IfErr, None, OnErr, OnOk};
+ghost use Rattle.std.specs.Prelude.{◌≡◌, false, IfErr, IfOk, None, Ok, OnErr, OnOk};
 ghost use Rattle.sqlite.specs.State.{HasCleanDisk, Survives};
 ghost use Rattle.sqlite.specs.Held.{state};
 ghost use Rattle.table_opening.specs.Foreign.{version_sql};
@@ -9,6 +9,7 @@ ghost use Rattle.table_opening.specs.Kept.{IsKept};
 ghost use Rattle.plan_migrations.specs.Asking.{IsFailure};
 ghost use Rattle.plan_migrations.specs.Migrating.{IsUnmigrated, MayRenew};
 ghost use Rattle.plan_migrations.specs.Older.{IsCurrent};
+ghost use Rattle.plan_migrations.specs.Schemas.{TellsVersion};
 
 use crate::faults::MigrateFault;
 use crate::migrating::migrate;
@@ -26,6 +27,8 @@ pub fn migrate_older<S: Alter>(
     requires { conn.old.in_transaction ≡ false }
     ensures current { HasCleanDisk (state S.Store conn.new)
         → OnOk result (IsCurrent (state S.Store conn.old) (state S.Store conn.new)) }
+    ensures told { HasCleanDisk (state S.Store conn.new) → IfOk result (λ found. (mid : _)
+        × TellsVersion (state S.Store conn.old) (state S.Store mid) (Ok found)) }
     ensures unmigrated { HasCleanDisk (state S.Store conn.new)
         → IfErr result (IsUnmigrated (state S.Store conn.old) (state S.Store conn.new)) }
     ensures common { HasCleanDisk (state S.Store conn.new) → HoldsPlan (state S.Store conn.old)

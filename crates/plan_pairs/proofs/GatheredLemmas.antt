@@ -1,5 +1,5 @@
 -- The rows of the applications that a change reaches and of those that their lists name.
-use Rattle.std.proofs.Common.{◌≡◌, ◌↔◌, ◌⊎◌, ℕ, List, [], ◌∷◌, ◌++◌, refl, sym, ap, subst, ◌∙◌, inl, inr}
+use Rattle.std.proofs.Common.{◌≡◌, ◌↔◌, ◌⊎◌, ℕ, List, [], ◌∷◌, ◌++◌, refl, sym, ap, subst, inl, inr}
 use Rattle.std.specs.List.{Contains}
 use Rattle.std.proofs.lemmas.List.Elements.{Contains-append_left, Contains-append_right, Contains-push}
 use Rattle.std.proofs.lemmas.List.Elements.{Contains-push_cases}
@@ -29,31 +29,27 @@ module _ (touch : Touch) (was_links links : List Link) (gone made stay : List Ro
     (has : HasReached touch links apps) where
   of_made : (q : PlacedRow) → Contains now q → IsAnew touch q.row.serial → HasWithList links apps q.row.key.app
   of_made q there (inr opened) = absurd (none q.row.serial (subst (λ ns. Contains ns q.row.serial) is.none_opened opened))
-  of_made q there (inl named) =
-      let (row, new, same) = (is.comes q.row.serial).0 named in
+  of_made q there (inl (row, named, same)) =
+      let new = subst (λ rs. Contains rs row) is.comes named in
       let p : PlacedRow = record { row = row; place = LongTerm } in
       let at = (listed p).1 (inl (Contains-append_right stay made row new, refl)) in
       let one : p ≡ q = once p q at there same in
-      let begun = is.begun row (inr new) in
-      let app : begun.stretch.app ≡ q.row.key.app =
-      begun.of_app ∙ ap (λ (x : PlacedRow). x.row.key.app) one in
-      subst (HasWithList links apps) app (has.touched begun.stretch begun.listed)
+      subst (HasWithList links apps) (ap (λ (x : PlacedRow). x.row.key.app) one) (has.touched row (inl named))
 
   pub of_reached : (q : PlacedRow) → Contains now q → MayReach touch links q.row → HasWithList links apps q.row.key.app
   of_reached q there (inl anew) = of_made q there anew
   of_reached q there (inr (inl changed)) = has.changed q.row.key.app changed
-  of_reached q there (inr (inr (link, in_links, (of_app, (s, in_stretches, (app, holds)))))) =
-      let lists : Lists links q.row.key.app s.app = (
+  of_reached q there (inr (inr (link, in_links, (of_app, (row, moved, may))))) =
+      let lists : Lists links q.row.key.app row.key.app = (
         link.within,
-        subst (Contains links) (λ i. record { app = of_app i; predecessor = sym app i; within = link.within }) in_links,
+        subst (Contains links)
+            (λ i. record { app = of_app i; predecessor = sym may.of_app i; within = link.within }) in_links,
       ) in
-      has.naming s q.row.key.app in_stretches lists
+      has.naming row q.row.key.app moved lists
 
   -- the application of what goes is one of these
   pub gone_app : (row : Row) → Contains gone row → Contains apps row.key.app
-  gone_app row there =
-      let begun = is.begun row (inl there) in
-      subst (Contains apps) begun.of_app (has.touched begun.stretch begun.listed).0
+  gone_app row there = (has.touched row (inr (subst (λ rs. Contains rs row) (sym is.goes) there))).0
 
 -- ---- the rows of one application after another
 

@@ -17,7 +17,8 @@ use Rattle.plan_pairs.specs.LiveRows.{AreLiveRows}
 use Rattle.plan_pairs.specs.declared.gathering.Reached.{Reached}
 use Rattle.plan_pairs.proofs.ListLemmas.{first_or_later, further, here, none}
 use Rattle.plan_pairs.proofs.LiveLemmas.{live_rows}
-use Rattle.plan_pairs.proofs.TouchedLemmas.{map_back, map_has, same_or_not}
+use Rattle.external_dependencies.proofs.MapLemmas.{map_back, map_has}
+use Rattle.plan_pairs.proofs.TouchedLemmas.{same_or_not}
 
 -- what arrives later is as close
 pub closer : (within : Option ℕ) (ia first later : ℕ) → ArrivesWithin within ia first → first ≤ later

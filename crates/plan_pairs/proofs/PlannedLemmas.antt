@@ -11,7 +11,7 @@ use Rattle.keyed_lists.specs.Rows.{of_current, of_row}
 use Rattle.planner_machine.specs.Content.{Sets}
 use Rattle.plan_store.specs.Views.{IsAny, ListsSet}
 use Rattle.plan_pairs.specs.Planned.{AddsPairsOf, HasWaiting, IsOpenAt, IsOpenOf, IsOpenOfOne}
-use Rattle.plan_pairs.specs.Turns.{HasSerial}
+use Rattle.external_dependencies.specs.Touch.{HasRowOf}
 use Rattle.plan_pairs.proofs.ListLemmas.{none}
 
 -- ---- what is added
@@ -83,7 +83,7 @@ module _ (all : List Pair) where
 -- ---- one row more
 
 pub one_serial_more : (xs : List Row) (x : Row) (n : ℕ)
-    → HasSerial (xs ++ x ∷ []) n ↔ (HasSerial xs n ⊎ (n ≡ x.serial))
+    → HasRowOf (xs ++ x ∷ []) n ↔ (HasRowOf xs n ⊎ (n ≡ x.serial))
 one_serial_more xs x n = (
   (λ (y, there, same). elim (Contains-push_cases xs x y there) [
     | inl old ↦ inl (y, old, same)
@@ -95,7 +95,7 @@ one_serial_more xs x n = (
   ],
 )
 
-pub no_serial : (n : ℕ) → HasSerial [] n → ⊥
+pub no_serial : (n : ℕ) → HasRowOf [] n → ⊥
 no_serial n (x, there, same) = none x there
 
 abbrev waiting_at : Row → CurrentRow
@@ -135,7 +135,7 @@ none_waiting n (row, there, same) = none (waiting_at row) there
 
 module _ (s : Sets) where
   pub open_at : (ltp : List Row) → ListsSet of_row s.ltp IsAny ltp → (cp : List CurrentRow)
-      → ListsSet of_current s.cp IsAny cp → (n : ℕ) → IsOpenAt s n ↔ (HasSerial ltp n ⊎ HasWaiting cp n)
+      → ListsSet of_current s.cp IsAny cp → (n : ℕ) → IsOpenAt s n ↔ (HasRowOf ltp n ⊎ HasWaiting cp n)
   open_at ltp ltp_is cp cp_is n = (
     (λ (row, is_open, same). elim is_open [
       | inl at ↦ inl (row, (ltp_is.exactly row).1 (at, tt), same)
@@ -150,7 +150,7 @@ module _ (s : Sets) where
   -- of one application
   pub open_of : (app : List ℕ) (ltp : List Row) → ListsSet of_row s.ltp (λ row. row.key.app ≡ app) ltp
       → (cp : List CurrentRow) → ListsSet of_current s.cp (λ x. x.row.key.app ≡ app) cp → (n : ℕ)
-      → IsOpenOf s app n ↔ (HasSerial ltp n ⊎ HasWaiting cp n)
+      → IsOpenOf s app n ↔ (HasRowOf ltp n ⊎ HasWaiting cp n)
   open_of app ltp ltp_is cp cp_is n = (
     (λ (row, is_open, of_app, same). elim is_open [
       | inl at ↦ inl (row, (ltp_is.exactly row).1 (at, of_app), same)

@@ -15,7 +15,7 @@ use Rattle.external_dependencies.specs.Link.{Lists}
 use Rattle.external_dependencies.specs.Nearest.{IsCandidate, IsLiveIn, IsNearest, arrival_of}
 use Rattle.external_dependencies.specs.Reached.{HoldsReached, IsReachedIn}
 use Rattle.external_dependencies.specs.Settled.{IsOnce}
-use Rattle.external_dependencies.specs.Touch.{MayReach}
+use Rattle.external_dependencies.specs.Touch.{HasRowOf, MayReach}
 use Rattle.external_dependencies.specs.declared.links.Link.{Link}
 use Rattle.external_dependencies.specs.declared.live.Arrival.{Arrival}
 use Rattle.external_dependencies.specs.declared.pairs.Pair.{Pair}
@@ -176,7 +176,7 @@ pub shown_hold : (touch : Touch) (links : List Link) (now rows : List PlacedRow)
     × ((app : List ℕ) → Lists links q.row.key.app app → HasBehind now rows q.row.key app))
     → ((pair : Pair) → Contains pairs pair → Contains old pair)
     → ((pair : Pair) → Contains old pair → IsReachedIn touch links now pair.successor
-    ⊎ Contains touch.withdrawn.items pair.successor → Contains pairs pair)
+    ⊎ HasRowOf touch.withdrawn.items pair.successor → Contains pairs pair)
     → HoldsReached touch links now old rows pairs
 shown_hold touch links now rows old pairs part has stood had = record {
   rows_stand = part;
@@ -401,7 +401,7 @@ module _ (h : Hidden) (view : View) (sound : IsSound (with_hidden h view))
     -- hold what is reached, with its pairs
     pub seen_hold : (old pairs : List Pair) → ((pair : Pair) → Contains pairs pair → Contains old pair)
         → ((pair : Pair) → Contains old pair → IsReachedIn touch links now pair.successor
-        ⊎ Contains touch.withdrawn.items pair.successor → Contains pairs pair)
+        ⊎ HasRowOf touch.withdrawn.items pair.successor → Contains pairs pair)
         → HoldsReached touch links now old rows pairs
     seen_hold old pairs = shown_hold touch links now rows old pairs rows_part (λ q there is_open reach. (
       open_in q there is_open (pass q there is_open reach).0,
@@ -431,9 +431,9 @@ module _ (c : Content) (sound : IsSound c) (rows stay gone made : List Row) (cur
   abbrev WasOpen : ℕ → Type 0
   WasOpen serial = (row : Row) × IsOpenRow c.sets row × Passes row.key.app × (row.serial ≡ serial)
 
-  of_gone : (serial : ℕ) → Contains touch.withdrawn.items serial → WasOpen serial
-  of_gone serial named =
-      let (row, there, same) = (is.goes serial).0 named in
+  of_gone : (serial : ℕ) → HasRowOf touch.withdrawn.items serial → WasOpen serial
+  of_gone serial (row, named, same) =
+      let there = subst (λ rs. Contains rs row) is.goes named in
       (row, inl ((rows_are.exactly row).0 (plan.gone_stood row there)).0, gone_pass row there, same)
 
   module _ (q : PlacedRow) (there : Contains now q) (is_open : IsOpen q.place) (reach : MayReach touch links q.row) where
@@ -489,7 +489,7 @@ module _ (c : Content) (sound : IsSound c) (rows stay gone made : List Row) (cur
     by_place (Deleted reason) row stands is_live = absurd is_live
 
   pub was_open : (pair : Pair) → Contains c.pairs pair → IsReachedIn touch links now pair.successor
-      ⊎ Contains touch.withdrawn.items pair.successor → WasOpen pair.successor
+      ⊎ HasRowOf touch.withdrawn.items pair.successor → WasOpen pair.successor
   was_open pair there (inr named) = of_gone pair.successor named
   was_open pair there (inl (q, in_now, same, is_open, reach)) =
       let (p, stands, is_live) = pair_lives c sound pair there in

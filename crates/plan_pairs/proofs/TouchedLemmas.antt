@@ -1,5 +1,5 @@
 -- What tells the lists that differ, and what is among applications and links in rising order.
-use Rattle.std.proofs.Common.{◌≡◌, ◌≢◌, ◌↔◌, ◌⊎◌, ℕ, List, [], ◌∷◌, ◌++◌, length, get_or, map, refl}
+use Rattle.std.proofs.Common.{◌≡◌, ◌≢◌, ◌↔◌, ◌⊎◌, ℕ, List, [], ◌∷◌, ◌++◌, length, get_or, refl}
 use Rattle.std.proofs.Common.{sym, subst, inl, inr, ◌∙◌, Ordering, Result, Ok, Err}
 use Rattle.std.specs.declared.cmp.Ordering.TheVariants.{Less, Equal, Greater}
 use Rattle.std.specs.Bool.{IsTrue}
@@ -11,16 +11,13 @@ use Rattle.std.specs.List.Sorted.{IsBinarySearchResult, IsSearchInRange}
 use Rattle.std.specs.Ordering.{nat_cmp}
 use Rattle.std.specs.Result.{is_ok}
 use Rattle.std.proofs.lemmas.Bool.{false≢true}
-use Rattle.std.proofs.lemmas.List.Elements.{Contains-append_left, Contains-push_cases}
+use Rattle.std.proofs.lemmas.List.Elements.{Contains-push_cases}
 use Rattle.std.proofs.lemmas.Cmp.{nat_list_cmp_total, tied_itself}
 use Rattle.external_dependencies.specs.Rising.{IsRising}
 use Rattle.external_dependencies.specs.declared.links.Link.{Link}
-use Rattle.external_dependencies.specs.declared.live.Arrival.{Arrival}
-use Rattle.external_dependencies.specs.declared.touch.Stretch.{Stretch}
 use Rattle.external_dependencies.proofs.OrderLemmas.{name_ties}
 use Rattle.keyed_lists.proofs.KeyLemmas.{missed, missed_all}
 use Rattle.external_dependencies.specs.Touch.{HasSameList}
-use Rattle.plan_pairs.specs.Turns.{IsBegun}
 use Rattle.plan_pairs.proofs.ListLemmas.{first_or_later, further, here, none}
 
 -- a search in a rising list tells whether it has the item
@@ -89,30 +86,4 @@ pub each_more : {X : Type 0} (P P' : X → Type 0) (xs : List X) (y : X) → ((x
 each_more P P' xs y so_far wider last x there = elim (Contains-push_cases xs y x there) [
   | inl old ↦ wider x (so_far x old)
   | inr same ↦ subst P' same last
-]
-
--- a stretch that is begun stays so where further stretches come
-pub begun_wider : (stretches more : List Stretch) (a : Arrival) → IsBegun stretches a → IsBegun (stretches ++ more) a
-begun_wider stretches more a is = record {
-  stretch = is.stretch;
-  listed = Contains-append_left stretches more is.stretch is.listed;
-  of_app = is.of_app;
-  begun = is.begun;
-  endless = is.endless;
-}
-
--- what is mapped
-pub map_has : {X Y : Type 0} (f : X → Y) (xs : List X) (x : X) → Contains xs x → Contains (map f xs) (f x)
-map_has f [] x there = absurd (none x there)
-map_has f (first ∷ xs) x there = elim (first_or_later first x xs there) [
-  | inl same ↦ subst (λ z. Contains (f first ∷ map f xs) (f z)) same (here (f first) (map f xs))
-  | inr later ↦ further (f first) (f x) (map f xs) (map_has f xs x later)
-]
-
-pub map_back : {X Y : Type 0} (f : X → Y) (xs : List X) (y : Y) → Contains (map f xs) y → (x : X) × Contains xs x
-    × (f x ≡ y)
-map_back f [] y there = absurd (none y there)
-map_back f (first ∷ xs) y there = elim (first_or_later (f first) y (map f xs) there) [
-  | inl same ↦ (first, here first xs, same)
-  | inr later ↦ let (x, at, same) = map_back f xs y later in (x, further first x xs at, same)
 ]

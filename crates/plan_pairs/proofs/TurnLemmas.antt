@@ -1,5 +1,5 @@
 -- The live occurrences before and after a planning statement, and that the touch names all that it touches.
-use Rattle.std.proofs.Common.{◌≡◌, ◌≢◌, ◌↔◌, ◌⊎◌, List, [], ◌∷◌, ◌++◌, refl, sym, ap, ◌∙◌, inl, inr}
+use Rattle.std.proofs.Common.{◌≡◌, ◌≢◌, ◌↔◌, ◌⊎◌, List, [], ◌∷◌, ◌++◌, refl, sym, ap, subst, ◌∙◌, inl, inr}
 use Rattle.std.specs.List.{Contains}
 use Rattle.std.proofs.lemmas.List.Elements.{Contains-append_cases, Contains-append_left, Contains-append_right}
 use Rattle.occurrences.specs.declared.place.CurrentRow.{CurrentRow}
@@ -8,13 +8,11 @@ use Rattle.occurrences.specs.declared.place.Place.TheVariants.{LongTerm, Current
 use Rattle.occurrences.specs.declared.row.Row.{Row}
 use Rattle.occurrences.specs.declared.status.Status.{Status}
 use Rattle.occurrences.specs.declared.status.Status.TheVariants.{W, S, E, C, D}
-use Rattle.external_dependencies.specs.Nearest.{arrival_of}
 use Rattle.external_dependencies.specs.Settled.{IsOnce}
-use Rattle.external_dependencies.specs.Touch.{IsAnew, IsMarked, IsOpenIn, LivesIn, Touches}
+use Rattle.external_dependencies.specs.Touch.{IsOpenIn, LivesIn, Touches}
 use Rattle.external_dependencies.specs.declared.links.Link.{Link}
 use Rattle.external_dependencies.specs.declared.rows.PlacedRow.{PlacedRow}
 use Rattle.external_dependencies.specs.declared.touch.Touch.{Touch}
-use Rattle.external_dependencies.proofs.TouchLemmas.{touches_of_rows}
 use Rattle.planner_machine.specs.Content.{Sets}
 use Rattle.plan_pairs.specs.LiveRows.{AddsCurrent, AddsRows, AreLiveRows, HasLists, IsCurrentIn}
 use Rattle.plan_pairs.specs.Turns.{ArePlanned, HasItself, IsBeside, IsInLists, IsTouchOf, IsTurn}
@@ -152,23 +150,11 @@ module _ (rows stay gone made : List Row) (plan : ArePlanned rows stay gone made
   was_open : (row : Row) → HasItself rows row → IsOpenIn was row
   was_open row (x, there, serial, key) = (planned_at x, was_planned x there, tt, serial, key)
 
-  marked : (row : Row) → Contains gone row ⊎ Contains made row
-      → IsMarked touch.stretches.items was now (arrival_of row)
-  marked row there =
-      let begun = is.begun row there in
-      record {
-        stretch = begun.stretch;
-        listed = begun.listed;
-        of_app = begun.of_app;
-        begun = begun.begun;
-        border = rw begun.endless tt;
-      }
+  withdrawn : (row : Row) → Contains gone row → Contains touch.withdrawn.items row
+  withdrawn row there = subst (λ rs. Contains rs row) (sym is.goes) there
 
-  withdrawn : (row : Row) → Contains gone row → Contains touch.withdrawn.items row.serial
-  withdrawn row there = (is.goes row.serial).1 (row, there, refl)
-
-  anew : (row : Row) → Contains made row → IsAnew touch row.serial
-  anew row there = inl ((is.comes row.serial).1 (row, there, refl))
+  named : (row : Row) → Contains made row → Contains touch.made.items row
+  named row there = subst (λ rs. Contains rs row) (sym is.comes) there
 
   gone_is : (q : PlacedRow) → IsInLists (stay ++ made) current completed q → (row : Row) → Contains gone row
       → q.row.serial ≢ row.serial
@@ -182,29 +168,29 @@ module _ (rows stay gone made : List Row) (plan : ArePlanned rows stay gone made
       beside_only current completed q beside (ap (λ (p : PlacedRow). p.place) one)
 
   pub turn_touches : Touches touch was now was_links links
-  turn_touches = touches_of_rows touch was now was_links links (record {
+  turn_touches = record {
     once_before = once_before;
     once_after = once_after;
     lives_on = λ p there live. elim ((were p).0 there) [
       | inl first ↦ elim (plan.on p.row first.0) [
         | inl on ↦ inl (lives_now p.row on)
-        | inr gone ↦ inr (withdrawn p.row gone, marked p.row (inl gone))
+        | inr gone ↦ inr (withdrawn p.row gone)
       ]
       | inr beside ↦ inl (p, (are p).1 (inr beside), live, refl, refl)
     ];
     lived = λ q there live. elim ((are q).0 there) [
       | inl first ↦ elim (Contains-append_cases stay made q.row first.0) [
         | inl stays ↦ inl (lived q.row (plan.stood q.row stays))
-        | inr new ↦ inr (marked q.row (inr new))
+        | inr new ↦ inr (named q.row new)
       ]
       | inr beside ↦ inl (q, (were q).1 (inr beside), live, refl, refl)
     ];
-    withdrawn = λ q there live named. let (row, gone, same) = (is.goes q.row.serial).0 named in
-        gone_is q ((are q).0 there) row gone (sym same);
+    withdrawn = λ q there live (row, gone, same).
+        gone_is q ((are q).0 there) row (subst (λ rs. Contains rs row) is.goes gone) (sym same);
     opened = λ q there is_open. elim ((are q).0 there) [
       | inl first ↦ elim (Contains-append_cases stay made q.row first.0) [
         | inl stays ↦ inl (was_open q.row (plan.stood q.row stays))
-        | inr new ↦ inr (anew q.row new)
+        | inr new ↦ inr (inl (q.row, named q.row new, refl))
       ]
       | inr beside ↦ inl (q, (were q).1 (inr beside), is_open, refl, refl)
     ];
@@ -216,7 +202,7 @@ module _ (rows stay gone made : List Row) (plan : ArePlanned rows stay gone made
       | inr beside ↦ inl (p, (are p).1 (inr beside), is_open, refl, refl)
     ];
     lists = is.lists;
-  })
+  }
 
 -- the turn from the sets before the statement to those after it, and the live occurrences then
 pub record IsTurnTo (s s' : Sets) (was_links links : List Link) (touch : Touch) (planned : List Row)

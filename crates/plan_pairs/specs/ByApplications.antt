@@ -1,9 +1,9 @@
 -- The applications whose rows hold what a change reaches.
 use Rattle.std.specs.Prelude.{◌≡◌, ◌⊎◌, ◌↔◌, ℕ, List, Contains}
 use Rattle.external_dependencies.specs.Link.{Lists}
+use Rattle.external_dependencies.specs.Touch.{IsMoved}
 use Rattle.external_dependencies.specs.declared.links.Link.{Link}
 use Rattle.external_dependencies.specs.declared.rows.PlacedRow.{PlacedRow}
-use Rattle.external_dependencies.specs.declared.touch.Stretch.{Stretch}
 use Rattle.external_dependencies.specs.declared.touch.Touch.{Touch}
 use Rattle.plan_store.specs.Views.{IsAny, ListsSet}
 use Rattle.keyed_lists.specs.Rows.{of_current, of_row}
@@ -21,9 +21,9 @@ HasWithList links apps app = Contains apps app
 -- each application whose rows the change may reach is among these, with those that its list names: one of which rows
 -- came or went, one whose list changed, and one whose list names one of which rows came or went
 pub record HasReached (touch : Touch) (links : List Link) (apps : List (List ℕ)) : Type 0 where
-  pub touched : (s : Stretch) → Contains touch.stretches.items s → HasWithList links apps s.app
+  pub touched : (row : Row) → IsMoved touch row → HasWithList links apps row.key.app
   pub changed : (app : List ℕ) → Contains touch.lists.items app → HasWithList links apps app
-  pub naming : (s : Stretch) (app : List ℕ) → Contains touch.stretches.items s → Lists links app s.app
+  pub naming : (row : Row) (app : List ℕ) → IsMoved touch row → Lists links app row.key.app
       → HasWithList links apps app
 
 -- of the occurrences in the current plan, not deleted, and in history of the sets the list has those of these

@@ -1,43 +1,26 @@
 -- What a planning statement makes of the live occurrences: rows of the long-term plan go, others come, and all else
 -- lives on; and what that touches.
-use Rattle.std.specs.Prelude.{◌≡◌, ◌≢◌, ◌⊎◌, ◌↔◌, ℕ, ◌≤◌, List, [], Contains, None}
+use Rattle.std.specs.Prelude.{◌≡◌, ◌≢◌, ◌⊎◌, ℕ, List, [], Contains}
 use Rattle.occurrences.specs.declared.place.CurrentRow.{CurrentRow}
 use Rattle.occurrences.specs.declared.place.Place.TheVariants.{LongTerm, History}
 use Rattle.occurrences.specs.declared.row.Row.{Row}
-use Rattle.external_dependencies.specs.Nearest.{arrival_of}
 use Rattle.external_dependencies.specs.Touch.{HasSameList, Touches}
 use Rattle.external_dependencies.specs.declared.links.Link.{Link}
-use Rattle.external_dependencies.specs.declared.live.Arrival.{Arrival}
 use Rattle.external_dependencies.specs.declared.rows.PlacedRow.{PlacedRow}
-use Rattle.external_dependencies.specs.declared.touch.Stretch.{Stretch}
 use Rattle.external_dependencies.specs.declared.touch.Touch.{Touch}
 use Rattle.planner_machine.specs.Content.{Content, Sets}
 use Rattle.planner_machine.specs.InForce.{IsDefinedLink}
 use Rattle.plan_pairs.specs.LiveRows.{AreLiveRows, IsCurrentIn}
 
--- one of the rows has the serial
-abbrev pub HasSerial : List Row → ℕ → Type 0
-HasSerial rows serial = (row : Row) × Contains rows row × (row.serial ≡ serial)
-
--- a stretch without end begins at or before the arrival, in its application
-pub record IsBegun (stretches : List Stretch) (a : Arrival) : Type 0 where
-  pub stretch : Stretch
-  pub listed : Contains stretches stretch
-  pub of_app : stretch.app ≡ a.app
-  pub begun : stretch.first ≤ a.ia
-  pub endless : stretch.last ≡ None
-
 -- each of the links stands in force, or is defined
 abbrev pub AreKnownLinks : Content → List Link → Type 0
 AreKnownLinks c links = (link : Link) → Contains links link → Contains c.in_force link ⊎ IsDefinedLink c.definitions link
 
--- the touch names the rows that go, those that are made, the application of each where they begin, and each application
--- whose list changes; what it may reach has no end
+-- the touch names the rows that go, those that are made, and each application whose list changes
 pub record IsTouchOf (gone made : List Row) (was_links links : List Link) (touch : Touch) : Type 0 where
-  pub comes : (serial : ℕ) → Contains touch.made.items serial ↔ HasSerial made serial
-  pub goes : (serial : ℕ) → Contains touch.withdrawn.items serial ↔ HasSerial gone serial
+  pub comes : touch.made.items ≡ made
+  pub goes : touch.withdrawn.items ≡ gone
   pub none_opened : touch.opened.items ≡ []
-  pub begun : (row : Row) → Contains gone row ⊎ Contains made row → IsBegun touch.stretches.items (arrival_of row)
   pub lists : (app : List ℕ) → HasSameList was_links links app ⊎ Contains touch.lists.items app
 
 -- one of the rows has the serial and the key of that one

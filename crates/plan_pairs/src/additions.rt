@@ -114,9 +114,9 @@ fn add_row(alloc: Global, view: &View<'_>, plan: Plan, row: &Row) -> Result<Verd
 {
     let (planned, current) = put_in(alloc, plan, row)?;
     let pairs = pairs_with(alloc, view, plan, row)?;
-    let serial = row.serial;
+    let serial = row.serial.get();
     let mut change = Change::none(alloc);
-    change.issued = Some(serial.get());
+    change.issued = Some(serial);
     change.ltp.put = planned;
     change.cp.put = current;
     change.pairs = pairs;

@@ -2,14 +2,15 @@ ghost use Rattle.std.specs.Prelude.{◌≡◌, ◌↔◌, Contains, IfOk, IsTrue
 ghost use Rattle.std.specs.Cmp.Lexicographic.{slice_cmp};
 ghost use Rattle.std.specs.FinMap.{IsAntisymmetric};
 ghost use Rattle.std.specs.Ordering.{nat_cmp};
+ghost use Rattle.occurrences.specs.declared.row.Row.{Row as RowValue};
 ghost use Rattle.external_dependencies.specs.Rising.{IsRising};
+ghost use Rattle.external_dependencies.specs.Touch.{IsMoved};
 ghost use Rattle.external_dependencies.specs.declared.links.Link.{Link as LinkValue};
-ghost use Rattle.external_dependencies.specs.declared.touch.Stretch.{Stretch as StretchValue};
 ghost use Rattle.plan_store.specs.Views.{shown};
 ghost use Rattle.plan_pairs.specs.ByApplications.{AreGathered, HasReached};
 
 use crate::listing::{push_current, push_rows};
-use external_dependencies::{Link, Links, Rows, Stretch, Touch};
+use external_dependencies::{Link, Links, Rows, Touch};
 use occurrences::{Place, Row};
 use plan_store::View;
 use std::alloc::{AllocError, Global};
@@ -21,7 +22,7 @@ use work_calendars::App;
 pub fn reached_apps(alloc: Global, links: &Links, touch: &Touch) -> Result<Vec<App>, AllocError>
     ensures { IfOk result (λ apps. HasReached touch.now links.now apps.items) }
 {
-    let touched = in_order(stretched_apps(alloc, &touch.stretches)?);
+    let touched = in_order(moved_apps(alloc, touch)?);
     let mut reached = naming_apps(alloc, links.as_slice(), &touched)?;
     reached.extend_from_slice(&touched)?;
     reached.extend_from_slice(&touch.lists)?;
@@ -31,11 +32,23 @@ pub fn reached_apps(alloc: Global, links: &Links, touch: &Touch) -> Result<Vec<A
     Ok(in_order(apps))
 }
 
-// The applications of stretches.
-fn stretched_apps(alloc: Global, stretches: &[Stretch]) -> Result<Vec<App>, AllocError>
-    ensures { IfOk result (λ apps. apps.items ≡ map (λ (s : StretchValue). s.app) stretches.now) }
+// The applications of the rows that came or went.
+fn moved_apps(alloc: Global, touch: &Touch) -> Result<Vec<App>, AllocError>
+    ensures { IfOk result (λ apps. (row : RowValue) → IsMoved touch.now row
+        → Contains apps.items row.key.app) }
 {
-    stretches.iter().map(|stretch| stretch.app).collect(alloc)
+    let mut apps = apps_of(alloc, &touch.made)?;
+    let more = apps_of(alloc, &touch.withdrawn)?;
+    apps.extend_from_slice(&more)?;
+    Ok(apps)
+}
+
+// The applications of rows.
+fn apps_of(alloc: Global, rows: &[Row]) -> Result<Vec<App>, AllocError>
+    ensures { IfOk result (λ apps.
+        apps.items ≡ map (λ (row : RowValue). row.key.app) rows.now) }
+{
+    rows.iter().map(|row| row.key.app).collect(alloc)
 }
 
 // The applications whose lists name one of these, which rise.

@@ -4,7 +4,7 @@ ghost use Rattle.occurrences.specs.declared.row.Row.{Row as RowValue};
 ghost use Rattle.external_dependencies.specs.declared.pairs.Pair.{Pair as PairValue};
 ghost use Rattle.plan_store.specs.Views.{shown};
 ghost use Rattle.plan_pairs.specs.Planned.{AddsPairsOf, HasWaiting, IsOpenAt, IsOpenOfOne};
-ghost use Rattle.plan_pairs.specs.Turns.{HasSerial};
+ghost use Rattle.external_dependencies.specs.Touch.{HasRowOf};
 
 use external_dependencies::{Pair, Pairs};
 use occurrences::{CurrentRow, Place, Row};
@@ -42,7 +42,7 @@ pub fn pairs_of_apps(alloc: Global, view: &View<'_>, apps: &[App]) -> Result<Pai
 fn push_planned(view: &View<'_>, rows: &[Row], pairs: &mut Vec<Pair>) -> Result<(), AllocError>
     requires { (row : RowValue) → Contains rows.now row
         → (shown view.now).sets.ltp row.serial ≡ Some row }
-    ensures { OnOk result (AddsPairsOf (shown view.now).pairs (HasSerial rows.now)
+    ensures { OnOk result (AddsPairsOf (shown view.now).pairs (HasRowOf rows.now)
         pairs.old.items pairs.new.items) }
 {
     for row in rows {

@@ -1,12 +1,11 @@
 ghost use Rattle.std.specs.Prelude.{◌≡◌, ◌≤◌, ◌↔◌, ℕ, IsTrue, Some, Err};
 ghost use Rattle.std.specs.List.{All};
 ghost use Rattle.work_calendars.specs.Name.{IsName};
-ghost use Rattle.occurrences.specs.Serial.{IsSerial};
-ghost use Rattle.planner_machine.specs.Sound.{IsJob, IsKeptReply};
+ghost use Rattle.planner_machine.specs.Sound.{IsJob, IsKeptReply, IsShown};
 ghost use Rattle.planner_machine.specs.declared.job.Job.{Job as JobValue};
 ghost use Rattle.plan_store.specs.Contents.{content_of};
 
-use occurrences::{Refusal, Reply, Serial};
+use occurrences::{Refusal, Reply};
 use plan_store::Content;
 use planner_machine::{Answer, GREATEST_JOB, Job};
 use work_calendars::App;
@@ -14,13 +13,14 @@ use work_calendars::App;
 // The greatest number that a reply shows.
 const GREATEST_SHOWN: usize = 999_999_999;
 
-// A serial has the range of serials, and an application's name the form of names: by their types.
-fn is_serial(serial: Serial) -> bool
-    ensures { IsTrue result ↔ IsSerial serial }
+// Whether a reply may show this number.
+fn is_shown(number: usize) -> bool
+    ensures { IsTrue result ↔ IsShown number }
 {
-    serial.get() >= 1
+    number <= GREATEST_SHOWN
 }
 
+// An application's name has the form of names by its type.
 pub(crate) fn is_name(app: &App) -> bool
     ensures { IsTrue result ↔ IsName app.now }
 {
@@ -35,7 +35,7 @@ fn is_kept_refusal(refusal: &Refusal) -> bool
         Refusal::CalendarUndefined { app } => is_name(app),
         Refusal::PeriodUndefined { app } => is_name(app),
         Refusal::Loop { app } => is_name(app),
-        Refusal::PredecessorUncompleted { serial } => is_serial(*serial),
+        Refusal::PredecessorUncompleted { serial } => is_shown(*serial as usize),
         Refusal::NotAStatement | Refusal::FaultyData { .. } | Refusal::JobWithAnotherText => false,
         Refusal::NotDefined
         | Refusal::NoPlan
@@ -55,12 +55,11 @@ fn is_kept_reply(reply: &Answer) -> bool
     ensures { IsTrue result ↔ IsKeptReply reply.now }
 {
     match reply {
-        Ok(Reply::Defined { names }) => *names <= GREATEST_SHOWN,
+        Ok(Reply::Defined { names }) => is_shown(*names),
         Ok(Reply::Undefined) => true,
-        Ok(Reply::Made { made, withdrawn }) => *made <= GREATEST_SHOWN
-            && *withdrawn <= GREATEST_SHOWN,
-        Ok(Reply::Numbered { serial }) => is_serial(*serial),
-        Ok(Reply::Changed { serial, .. }) => is_serial(*serial),
+        Ok(Reply::Made { made, withdrawn }) => is_shown(*made) && is_shown(*withdrawn),
+        Ok(Reply::Numbered { serial }) => is_shown(*serial as usize),
+        Ok(Reply::Changed { serial, .. }) => is_shown(*serial as usize),
         Ok(
             Reply::Moved {
                 moved,
@@ -69,10 +68,7 @@ fn is_kept_reply(reply: &Answer) -> bool
                 deleted,
             },
         ) => {
-            *moved <= GREATEST_SHOWN
-                && *carried <= GREATEST_SHOWN
-                && *completed <= GREATEST_SHOWN
-                && *deleted <= GREATEST_SHOWN
+            is_shown(*moved) && is_shown(*carried) && is_shown(*completed) && is_shown(*deleted)
         }
         Ok(Reply::Rows { .. }) => false,
         Err(refusal) => is_kept_refusal(refusal),

@@ -48,10 +48,10 @@ pub record Applies {S : Type 0} (is_honest : S → Type 0) (content : S → Cont
   pub whole : is_honest now → OnErr result ((content now ≡ content before)
       ⊎ (content now ≡ after change (content before)))
   -- what a crash may leave: after `Ok` the content alone, and else, whatever became of the store, at most the new
-  -- content beside what it might have left before
+  -- content and what it might have left before
   pub settled : is_honest now → OnOk result ((c : Content) → may_leave now c → c ≡ content now)
-  pub crash : is_honest before → (c : Content) → may_leave now c → may_leave before c ⊎ (c ≡ content before)
-      ⊎ (c ≡ after change (content before))
+  pub crash : is_honest before → (c : Content) → may_leave now c
+      → may_leave before c ⊎ (c ≡ after change (content before))
   -- the device is blamed only where it failed, then or before
   pub blames : IfErr result (λ fault. fault ≡ Device → MoreFailures (failures before) (failures now)
       ⊎ (0 < failures before))

@@ -33,6 +33,7 @@ pub use changes::{Change, DefinitionChange, Moves, Verdict};
 pub use contents::Content;
 pub use list_store::ListStore;
 pub use listings::{Item, ListFault, RowSink, SinkFault, What};
+pub use planner_machine::{Answer, Bounds, Job, JobText};
 pub use redefining::Redefining;
 pub use room::Room;
 pub use spans::between;

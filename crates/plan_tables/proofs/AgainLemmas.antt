@@ -47,12 +47,12 @@ same_list (r ∷ rs) (x ∷ xs) [] a b = absurd b
 same_list (r ∷ rs) (x ∷ xs) (y ∷ ys) a b = λ i. one_table r x y a.0 b.0 i ∷ same_list rs xs ys a.1 b.1 i
 
 -- the schemas that one database obeys have the same tables
-same_tables : (a b : Schema) (db : Trees) → IsDatabase (record { schema = a; trees = db })
+pub same_tables : (a b : Schema) (db : Trees) → IsDatabase (record { schema = a; trees = db })
     → IsDatabase (record { schema = b; trees = db }) → a.tables ≡ b.tables
 same_tables a b db one two =
     same_list (filter is_table_row (db catalog_tree)) a.tables b.tables one.lists.listed.tables two.lists.listed.tables
 
-moved_tables : (a b : Schema) → a.tables ≡ b.tables → HasTables a → HasTables b
+pub moved_tables : (a b : Schema) → a.tables ≡ b.tables → HasTables a → HasTables b
 moved_tables a b same has = record {
   at = has.at;
   trees = has.trees;

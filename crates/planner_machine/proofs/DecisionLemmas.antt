@@ -10,7 +10,7 @@ use Rattle.occurrences.specs.declared.refusal.Refusal.TheVariants.{NoActiveAppli
 use Rattle.occurrences.specs.declared.refusal.Refusal.TheVariants.{StatusForbids, PredecessorUncompleted, TooManyRows}
 use Rattle.occurrences.specs.declared.refusal.Refusal.TheVariants.{PlanEndOutOfRange}
 use Rattle.occurrences.specs.declared.reply.Reply.{Reply}
-use Rattle.planner_machine.specs.Decision.{Decision, Decides, DecidesOne, Detail, nothing, number, name, DoesOne}
+use Rattle.planner_machine.specs.Decision.{Decision, DecidesOne, Detail, nothing, number, name, DoesOne}
 use Rattle.planner_machine.specs.Decision.{HasOneDetail, IsLeastRefusal, KeepsSound, detail_of}
 
 -- a refusal is its number and its detail
@@ -64,10 +64,6 @@ back PlanEndOutOfRange = refl
 
 pub one_refusal : (q r : Refusal) → refusal_number q ≡ refusal_number r → detail_of q ≡ detail_of r → q ≡ r
 one_refusal q r numbers details = let at_q = back q in let at_r = back r in cc
-
-pub refusal_stays : {State : Type 0} (d : Decision State) (c : State) (r : Refusal) (c' : State)
-    → Decides d c (Err r) c' → c' ≡ c
-refusal_stays d c r c' a = a.1
 
 module _ {State : Type 0} (Sound : State → Type 0) (d : Decision State) where
   one_least : HasOneDetail Sound d → (c : State) (q r : Refusal) → Sound c → IsLeastRefusal (d.Refuses c) q

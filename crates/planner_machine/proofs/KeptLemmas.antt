@@ -3,7 +3,6 @@ use Rattle.std.proofs.Common.{◌≡◌, ℕ, ◌+◌, List, length, sym, ap, su
 use Rattle.std.specs.Prelude.{Ok, Err, Result}
 use Rattle.app_definitions.specs.declared.kinds.Kind.{Kind}
 use Rattle.work_calendars.specs.Name.{IsName}
-use Rattle.occurrences.specs.Serial.{IsSerial}
 use Rattle.occurrences.specs.declared.key.Key.{Key}
 use Rattle.occurrences.specs.declared.place.Place.{Place}
 use Rattle.occurrences.specs.declared.place.Place.TheVariants.{Current, LongTerm}
@@ -119,15 +118,15 @@ action_err key action c sound NoPlan h = omega arith
 action_err key action c sound NoSuchOccurrence h = omega arith
 action_err key action c sound StatusForbids h = omega arith
 action_err key action c sound (PredecessorUncompleted n) h = let (x, u, at_x, least) = h.1 in
-    predecessor_serial c sound x n least.0.0
+    (predecessor_serial c sound x n least.0.0).1
 action_err key action c sound _ h = absurd h
 
 -- how many are made is no more than are issued after it
 shown_made : (c c' : Content) (n : ℕ) → IsSound c' → c'.sets.issued ≡ c.sets.issued + n → IsShown n
 shown_made c c' n sound' is = let few = sound'.sizes.issued in omega arith
 
-new_serial : (c c' : Content) → IsSound c' → c'.sets.issued ≡ c.sets.issued + 1 → IsSerial (c.sets.issued + 1)
-new_serial c c' sound' is = let few = sound'.sizes.issued in (omega arith, omega arith)
+new_serial : (c c' : Content) → IsSound c' → c'.sets.issued ≡ c.sets.issued + 1 → IsShown (c.sets.issued + 1)
+new_serial c c' sound' is = let few = sound'.sizes.issued in omega arith
 
 moved_kept : (t : ℕ) (c : Content) → IsSound c → (reply : Reply) → reply ≡ daily_reply t c.sets → IsKeptReply (Ok reply)
 moved_kept t c sound reply is = subst (λ r. IsKeptReply (Ok r)) (sym is) (
@@ -173,7 +172,7 @@ kept_reply (Delete key) fine c (Ok reply) c' sound sound' d =
       row = rows.planned.row;
       place = LongTerm;
     }) (stands_in_ltp c.sets
-    (rows_sound c sound) rows.serial rows.planned.row rows.planned.stands))
+    (rows_sound c sound) rows.serial rows.planned.row rows.planned.stands)).1
 kept_reply (Delete key) fine c (Err q) c' sound sound' d = delete_err key c q d.0.0
 kept_reply (DailyExtend t) fine c (Ok reply) c' sound sound' d = moved_kept t c sound reply d.1.rows.0
 kept_reply (DailyExtend t) fine c (Err q) c' sound sound' d = daily_err t c q d.0.0
@@ -191,5 +190,5 @@ kept_reply (Act action key) fine c (Ok reply) c' sound sound' d =
     subst (λ r. IsKeptReply (Ok r)) (sym rows.replies) (is_serial c sound rows.serial (record {
       row = rows.there.row;
       place = Current rows.status;
-    }) (stands_in_cp c.sets (rows_sound c sound) rows.serial _ rows.there.stands))
+    }) (stands_in_cp c.sets (rows_sound c sound) rows.serial _ rows.there.stands)).1
 kept_reply (Act action key) fine c (Err q) c' sound sound' d = action_err key action c sound q d.0.0

@@ -29,6 +29,7 @@ mod ChangeSoundLemmas
 mod JobLemmas
 mod KeptLemmas
 mod StepLemmas
+mod RefusedLemmas
 mod StreamLemmas
 mod RerunLemmas
 mod TrialLemmas

@@ -58,7 +58,3 @@ module _ {State : Type 0} (Sound : State → Type 0) (d : Decision State) where
   -- what is sound stays sound, whatever is answered
   abbrev pub KeepsSound : Type 0
   KeepsSound = (c : State) (a : Result Reply Refusal) (c' : State) → Sound c → Decides d c a c' → Sound c'
-
--- a refusal leaves what was there
-abbrev pub RefusalLeaves : {State : Type 0} → Decision State → Type 0
-RefusalLeaves {State} d = (c c' : State) (r : Refusal) → Decides d c (Err r) c' → c' ≡ c

@@ -15,7 +15,7 @@ use Rattle.planner_machine.specs.declared.content.Bounds.{Bounds}
 use Rattle.planner_machine.specs.declared.content.Draft.{Draft}
 use Rattle.planner_machine.specs.declared.counts.Count.{Count}
 use Rattle.planner_machine.specs.Content.{Content, Sets, StandsAt}
-use Rattle.planner_machine.specs.Decision.{Decides, DecidesOne, KeepsSound, RefusalLeaves}
+use Rattle.planner_machine.specs.Decision.{Decides, DecidesOne, KeepsSound}
 use Rattle.planner_machine.specs.DailyPlan.{daily}
 use Rattle.planner_machine.specs.Fate.{DailyFate, Fate, IsGenerated}
 use Rattle.planner_machine.specs.Pairs.{IsClosedAt, IsCompleteAt, pair_of}
@@ -43,10 +43,6 @@ FollowsFate change =
 -- a statement has one answer, and leaves one content
 abbrev pub AnswersOnce : Change → Type 0
 AnswersOnce change = DecidesOne IsSound (decision_of change)
-
--- a refusal leaves the content
-abbrev pub LeavesRefused : Change → Type 0
-LeavesRefused change = RefusalLeaves (decision_of change)
 
 -- the values of a statement are such as a line and a block can give: a first day is a day, and a block was read from
 -- some text and gives no more names than a reply can show

@@ -24,6 +24,7 @@ pub mod Moves
 pub mod NewEnd
 pub mod Pairs
 pub mod Plans
+pub mod Refused
 pub mod Replan
 pub mod Rerun
 pub mod RowsSound

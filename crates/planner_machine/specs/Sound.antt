@@ -16,7 +16,6 @@ use Rattle.definition_records.specs.Records.{AllGood, Record, Records}
 use Rattle.app_definitions.specs.declared.definitions.Definitions.{Definitions}
 use Rattle.occurrences.specs.Place.{IsLive}
 use Rattle.occurrences.specs.Refusal.{refusal_number}
-use Rattle.occurrences.specs.Serial.{IsSerial}
 use Rattle.occurrences.specs.declared.place.Deletion.{Deletion}
 use Rattle.occurrences.specs.declared.place.Place.{Place}
 use Rattle.occurrences.specs.declared.place.Place.TheVariants.{LongTerm, Current, History, Deleted}
@@ -177,15 +176,15 @@ abbrev pub IsKeptReply : Result Reply Refusal → Type 0
 IsKeptReply (Ok (Defined names)) = IsShown names
 IsKeptReply (Ok Undefined) = Unit {0}
 IsKeptReply (Ok (Made made withdrawn)) = IsShown made × IsShown withdrawn
-IsKeptReply (Ok (Numbered serial)) = IsSerial serial
-IsKeptReply (Ok (Changed serial status)) = IsSerial serial
+IsKeptReply (Ok (Numbered serial)) = IsShown serial
+IsKeptReply (Ok (Changed serial status)) = IsShown serial
 IsKeptReply (Ok (Moved moved carried completed deleted)) = IsShown moved × IsShown carried × IsShown completed
     × IsShown deleted
 IsKeptReply (Ok (Rows rows)) = ⊥
 IsKeptReply (Err (CalendarUndefined app)) = IsName app
 IsKeptReply (Err (PeriodUndefined app)) = IsName app
 IsKeptReply (Err (Loop app)) = IsName app
-IsKeptReply (Err (PredecessorUncompleted serial)) = IsSerial serial
+IsKeptReply (Err (PredecessorUncompleted serial)) = IsShown serial
 IsKeptReply (Err refusal) = 13 ≤ refusal_number refusal
 
 pub record IsJob (number : ℕ) (job : Job) : Type 0 where

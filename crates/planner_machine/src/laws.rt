@@ -1,11 +1,12 @@
 // Laws of the machine: each function has no body, and its contract is the law.
 ghost use Rattle.std.specs.Prelude.{ℕ};
 ghost use Rattle.planner_machine.specs.Laws.{AnswersOnce, DailyByIsToEnd, DailyIsFates, FollowsFate, IsWellFormed};
-ghost use Rattle.planner_machine.specs.Laws.{KeepsItself, KeepsPairs, LeavesRefused, PairsHaveNoLoop, PredecessorsAreComplete};
+ghost use Rattle.planner_machine.specs.Laws.{KeepsItself, KeepsPairs, PairsHaveNoLoop, PredecessorsAreComplete};
 ghost use Rattle.planner_machine.specs.Laws.{StaysSound};
 ghost use Rattle.planner_machine.specs.declared.counts.Count.{Count};
 ghost use Rattle.planner_machine.specs.Content.{nothing_known};
 ghost use Rattle.planner_machine.specs.Fresh.{FreshIsExact, LeavesFresh, StaysFresh};
+ghost use Rattle.planner_machine.specs.Refused.{RefusedLeaves};
 ghost use Rattle.planner_machine.specs.Rerun.{RerunEndsAsEachRun, RerunEndsAsOneRun};
 ghost use Rattle.planner_machine.specs.Sound.{IsSound};
 ghost use Rattle.planner_machine.specs.Statement.{Change, Create, DailyExtend, DailyExtendBy, ModifyAll, Replan};
@@ -17,9 +18,9 @@ pub fn one_answer()
     ensures { (change : Change) → AnswersOnce change }
 {}
 
-/// Law: a refusal leaves the content as it was.
+/// Law: a statement that is refused leaves the content as it was, but for its own job, which keeps the refusal.
 pub fn refusal_changes_nothing()
-    ensures { (change : Change) → LeavesRefused change }
+    ensures { RefusedLeaves }
 {}
 
 /// Law: an accepted statement leaves each occurrence where its fate puts it, and makes exactly the occurrences that its

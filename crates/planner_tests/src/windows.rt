@@ -219,7 +219,7 @@ fn try_cases(rt: &impl Abort, store: &mut ListStore, cases: &[Case]) {
 }
 
 /// A new store after the stream.
-fn planned(rt: &impl Abort, alloc: Global, stream: &[u8]) -> ListStore {
+pub fn planned(rt: &impl Abort, alloc: Global, stream: &[u8]) -> ListStore {
     let mut store = ListStore::new(alloc);
     let mut reader = stream;
     let is_run = run(alloc, &mut store, &mut reader, &mut Vec::new(alloc)).is_ok();

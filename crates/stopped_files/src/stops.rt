@@ -4,8 +4,8 @@ ghost use Rattle.std.specs.Prelude.{◌≡◌, false};
 use crate::disks::{MOST_CALLS, Stopping, new_disks};
 use crate::stores::{connect, connect_again, is_after, run_again};
 use crate::streams::{Reached, Stream, Wrong};
+use file_closing::LetGo;
 use plan_files::{Begun, Ended, Opening, Unrun, run_over_connection};
-use plan_store::StoreFault;
 use sqlite::{Alter, Connection, FileStore, Files};
 use sqlite_disk::{Crash, Disk};
 use std::alloc::{AllocError, Global};
@@ -39,21 +39,11 @@ impl Opening for Untold {
 }
 
 /// The files as a run left them that came so far, with whether they were closed.
-fn ran_to<D: Disk + Drop>(
-    how_far: Reached,
-    files: Result<Files<D>, (StoreFault, FileStore<D>)>,
-) -> FirstRun<D> {
-    match files {
-        Ok(disks) => FirstRun {
-            how_far,
-            is_closed: true,
-            disks,
-        },
-        Err((_, left)) => FirstRun {
-            how_far,
-            is_closed: false,
-            disks: left.close(),
-        },
+fn ran_to<D: Disk + Drop>(how_far: Reached, let_go: LetGo<D>) -> FirstRun<D> {
+    FirstRun {
+        how_far,
+        is_closed: let_go.copied.is_ok(),
+        disks: let_go.files,
     }
 }
 
@@ -64,7 +54,13 @@ fn ran<D: Disk + Drop>(
     stream: &Stream<'_>,
 ) -> FirstRun<D> {
     match ended {
-        Ok(Ended { outcome, files }) => ran_to(stream.end_of(&outcome, written), files),
+        Ok(
+            Ended {
+                outcome,
+                let_go,
+                ..
+            },
+        ) => ran_to(stream.end_of(&outcome, written), let_go),
         Err((_, left)) => FirstRun {
             how_far: Reached::Nothing,
             is_closed: false,

@@ -32,10 +32,10 @@ fn reply_is_small(reply: &Reply)
             let _withdrawn = *withdrawn;
         }
         Reply::Numbered { serial } => {
-            let _serial = serial.get();
+            let _serial = *serial;
         }
         Reply::Changed { serial, status: _ } => {
-            let _serial = serial.get();
+            let _serial = *serial;
         }
         Reply::Moved {
             moved,
@@ -63,7 +63,7 @@ fn refusal_is_small(refusal: &Refusal)
             let _record = *record;
         }
         Refusal::PredecessorUncompleted { serial } => {
-            let _serial = serial.get();
+            let _serial = *serial;
         }
         _ => {}
     }

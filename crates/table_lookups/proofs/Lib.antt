@@ -3,7 +3,6 @@ pub mod LookTexts
 pub mod TestMeanings
 pub mod SortMeanings
 pub mod ReadMeanings
-pub mod CountMeanings
 pub mod QuestionMeanings
 pub mod LookFits
 pub mod LookMeanings
@@ -12,6 +11,4 @@ pub mod TextLemmas
 pub mod AskLemmas
 pub mod HandLemmas
 pub mod LastLemmas
-pub mod CountTexts
-pub mod CountLemmas
 pub mod SomeAnswer

@@ -21,10 +21,10 @@ use Rattle.sqlite_typing.specs.Types.{accepts_program}
 use Rattle.table_lookups.specs.Looks.{AreAsked, question}
 use Rattle.table_lookups.specs.Question.{By, Question, Test, place_of}
 use Rattle.table_lookups.specs.declared.looks.Look.{Look}
-use Rattle.table_lookups.specs.declared.looks.Look.TheVariants.{InHistory, InDeletions, PairsOf, LastOf, DeletedFrom}
+use Rattle.table_lookups.specs.declared.looks.Look.TheVariants.{InHistory, InDeletions, LastOf, DeletedFrom}
 use Rattle.table_lookups.specs.declared.looks.Look.TheVariants.{JobOf}
 use Rattle.table_lookups.specs.declared.looks.Look.TheVariants.{HistoryListed, HistoryOf, DeletionsListed}
-use Rattle.table_lookups.specs.declared.looks.Look.TheVariants.{DeletionsOf, PairsListed, Whole}
+use Rattle.table_lookups.specs.declared.looks.Look.TheVariants.{DeletionsOf, Whole}
 use Rattle.table_lookups.proofs.LookTexts.{asked_with}
 use Rattle.table_lookups.proofs.QuestionMeanings.{IsAbout, test_term}
 use Rattle.table_lookups.proofs.SortMeanings.{IsPlaced, limit_term, sort_term}
@@ -151,17 +151,6 @@ look_fits tree InDeletions = record {
   terms = refl;
   names = refl;
 }
-look_fits tree PairsOf = record {
-  about = record {
-    has = (tt, (tt, tt));
-    few = omega arith;
-    tests = (is_tested 0 _ refl refl refl refl refl refl, tt);
-    order = tt;
-    short = omega arith;
-  };
-  terms = refl;
-  names = refl;
-}
 look_fits tree LastOf = record {
   about = record {
     has = (tt, (tt, (tt, (tt, (tt, tt)))));
@@ -251,17 +240,6 @@ look_fits tree DeletionsOf = record {
   terms = refl;
   names = refl;
 }
-look_fits tree PairsListed = record {
-  about = record {
-    has = (tt, (tt, tt));
-    few = omega arith;
-    tests = tt;
-    order = (is_placed 0 _ refl refl refl refl refl, (is_placed 1 _ refl refl refl refl refl, tt));
-    short = omega arith;
-  };
-  terms = refl;
-  names = refl;
-}
 look_fits tree (Whole Meta) = record {
   about = record {
     has = all_there (table_at tree Meta) (column_names Meta) (has_own tree Meta);
@@ -302,7 +280,6 @@ pub look_takes : (schema : Schema) (tree : ℕ) (look : Look) → nat_le (2 ^ 31
 unfolding everything
 look_takes schema tree InHistory stored found asked (n, is) = rw is (refl, rw (stored, found) refl)
 look_takes schema tree InDeletions stored found asked (n, is) = rw is (refl, rw (stored, found) refl)
-look_takes schema tree PairsOf stored found asked (n, is) = rw is (refl, rw (stored, found) refl)
 look_takes schema tree LastOf stored found asked (app, n, is) = rw is (refl, rw (stored, found) refl)
 look_takes schema tree DeletedFrom stored found asked (n, is) = rw is (refl, rw (stored, found) refl)
 look_takes schema tree JobOf stored found asked (n, is) = rw is (refl, rw (stored, found) refl)
@@ -310,6 +287,5 @@ look_takes schema tree HistoryListed stored found asked is = rw is (refl, rw (st
 look_takes schema tree HistoryOf stored found asked (n, is) = rw is (refl, rw (stored, found) refl)
 look_takes schema tree DeletionsListed stored found asked is = rw is (refl, rw (stored, found) refl)
 look_takes schema tree DeletionsOf stored found asked (n, is) = rw is (refl, rw (stored, found) refl)
-look_takes schema tree PairsListed stored found asked is = rw is (refl, rw (stored, found) refl)
 look_takes schema tree (Whole Meta) stored found asked is = rw is (refl, rw (stored, found) refl)
 look_takes schema tree (Whole t) stored found asked is = rw is (refl, rw (stored, found) refl)

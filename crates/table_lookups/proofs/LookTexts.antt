@@ -6,7 +6,7 @@ use Rattle.table_lookups.specs.Looks.{look_sql, question}
 use Rattle.table_lookups.specs.declared.looks.Look.{Look}
 use Rattle.table_lookups.specs.declared.looks.Look.TheVariants.{LastOf, DeletedFrom}
 use Rattle.table_lookups.specs.declared.looks.Look.TheVariants.{HistoryListed, HistoryOf, DeletionsListed}
-use Rattle.table_lookups.specs.declared.looks.Look.TheVariants.{DeletionsOf, PairsListed, Whole}
+use Rattle.table_lookups.specs.declared.looks.Look.TheVariants.{DeletionsOf, Whole}
 use Rattle.table_schema.specs.declared.tables.Table.TheVariants.{Meta}
 use Rattle.table_schema.proofs.Written.{IfRead}
 use Rattle.table_lookups.proofs.WrittenQuestions.{Says}
@@ -16,7 +16,6 @@ abbrev pub asked_with : Look → ℕ
 asked_with LastOf = 2
 asked_with HistoryListed = 0
 asked_with DeletionsListed = 0
-asked_with PairsListed = 0
 asked_with (Whole t) = 0
 asked_with _ = 1
 
@@ -88,17 +87,6 @@ look_says DeletionsOf = record {
     core = refl;
     filter = (refl, (refl, refl, refl));
     order = ((refl, refl, refl), ((refl, refl, refl), ((refl, refl, refl), refl)));
-    limit = refl;
-  };
-}
-look_says PairsListed = record {
-  text = (refl, refl, refl);
-  is = refl;
-  asks = record {
-    whole = refl;
-    core = refl;
-    filter = refl;
-    order = ((refl, refl, refl), ((refl, refl, refl), refl));
     limit = refl;
   };
 }

@@ -3,4 +3,3 @@ pub mod Looks
 pub mod Handing
 pub mod Finding
 pub mod Last
-pub mod Sizes

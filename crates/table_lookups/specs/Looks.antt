@@ -6,12 +6,12 @@ use Rattle.sqlite_sql.specs.declared.ops.CompareOp.TheVariants.{Eq, Le, Ge}
 use Rattle.table_lookups.specs.Question.{By, Question, Test, question_text}
 use Rattle.table_lookups.specs.Question.Side.{Asked, Letters}
 use Rattle.table_lookups.specs.declared.looks.Look.{Look}
-use Rattle.table_lookups.specs.declared.looks.Look.TheVariants.{InHistory, InDeletions, PairsOf, LastOf, DeletedFrom}
+use Rattle.table_lookups.specs.declared.looks.Look.TheVariants.{InHistory, InDeletions, LastOf, DeletedFrom}
 use Rattle.table_lookups.specs.declared.looks.Look.TheVariants.{JobOf}
 use Rattle.table_lookups.specs.declared.looks.Look.TheVariants.{HistoryListed, HistoryOf, DeletionsListed}
-use Rattle.table_lookups.specs.declared.looks.Look.TheVariants.{DeletionsOf, PairsListed, Whole}
+use Rattle.table_lookups.specs.declared.looks.Look.TheVariants.{DeletionsOf, Whole}
 use Rattle.table_schema.specs.declared.tables.Table.{Table}
-use Rattle.table_schema.specs.declared.tables.Table.TheVariants.{History, Deletion, Dependency, Job}
+use Rattle.table_schema.specs.declared.tables.Table.TheVariants.{History, Deletion, Job}
 
 -- the column has the value that is asked with, the first or a later one
 abbrev is_asked : List ℕ → ℕ → Test
@@ -36,7 +36,6 @@ listed table tests = record {
 abbrev pub question : Look → Question
 question InHistory = those History (is_asked (codes "serial") 0 ∷ [])
 question InDeletions = those Deletion (is_asked (codes "serial") 0 ∷ [])
-question PairsOf = those Dependency (is_asked (codes "successor") 0 ∷ [])
 question LastOf = record {
   table = History;
   tests = is_asked (codes "app") 0 ∷ record { column = codes "ia"; how = Le; side = Asked 1 } ∷ [];
@@ -50,12 +49,6 @@ question HistoryListed = listed History []
 question HistoryOf = listed History (is_asked (codes "app") 0 ∷ [])
 question DeletionsListed = listed Deletion []
 question DeletionsOf = listed Deletion (is_asked (codes "app") 0 ∷ [])
-question PairsListed = record {
-  table = Dependency;
-  tests = [];
-  order = rising (codes "successor") ∷ rising (codes "predecessor") ∷ [];
-  is_one = false;
-}
 question (Whole t) = those t []
 
 abbrev pub look_sql : Look → List ℕ
@@ -66,7 +59,6 @@ abbrev pub AreAsked : Look → Row → Type 0
 AreAsked LastOf asked = (app : List ℕ) × (moment : ℤ) × (asked ≡ Text app ∷ Int moment ∷ [])
 AreAsked HistoryListed asked = asked ≡ []
 AreAsked DeletionsListed asked = asked ≡ []
-AreAsked PairsListed asked = asked ≡ []
 AreAsked (Whole t) asked = asked ≡ []
 AreAsked HistoryOf asked = (app : List ℕ) × (asked ≡ Text app ∷ [])
 AreAsked DeletionsOf asked = (app : List ℕ) × (asked ≡ Text app ∷ [])

@@ -25,7 +25,6 @@ pub(crate) fn look_text(look: Look) -> &'static str
         Look::InDeletions => {
             "SELECT serial, app, ia, deadline, run_cycle, reason FROM deletion_row WHERE serial = ?1"
         }
-        Look::PairsOf => { "SELECT successor, predecessor FROM dependency WHERE successor = ?1" }
         Look::LastOf => {
             "SELECT serial, app, ia, deadline, run_cycle FROM history_row WHERE app = ?1 AND ia <= ?2 \
              ORDER BY ia DESC LIMIT 1"
@@ -48,9 +47,6 @@ pub(crate) fn look_text(look: Look) -> &'static str
         Look::DeletionsOf => {
             "SELECT serial, app, ia, deadline, run_cycle, reason FROM deletion_row WHERE app = ?1 ORDER BY \
              ia, app, serial"
-        }
-        Look::PairsListed => {
-            "SELECT successor, predecessor FROM dependency ORDER BY successor, predecessor"
         }
         Look::Whole(table) => select_text(table),
     }

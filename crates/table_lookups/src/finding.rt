@@ -51,17 +51,6 @@ pub fn deletion_of_serial<S: Alter>(
     ask(conn, Look::InDeletions, &[number(serial)])
 }
 
-/// The pairs of a successor.
-pub fn pairs_of_successor<S: Alter>(
-    conn: &mut Connection<S>,
-    successor: u32,
-) -> Result<Vec<Row>, Error>
-    ensures { Finds S.Store conn.old conn.new result
-        (λ all rows. AreAll look.PairsOf (natural successor ∷ []) all rows.items) }
-{
-    ask(conn, Look::PairsOf, &[number(successor)])
-}
-
 /// The deletions by the operator that arrive at the moment or after it.
 pub fn operator_deletions_from<S: Alter>(
     conn: &mut Connection<S>,

@@ -5,13 +5,10 @@ mod asking;
 mod finding;
 mod handing;
 mod looks;
-mod sizes;
 
 pub use asking::ask;
 pub use finding::{
     deletion_of_serial, history_of_serial, job_of_number, last_of, operator_deletions_from,
-    pairs_of_successor,
 };
 pub use handing::{HandFault, SinkFault, ValuesSink, hand, hand_all};
 pub use looks::Look;
-pub use sizes::size_of;

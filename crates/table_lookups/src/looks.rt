@@ -9,8 +9,6 @@ pub enum Look {
     InHistory,
     /// The row of the deletions that has the serial.
     InDeletions,
-    /// The pairs of a successor.
-    PairsOf,
     /// Of the history of an application, the row that arrives last at a moment or before it.
     LastOf,
     /// The deletions by the operator that arrive at a moment or after it.
@@ -25,8 +23,6 @@ pub enum Look {
     DeletionsListed,
     /// The deletions of an application, in the same order.
     DeletionsOf,
-    /// The pairs, by successor and predecessor.
-    PairsListed,
     /// All rows of a table, in no order.
     Whole(Table),
 }

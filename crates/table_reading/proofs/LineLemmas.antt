@@ -7,7 +7,6 @@ use Rattle.std.proofs.lemmas.Fmt.{IsAscii-decimal}
 use Rattle.std.proofs.lemmas.Str.{IsUtf8-append, IsUtf8-from_ascii, IsUtf8-nil}
 use Rattle.work_calendars.specs.Name.{IsName}
 use Rattle.work_calendars.proofs.NameFacts.{IsUtf8-name}
-use Rattle.occurrences.specs.Serial.{IsSerial}
 use Rattle.occurrences.specs.Status.{status_letter}
 use Rattle.occurrences.specs.declared.refusal.Refusal.{Refusal}
 use Rattle.occurrences.specs.declared.refusal.Refusal.TheVariants as refusal
@@ -16,7 +15,7 @@ use Rattle.occurrences.specs.declared.reply.Reply.TheVariants as reply
 use Rattle.occurrences.specs.declared.status.Status.{Status}
 use Rattle.occurrences.specs.declared.status.Status.TheVariants as status
 use Rattle.table_facts.specs.Content.{answer_text}
-use Rattle.planner_machine.specs.Sound.{IsKeptReply}
+use Rattle.planner_machine.specs.Sound.{IsKeptReply, IsShown}
 use Rattle.plan_listings.specs.Reply.{counted, refusal_text, reply_text}
 use Rattle.std.specs.Prelude.{codes, nat_lt, not, ◌&&◌}
 use Rattle.std.specs.Fmt.{decimal}
@@ -83,10 +82,7 @@ behind_number text n rest small is = ap back is ∙ back_solid (decimal n) rest 
 pub behind_alone : (text : List ℕ) (n : ℕ) → n < 2 ^ 64 → text ≡ decimal n → back text ≡ []
 behind_alone text n small is = ap back is ∙ back_whole (decimal n) (solid n small)
 
-pub serial_small : (n : ℕ) → IsSerial n → n < 2 ^ 64
-serial_small n is = let most = is.1 in omega (arith, most)
-
-shown_small : (n : ℕ) → n ≤ 999999999 → n < 2 ^ 64
+pub shown_small : (n : ℕ) → IsShown n → n < 2 ^ 64
 shown_small n is = omega (arith, is)
 
 -- no reply has a line that is none of those that were made of it
@@ -96,8 +92,8 @@ pub no_reply : (line text : List ℕ) (names : ℕ) (made moved : Reply) (occurr
     → ((m w : ℕ) → m < 2 ^ 64 → w < 2 ^ 64 → text ≡ made_text m w → made ≡ reply.Made m w)
     → ((m a k d : ℕ) → m < 2 ^ 64 → a < 2 ^ 64 → k < 2 ^ 64 → d < 2 ^ 64 → text ≡ moved_text m a k d
     → moved ≡ reply.Moved m a k d)
-    → ((n : ℕ) → IsSerial n → text ≡ decimal n → occurred ≡ Some (reply.Numbered n))
-    → ((n : ℕ) (s : Status) → IsSerial n → text ≡ changed_text n s → occurred ≡ Some (reply.Changed n s))
+    → ((n : ℕ) → IsShown n → text ≡ decimal n → occurred ≡ Some (reply.Numbered n))
+    → ((n : ℕ) (s : Status) → IsShown n → text ≡ changed_text n s → occurred ≡ Some (reply.Changed n s))
     → (reply_text (reply.Defined names) ≡ line → ⊥) → (reply_text reply.Undefined ≡ line → ⊥)
     → (reply_text made ≡ line → ⊥) → (reply_text moved ≡ line → ⊥)
     → ((r : Reply) → occurred ≡ Some r → reply_text r ≡ line → ⊥)
@@ -137,7 +133,7 @@ behind_refused line k rest small is =
 
 -- the same of refusals with a detail
 pub no_detail : (line detail : List ℕ) → detail ≡ back (back line)
-    → ((n : ℕ) → IsSerial n → refusal_text (refusal.PredecessorUncompleted n) ≡ line → ⊥)
+    → ((n : ℕ) → IsShown n → refusal_text (refusal.PredecessorUncompleted n) ≡ line → ⊥)
     → ((app : List ℕ) → IsName app → detail ≡ app → refusal_text (refusal.CalendarUndefined app) ≡ line → ⊥)
     → ((app : List ℕ) → IsName app → detail ≡ app → refusal_text (refusal.PeriodUndefined app) ≡ line → ⊥)
     → ((app : List ℕ) → IsName app → detail ≡ app → refusal_text (refusal.Loop app) ≡ line → ⊥)
@@ -206,11 +202,11 @@ utf8_reply (reply.Made m w) kept = IsUtf8-append (counted (codes "ok made") m) (
     (utf8_counted (codes "ok made") m (utf8_word _ refl) (shown_small m kept.0))
     (utf8_counted (codes " withdrawn") w (utf8_word _ refl) (shown_small w kept.1))
 utf8_reply (reply.Numbered n) kept =
-    utf8_counted (codes "ok serial") n (utf8_word _ refl) (serial_small n kept)
+    utf8_counted (codes "ok serial") n (utf8_word _ refl) (shown_small n kept)
 utf8_reply (reply.Changed n s) kept =
     IsUtf8-append (counted (codes "ok serial") n ++ codes " status ") (status_letter s ∷ [])
     (IsUtf8-append (counted (codes "ok serial") n) (codes " status ")
-    (utf8_counted (codes "ok serial") n (utf8_word _ refl) (serial_small n kept))
+    (utf8_counted (codes "ok serial") n (utf8_word _ refl) (shown_small n kept))
     (utf8_word _ refl))
     (utf8_letter s)
 utf8_reply (reply.Moved m f k g) kept =
@@ -256,7 +252,7 @@ utf8_refusal refusal.KeyIsLive kept = utf8_refused 27 [] (omega arith) utf8_noth
 utf8_refusal refusal.NoSuchOccurrence kept = utf8_refused 28 [] (omega arith) utf8_nothing
 utf8_refusal refusal.StatusForbids kept = utf8_refused 29 [] (omega arith) utf8_nothing
 utf8_refusal (refusal.PredecessorUncompleted n) kept =
-    utf8_refused 30 (32 ∷ decimal n) (omega arith) (utf8_blank (decimal n) (utf8_number n (serial_small n kept)))
+    utf8_refused 30 (32 ∷ decimal n) (omega arith) (utf8_blank (decimal n) (utf8_number n (shown_small n kept)))
 utf8_refusal refusal.TooManyRows kept = utf8_refused 31 [] (omega arith) utf8_nothing
 utf8_refusal refusal.PlanEndOutOfRange kept = utf8_refused 32 [] (omega arith) utf8_nothing
 

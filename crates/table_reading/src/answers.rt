@@ -3,7 +3,6 @@
 ghost use Rattle.std.specs.Prelude.{◌≡◌, ◌↔◌, ◌<◌, ◌^◌, ◌∷◌, [], ℕ, None, Some, Result, Ok, Err, IfOk, IfSome, IsTrue};
 ghost use Rattle.std.specs.Fmt.{decimal};
 ghost use Rattle.std.specs.List.{All};
-ghost use Rattle.occurrences.specs.Serial.{IsSerial};
 ghost use Rattle.occurrences.specs.Status.{status_letter};
 ghost use Rattle.occurrences.specs.declared.refusal.Refusal.{Refusal as RefusalValue};
 ghost use Rattle.occurrences.specs.declared.refusal.Refusal.TheVariants.{CalendarUndefined, PeriodUndefined, Loop};
@@ -12,11 +11,11 @@ ghost use Rattle.occurrences.specs.declared.reply.Reply.{Reply as ReplyValue};
 ghost use Rattle.occurrences.specs.declared.reply.Reply.TheVariants.{Made, Moved, Numbered, Changed};
 ghost use Rattle.occurrences.specs.declared.status.Status.{Status as StatusValue};
 ghost use Rattle.plan_listings.specs.Reply.{refusal_text, reply_text};
-ghost use Rattle.planner_machine.specs.Sound.{IsKeptReply};
+ghost use Rattle.planner_machine.specs.Sound.{IsKeptReply, IsShown};
 ghost use Rattle.table_facts.specs.Content.{answer_text};
 ghost use Rattle.table_reading.specs.Lines.{IsDetailed, back, bare_refusals, changed_text, front, made_text, moved_text};
 
-use occurrences::{Refusal, Reply, Serial, Status};
+use occurrences::{Refusal, Reply, Status};
 use planner_machine::Answer;
 use std::alloc::{AllocError, Global};
 use table_facts::answer_line;
@@ -50,11 +49,11 @@ fn count_in(text: &str) -> usize
     word.parse::<usize>().unwrap_or(0)
 }
 
-// The serial with which the text begins.
-fn serial_in(text: &str) -> Option<Serial>
-    ensures { (n : ℕ) → IsSerial n → front text.now ≡ decimal n → result ≡ Some n }
+// The number of a serial with which the text begins.
+fn serial_in(text: &str) -> Option<u32>
+    ensures { (n : ℕ) → IsShown n → front text.now ≡ decimal n → result ≡ Some n }
 {
-    Serial::new(u32::try_from(count_in(text)).unwrap_or(0))
+    u32::try_from(count_in(text)).ok()
 }
 
 // The status that the text names.
@@ -97,8 +96,8 @@ fn moved_in(text: &str) -> Reply
 
 // The serial of an occurrence, and the status that may stand behind it.
 fn occurrence_in(text: &str) -> Option<Reply>
-    ensures numbered { (n : ℕ) → IsSerial n → text.now ≡ decimal n → result ≡ Some (Numbered n) }
-    ensures changed { (n : ℕ) (s : StatusValue) → IsSerial n → text.now ≡ changed_text n s
+    ensures numbered { (n : ℕ) → IsShown n → text.now ≡ decimal n → result ≡ Some (Numbered n) }
+    ensures changed { (n : ℕ) (s : StatusValue) → IsShown n → text.now ≡ changed_text n s
         → result ≡ Some (Changed n s) }
 {
     let serial = serial_in(text)?;
@@ -203,7 +202,7 @@ fn told_bare(alloc: Global, line: &str) -> Result<Option<Answer>, AllocError>
 // The refusal of a serial whose line this is.
 fn told_serial(alloc: Global, line: &str) -> Result<Option<Answer>, AllocError>
     ensures value { IfOk result (λ found. IfSome found (λ answer. answer_text answer ≡ line.now)) }
-    ensures none { IfOk result (λ found. found ≡ None → (n : ℕ) → IsSerial n
+    ensures none { IfOk result (λ found. found ≡ None → (n : ℕ) → IsShown n
         → refusal_text (PredecessorUncompleted n) ≡ line.now → ⊥) }
 {
     match serial_in(behind_two(line)) {

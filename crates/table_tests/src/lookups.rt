@@ -8,8 +8,7 @@ use std::process::Abort;
 use std::test::Fail;
 use table_lookups::{
     HandFault, Look, SinkFault, ValuesSink, ask, deletion_of_serial, hand, hand_all,
-    history_of_serial, job_of_number, last_of, operator_deletions_from, pairs_of_successor,
-    size_of,
+    history_of_serial, job_of_number, last_of, operator_deletions_from,
 };
 use table_schema::{Table, make_tables};
 
@@ -103,8 +102,6 @@ fn rows_are_found(rt: HostRuntime) -> Result<(), Fail> {
     assert_eq!(rt; places_of(&history_of_serial(&mut conn, 3)?), 1_000);
     assert_eq!(rt; places_of(&history_of_serial(&mut conn, 6)?), 0);
     assert_eq!(rt; places_of(&deletion_of_serial(&mut conn, 8)?), 100_000_000);
-    assert_eq!(rt; pairs_of_successor(&mut conn, 4)?.len(), 2);
-    assert_eq!(rt; pairs_of_successor(&mut conn, 1)?.len(), 0);
     assert_eq!(rt; places_of(&job_of_number(&mut conn, 7)?), 10_000_000);
     assert_eq!(rt; job_of_number(&mut conn, 2)?.len(), 0);
     Ok(())
@@ -154,12 +151,11 @@ fn operator_deletions_are_found(rt: HostRuntime) -> Result<(), Fail> {
 }
 
 /// What is listed, of which application, and the first numbers that are handed out.
-const LISTS: [(Look, &str, u64); 5] = [
+const LISTS: [(Look, &str, u64); 4] = [
     (Look::HistoryListed, "", 51_234),
     (Look::HistoryOf, "A", 134),
     (Look::DeletionsListed, "", 96_387),
     (Look::DeletionsOf, "A", 638),
-    (Look::PairsListed, "", 2_344),
 ];
 
 fn try_lists(rt: &impl Abort, conn: &mut Connection<MemStore>) {
@@ -220,15 +216,5 @@ fn sink_may_refuse(rt: HostRuntime) -> Result<(), Fail> {
     assert!(rt; is_refused);
     assert_eq!(rt; sink.number, 51);
     assert_eq!(rt; ask(&mut conn, Look::HistoryListed, &[])?.len(), 5);
-    Ok(())
-}
-
-#[test]
-fn sizes_are_counted(rt: HostRuntime) -> Result<(), Fail> {
-    let mut conn = plan(rt.alloc())?;
-    assert_eq!(rt; size_of(&mut conn, Table::History)?, 5);
-    assert_eq!(rt; size_of(&mut conn, Table::Dependency)?, 4);
-    assert_eq!(rt; size_of(&mut conn, Table::Job)?, 2);
-    assert_eq!(rt; size_of(&mut conn, Table::Current)?, 0);
     Ok(())
 }

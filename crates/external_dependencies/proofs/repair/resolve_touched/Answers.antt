@@ -2,6 +2,7 @@ use Rattle.std.proofs.Common.{◌↔◌, ◌⊎◌, ℕ, subst}
 use Rattle.std.specs.List.{Contains}
 use Rattle.std.proofs.lemmas.Result.{IfOk-weaker}
 use Rattle.external_dependencies.specs.Reached.{AreAsked, HasSerialOf}
+use Rattle.external_dependencies.specs.Touch.{HasRowOf}
 use Rattle.external_dependencies.specs.declared.pairs.Pair.{Pair}
 use Rattle.external_dependencies.proofs.ExactLemmas.{AreFound, AreHad, had_from, leads_exactly}
 use Rattle.external_dependencies.proofs.repair.resolve_touched.Goals as goal
@@ -16,11 +17,11 @@ returns c = IfOk-weaker c.between.result _ _ (λ change leads was now was_links 
     are_asked = c.in_ok-asked.ensures c.args.touch.now c.in_ok-reach.ensures
 
     are_serials : (n : ℕ) → Contains c.in_ok-serials.serials.items n
-        ↔ (HasSerialOf c.in_ok-asked.asked.items n ⊎ Contains c.args.touch.now.withdrawn.items n)
+        ↔ (HasSerialOf c.in_ok-asked.asked.items n ⊎ HasRowOf c.args.touch.now.withdrawn.items n)
     are_serials = subst (λ rows. (n : ℕ) → Contains c.in_ok-serials.serials.items n
-        ↔ (HasSerialOf rows n ⊎ Contains c.args.touch.now.withdrawn.items n)) c.deref.ensures.value
+        ↔ (HasSerialOf rows n ⊎ HasRowOf c.args.touch.now.withdrawn.items n)) c.deref.ensures.value
         (subst (λ gone. (n : ℕ) → Contains c.in_ok-serials.serials.items n
-        ↔ (HasSerialOf c.deref.result.now n ⊎ Contains gone n)) c.deref-2.ensures.value c.in_ok-serials.ensures)
+        ↔ (HasSerialOf c.deref.result.now n ⊎ HasRowOf gone n)) c.deref-2.ensures.value c.in_ok-serials.ensures)
 
     are_had : AreHad c.args.touch.now c.args.links.now c.args.rows.now c.args.pairs.now c.in_ok-had.had
     are_had = had_from c.args.touch.now c.args.links.now c.args.rows.now c.in_ok-asked.asked.items are_asked

@@ -1,4 +1,5 @@
-use Rattle.std.proofs.Common.{refl}
+use Rattle.std.proofs.Common.{ap, refl}
+use Rattle.occurrences.specs.declared.reply.Reply.TheVariants.{Numbered}
 use Rattle.planner_machine.specs.Delete.{delete_move}
 use Rattle.planner_machine.specs.Moves.{each}
 use Rattle.planner_machine.proofs.SoundLemmas.{rows_sound}
@@ -32,5 +33,5 @@ returns c h sound sees stands =
         pairs = (c.in_ok-pairs.ensures h sound sees s loses).0;
         leads = (c.in_ok-pairs.ensures h sound sees s loses).1;
       },
-      refl,
+      ap Numbered c.get-serial.ensures.number,
     )

@@ -1,4 +1,4 @@
-use Rattle.std.proofs.Common.{◌≡◌, ◌↔◌, ◌++◌, ◌∙◌, ℕ, List, inr, subst, sym, Result, Ok, Err}
+use Rattle.std.proofs.Common.{◌≡◌, ◌↔◌, ◌++◌, ◌∙◌, ℕ, List, inl, subst, sym, Result, Ok, Err}
 use Rattle.std.specs.Prelude.{IfOk}
 use Rattle.std.specs.List.{Contains, filter_map}
 use Rattle.occurrences.specs.Place.{IsOpen}
@@ -51,8 +51,7 @@ returns c order lists = weaker c.pair_change.result _ _ (λ change led h sound s
     let gone_pass = gone_held h view sound sees links known rows lists current c.cp-current.ensures.rows lasts
     c.lasts-lasts.ensures s stay gone put have plan touch touches apps reached in
     let of_made : (row : Row) → Contains put row → Contains apps row.key.app = λ row there.
-    let begun = touches.begun row (inr there) in
-    subst (Contains apps) begun.of_app (reached.touched begun.stretch begun.listed).0 in
+    (reached.touched row (inl (subst (λ rs. Contains rs row) (sym touches.comes) there))).0 in
     let with_rows : (OfRows : List ℕ → Type 0) (live : List PlacedRow)
     → ((p : PlacedRow) → Contains live p ↔ (IsInLists (stay ++ put) current lasts p × OfRows p.row.key.app))
     → ((q : PlacedRow) → Contains to.now q → IsOpen q.place → MayReach touch links q.row

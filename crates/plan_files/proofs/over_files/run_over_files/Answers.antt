@@ -34,6 +34,7 @@ seen log db is_log history = (replay (cond is_log log db) history).seen
 pub returns-in-Err-run_over_connection-clause-refused : goal.returns-in-Err-run_over_connection-clause-refused
 returns-in-Err-run_over_connection-clause-refused g c =
     let h = c.in-Err-run_over_connection.ensures.unrun in record {
+      told = tt;
       none = λ is. absurd (cc);
       some = inr (
         c.in-Err-run_over_connection.left,
@@ -58,10 +59,14 @@ returns-in-Err-run_over_connection-clause-refused g c =
 
 pub returns-in-Err-clause-refused : goal.returns-in-Err-clause-refused
 returns-in-Err-clause-refused g c = record {
-  none = λ is. elim (c.in-Err.ensures.unopened is) [
-    | inl memory ↦ inl (ap Unopened memory)
-    | inr other ↦ inr (ap Unopened other)
-  ];
+  told = ap Unopened c.in-Err.ensures.told;
+  none = λ is. (
+    refl,
+    elim (c.in-Err.ensures.unopened is) [
+      | inl memory ↦ inl (ap Unopened memory)
+      | inr other ↦ inr (ap Unopened other)
+    ],
+  );
   some = if_some c.in-Err.left _ _ (λ rest h.
       let (files, log, db, left) = h in
       let same = ap₂ image (ap₂ (seen g.S.Start.log g.S.Start.db) log.0 log.1)

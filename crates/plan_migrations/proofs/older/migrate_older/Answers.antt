@@ -1,6 +1,8 @@
-use Rattle.std.proofs.Common.{arith}
+use Rattle.std.proofs.Common.{ℕ, Option, arith, subst}
+use Rattle.std.specs.Prelude.{Ok}
 use Rattle.sqlite.specs.State.{HasCleanDisk}
 use Rattle.sqlite.specs.Held.{state}
+use Rattle.plan_migrations.specs.Schemas.{TellsVersion}
 use Rattle.plan_migrations.proofs.OlderLemmas.{current_if_known, current_if_none, current_since, same_if_told}
 use Rattle.plan_migrations.proofs.OlderLemmas.{survives_both, unmigrated_since}
 use Rattle.plan_migrations.proofs.ReadLemmas.{untold}
@@ -66,3 +68,22 @@ pub returns-in-Err-clause-unmigrated : goal.returns-in-Err-clause-unmigrated
 returns-in-Err-clause-unmigrated g c clean =
     untold (state g.S.Store c.args.conn.now) (state g.S.Store c.version.new.conn) c.in-Err.fault
     (c.in-Err.ensures.tells clean)
+
+pub returns-in-Ok-clause-told : goal.returns-in-Ok-clause-told
+returns-in-Ok-clause-told g c clean =
+    let old = state g.S.Store c.args.conn.now in
+    let mid = state g.S.Store c.version.new.conn in
+    let early : HasCleanDisk mid = omega (arith, c.migrate.ensures.crash.clean, clean) in
+    (c.version.new.conn, subst (λ (o : Option ℕ). TellsVersion old mid (Ok o)) c.in-Ok-Some.field-0-is (c.in-Ok-Some.ensures.tells early))
+
+pub returns-else-found-eq-FIRST_VERSION-clause-told : goal.returns-else-found-eq-FIRST_VERSION-clause-told
+returns-else-found-eq-FIRST_VERSION-clause-told g c clean =
+    let old = state g.S.Store c.args.conn.now in
+    let mid = state g.S.Store c.version.new.conn in
+    (c.version.new.conn, subst (λ (o : Option ℕ). TellsVersion old mid (Ok o)) c.in-Ok-Some.field-0-is (c.in-Ok-Some.ensures.tells clean))
+
+pub returns-in-Ok-None-clause-told : goal.returns-in-Ok-None-clause-told
+returns-in-Ok-None-clause-told g c clean =
+    let old = state g.S.Store c.args.conn.now in
+    let mid = state g.S.Store c.version.new.conn in
+    (c.version.new.conn, subst (λ (o : Option ℕ). TellsVersion old mid (Ok o)) c.in-Ok-None.field-0-is (c.in-Ok-None.ensures.tells clean))

@@ -1,15 +1,15 @@
-use Rattle.std.proofs.Common.{◌≡◌, ◌++◌, ◌∙◌, ℕ, List, ap, ap₂, map, subst, sym}
+use Rattle.std.proofs.Common.{◌≡◌, ◌++◌, ◌∙◌, ℕ, List, ap, ap₂, subst, sym}
 use Rattle.std.specs.List.{Contains}
 use Rattle.std.specs.Cmp.Lexicographic.{slice_cmp}
 use Rattle.std.specs.Ordering.{nat_cmp}
 use Rattle.std.proofs.lemmas.List.Elements.{Contains-append_left, Contains-append_right}
+use Rattle.occurrences.specs.declared.row.Row.{Row}
 use Rattle.external_dependencies.specs.Link.{Lists}
+use Rattle.external_dependencies.specs.Touch.{IsMoved}
 use Rattle.external_dependencies.specs.Rising.{IsRising}
 use Rattle.external_dependencies.specs.declared.links.Link.{Link}
-use Rattle.external_dependencies.specs.declared.touch.Stretch.{Stretch}
 use Rattle.external_dependencies.proofs.OrderLemmas.{name_ties}
 use Rattle.plan_pairs.specs.ByApplications.{HasWithList}
-use Rattle.plan_pairs.proofs.TouchedLemmas.{map_has}
 use Rattle.plan_pairs.proofs.by_applications.reached_apps.Goals as goal
 
 pub in_order-touched-requires : goal.in_order-touched-requires
@@ -22,13 +22,10 @@ pub in_order-requires : goal.in_order-requires
 in_order-requires c = name_ties
 
 pub returns : goal.returns
-returns c = record { touched = in_stretch; changed = in_lists; naming = in_naming }
+returns c = record { touched = of_moved; changed = in_lists; naming = in_naming }
   where
     links : List Link
     links = c.args.links.now
-
-    stretches : List Stretch
-    stretches = c.args.touch.now.stretches.items
 
     touched : List (List ℕ)
     touched = c.in_order-touched.result.items
@@ -46,13 +43,13 @@ returns c = record { touched = in_stretch; changed = in_lists; naming = in_namin
     apps = c.in_order.result.items
 
     two : c.extend_from_slice.new.self.items ≡ naming ++ touched
-    two = c.in_ok-extend_from_slice.ensures.items ∙ ap (λ xs. naming ++ xs) c.deref-3.ensures.value
+    two = c.in_ok-extend_from_slice.ensures.items ∙ ap (λ xs. naming ++ xs) c.deref-2.ensures.value
 
     three : c.extend_from_slice-2.new.self.items ≡ (naming ++ touched) ++ c.args.touch.now.lists.items
-    three = c.in_ok-extend_from_slice-2.ensures.items ∙ ap₂ (λ xs ys. xs ++ ys) two c.deref-4.ensures.value
+    three = c.in_ok-extend_from_slice-2.ensures.items ∙ ap₂ (λ xs ys. xs ++ ys) two c.deref-3.ensures.value
 
     whole : c.extend_from_slice-3.new.self.items ≡ named ++ reached
-    whole = c.in_ok-extend_from_slice-3.ensures.items ∙ ap (λ xs. named ++ xs) c.deref-6.ensures.value
+    whole = c.in_ok-extend_from_slice-3.ensures.items ∙ ap (λ xs. named ++ xs) c.deref-5.ensures.value
 
     -- one that is reached is told, with its list
     with_list : (app : List ℕ) → Contains reached app → HasWithList links apps app
@@ -62,39 +59,37 @@ returns c = record { touched = in_stretch; changed = in_lists; naming = in_namin
       λ predecessor (within, listed). (c.in_order.ensures.same predecessor).1 (subst (λ xs. Contains xs predecessor) (sym whole)
           (Contains-append_left named reached predecessor
           (c.in_ok-apps.ensures
-          (subst (IsRising (slice_cmp nat_cmp)) (sym c.deref-5.ensures.value) c.in_order-reached.ensures.rising)
+          (subst (IsRising (slice_cmp nat_cmp)) (sym c.deref-4.ensures.value) c.in_order-reached.ensures.rising)
           (record { app = app; predecessor = predecessor; within = within })
           (subst (λ ls. Contains ls (record { app = app; predecessor = predecessor; within = within })) (sym c.as_slice-2.ensures.all)
           listed)
-          (subst (λ xs. Contains xs app) (sym c.deref-5.ensures.value) there)))),
+          (subst (λ xs. Contains xs app) (sym c.deref-4.ensures.value) there)))),
     )
 
     to_reached : (app : List ℕ) → Contains ((naming ++ touched) ++ c.args.touch.now.lists.items) app
         → Contains reached app
     to_reached app there = (c.in_order-reached.ensures.same app).1 (subst (λ xs. Contains xs app) (sym three) there)
 
-    is_touched : (s : Stretch) → Contains stretches s → Contains touched s.app
-    is_touched s there = (c.in_order-touched.ensures.same s.app).1
-        (subst (λ xs. Contains xs s.app)
-        (sym (c.in_ok-stretched_apps.ensures ∙ ap (map (λ (x : Stretch). x.app)) c.deref.ensures.value))
-        (map_has (λ (x : Stretch). x.app) stretches s there))
+    is_touched : (row : Row) → IsMoved c.args.touch.now row → Contains touched row.key.app
+    is_touched row moved = (c.in_order-touched.ensures.same row.key.app).1 (c.in_ok-moved_apps.ensures row moved)
 
-    in_stretch : (s : Stretch) → Contains stretches s → HasWithList links apps s.app
-    in_stretch s there = with_list s.app (to_reached s.app
-        (Contains-append_left (naming ++ touched) c.args.touch.now.lists.items s.app
-        (Contains-append_right naming touched s.app (is_touched s there))))
+    of_moved : (row : Row) → IsMoved c.args.touch.now row → HasWithList links apps row.key.app
+    of_moved row moved = with_list row.key.app (to_reached row.key.app
+        (Contains-append_left (naming ++ touched) c.args.touch.now.lists.items row.key.app
+        (Contains-append_right naming touched row.key.app (is_touched row moved))))
 
     in_lists : (app : List ℕ) → Contains c.args.touch.now.lists.items app → HasWithList links apps app
     in_lists app there = with_list app (to_reached app
         (Contains-append_right (naming ++ touched) c.args.touch.now.lists.items app there))
 
-    in_naming : (s : Stretch) (app : List ℕ) → Contains stretches s → Lists links app s.app
+    in_naming : (row : Row) (app : List ℕ) → IsMoved c.args.touch.now row → Lists links app row.key.app
         → HasWithList links apps app
-    in_naming s app there (within, listed) = with_list app (to_reached app
+    in_naming row app moved (within, listed) =
+        let link : Link = record { app = app; predecessor = row.key.app; within = within } in
+        with_list app (to_reached app
         (Contains-append_left (naming ++ touched) c.args.touch.now.lists.items app
         (Contains-append_left naming touched app
         (c.in_ok-reached.ensures
-        (subst (IsRising (slice_cmp nat_cmp)) (sym c.deref-2.ensures.value) c.in_order-touched.ensures.rising)
-        (record { app = app; predecessor = s.app; within = within })
-        (subst (λ ls. Contains ls (record { app = app; predecessor = s.app; within = within })) (sym c.as_slice.ensures.all) listed)
-        (subst (λ xs. Contains xs s.app) (sym c.deref-2.ensures.value) (is_touched s there))))))
+        (subst (IsRising (slice_cmp nat_cmp)) (sym c.deref.ensures.value) c.in_order-touched.ensures.rising) link
+        (subst (λ ls. Contains ls link) (sym c.as_slice.ensures.all) listed)
+        (subst (λ xs. Contains xs row.key.app) (sym c.deref.ensures.value) (is_touched row moved))))))

@@ -2,7 +2,7 @@ use Rattle.std.proofs.Common.{◌≡◌, ◌+◌, ◌++◌, ◌∷◌, ◌∙◌
 use Rattle.std.proofs.lemmas.List.{take_all, take_more}
 use Rattle.plan_store.specs.Views.{shown}
 use Rattle.plan_pairs.specs.Planned.{AddsPairsOf, HasWaiting, IsOpenOf, IsOpenOfOne}
-use Rattle.plan_pairs.specs.Turns.{HasSerial}
+use Rattle.external_dependencies.specs.Touch.{HasRowOf}
 use Rattle.plan_pairs.proofs.ListLemmas.{none}
 use Rattle.plan_pairs.proofs.PlannedLemmas.{adds_both, adds_none, no_app, one_app_more, open_of}
 use Rattle.plan_pairs.proofs.planned.pairs_of_apps.Goals as goal
@@ -35,7 +35,7 @@ loop-app-preserved c =
     let new = c.push_waiting.new.pairs.items in
     let front : take (index + 1) apps ≡ take index apps ++ app ∷ [] =
     take_more apps index app c.loop-app-test.true ∙ ap (λ x. take index apps ++ x ∷ []) (sym c.app-item.is) in
-    let own = adds_both all (HasSerial ltp) (HasWaiting cp) (IsOpenOf s app) old middle new
+    let own = adds_both all (HasRowOf ltp) (HasWaiting cp) (IsOpenOf s app) old middle new
     c.in_ok-push_planned.ensures c.in_ok-push_waiting.ensures (open_of s app ltp c.ltp_of.ensures cp c.cp_of.ensures) in
     let more = adds_both all (IsOpenOfOne s (take index apps)) (IsOpenOf s app)
     (IsOpenOfOne s (take index apps ++ app ∷ [])) [] old new c.loop-app.invariant own

@@ -1,7 +1,7 @@
 use Rattle.std.proofs.Common.{[], inl, inr, subst}
 use Rattle.plan_store.specs.Views.{shown}
 use Rattle.plan_pairs.specs.Planned.{AddsPairsOf, HasWaiting, IsOpenAt}
-use Rattle.plan_pairs.specs.Turns.{HasSerial}
+use Rattle.external_dependencies.specs.Touch.{HasRowOf}
 use Rattle.plan_pairs.proofs.ListLemmas.{none}
 use Rattle.plan_pairs.proofs.PlannedLemmas.{adds_both, open_at}
 use Rattle.plan_pairs.proofs.planned.pairs_of_plans.Goals as goal
@@ -20,10 +20,10 @@ returns c pair =
     let cp = c.cp.result.now in
     let first = c.push_planned.new.pairs.items in
     let second = c.push_waiting.new.pairs.items in
-    let planned : AddsPairsOf all (HasSerial ltp) [] first =
-    subst (λ old. AddsPairsOf all (HasSerial ltp) old first) c.new-pairs.ensures.items c.in_ok-push_planned.ensures in
+    let planned : AddsPairsOf all (HasRowOf ltp) [] first =
+    subst (λ old. AddsPairsOf all (HasRowOf ltp) old first) c.new-pairs.ensures.items c.in_ok-push_planned.ensures in
     let current : AddsPairsOf all (HasWaiting cp) first second = c.in_ok-push_waiting.ensures in
-    let is = adds_both all (HasSerial ltp) (HasWaiting cp) (IsOpenAt (shown view).sets) [] first second planned current
+    let is = adds_both all (HasRowOf ltp) (HasWaiting cp) (IsOpenAt (shown view).sets) [] first second planned current
     (open_at (shown view).sets ltp c.ltp.ensures.rows cp c.cp.ensures.rows) pair in
     let same = c.from_vec.ensures pair in (
       (λ there. elim (is.0 (same.0 there)) [ inl nothing ↦ absurd (none pair nothing) | inr new ↦ new ]),

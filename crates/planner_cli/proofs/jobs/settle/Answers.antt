@@ -66,8 +66,7 @@ returns-in-Err g c =
     let fits = c.requires.fits honest in
     elim (c.apply.ensures.crash honest c' leaves) [
       | inl still ↦ inl (own c' still)
-      | inr (inl same) ↦ inl same
-      | inr (inr did) ↦ inr (
+      | inr did ↦ inr (
         answering (answer_in verdict),
         (
           settled c.args.number c.args.text verdict c.parts_of-change.result.0 c.parts_of-change.result.1 before _ fits

@@ -1,7 +1,6 @@
 use Rattle.std.proofs.Common.{◌≡◌, ◌↔◌, ℕ, List, subst}
 use Rattle.std.specs.List.{Contains, each_same}
 use Rattle.external_dependencies.proofs.OrderLemmas.{name_ties}
-use Rattle.external_dependencies.specs.declared.touch.Stretch.{Stretch}
 use Rattle.external_dependencies.proofs.reach.Reach.build.Goals as goal
 
 pub into_rising-requires-2 : goal.into_rising-requires-2
@@ -11,8 +10,6 @@ pub returns : goal.returns
 returns c =
     let touch = c.args.touch.now in
     let lists : c.in_ok-clone.field-0.items ≡ touch.lists.items = each_same _ _ c.in_ok-clone.ensures.cases.0 in
-    let stretches : c.in_ok-clone-2.field-0.items ≡ touch.stretches.items =
-    each_same _ _ c.in_ok-clone-2.ensures.cases.0 in
     record {
       serials_rise = c.into_rising.ensures.rising;
       serials = λ serial.
@@ -22,7 +19,8 @@ returns c =
       lists_rise = c.into_rising-2.ensures.rising;
       lists = λ app. subst (λ (xs : List (List ℕ)). Contains c.into_rising-2.result.items app ↔ Contains xs app) lists
           (c.into_rising-2.ensures.same app);
-      by_app = c.by_app.ensures.sorted;
-      stretches = λ s. subst (λ (xs : List Stretch). Contains c.by_app.result.items s ↔ Contains xs s) stretches
-          (c.by_app.ensures.same s);
+      moved = λ a.
+          let same = c.from_arrivals.ensures a in
+          let is = c.in_ok-moved.ensures a in
+          ((λ there. is.0 (same.0 there)), λ here. same.1 (is.1 here));
     }

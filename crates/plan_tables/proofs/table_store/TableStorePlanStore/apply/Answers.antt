@@ -70,7 +70,7 @@ module _ {S : Type 0} {is_honest : S → Type 0} {content : S → Content} {fail
     unchanged = λ _. tt;
     whole = λ _. tt;
     settled = λ _. settled;
-    crash = λ was c may. elim (crash was c may) [ inl left ↦ inl left | inr made ↦ inr (inr made) ];
+    crash = crash;
     blames = tt;
     broken = λ some. absurd (let h : ⊥ = omega (arith, none, some) in h);
     counts = omega (arith, none);
@@ -84,7 +84,7 @@ module _ {S : Type 0} {is_honest : S → Type 0} {content : S → Content} {fail
     unchanged = λ honest _. same honest;
     whole = λ honest. inl (same honest);
     settled = λ _. tt;
-    crash = λ was c may. elim (crash was c may) [ inl left ↦ inl left | inr made ↦ inr (inr made) ];
+    crash = crash;
     blames = λ device. inl (blames device);
     broken = λ some. absurd (let h : ⊥ = omega (arith, none, some) in h);
     counts = omega (arith, none);

@@ -1,0 +1,8 @@
+//! The end of a connection over files: the log is copied, and what a crash leaves is known even if that fails.
+#![tactic(auto)]
+
+mod closing;
+mod copying;
+
+pub use closing::{LetGo, let_go};
+pub use copying::{CopyFault, copy_log};
