@@ -11,12 +11,12 @@ help:
 	@sed -n 's/^# //p' Makefile
 
 install:
-	@tools/install $(WORDS) --python '$(PYTHON)' --zsh '$(ZSH)'
+	@tools/package/install $(WORDS) --python '$(PYTHON)' --zsh '$(ZSH)'
 
 uninstall:
-	@tools/install $(WORDS) --remove
+	@tools/package/install $(WORDS) --remove
 
 deb:
-	@tools/deb out
+	@tools/package/deb out
 
 .PHONY: help install uninstall deb

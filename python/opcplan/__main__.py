@@ -1,0 +1,154 @@
+"""./plan SUBCOMMAND: what an operator asks of a plan or a stream. Agent, desk, run, send, restore change a plan."""
+
+import argparse
+import importlib
+import keyword
+import os
+import re
+import sys
+from typing import Protocol, cast
+
+from opcplan.cli import output, signals, version, words
+from opcplan.errors import Unreadable, Unwritable
+from opcplan.plans import tempfiles
+
+GROUPS = {
+    "What stands in a plan:": ("page", "late", "ready", "rows", "why", "why-day", "export"),
+    "Job streams, before they are run and after:": ("lint", "check", "what-if", "run", "send", "explain", "next-job"),
+    "Definitions of a plan, as job streams:": ("dump", "edit", "import"),
+    "One plan for many callers:": ("desk", "log", "journal", "agent"),
+    "Copies of a plan:": ("backup", "restore"),
+}
+SUBCOMMANDS = [name for names in GROUPS.values() for name in names]
+WITH_TRACEBACK = "PLAN_TRACEBACK"
+DEFECT = 3
+END = """
+`./plan SUBCOMMAND --help` tells its words. Exit status: 0; 1 where nothing is found, something is to mend, or a file
+can't be read or written; 2 where the words are wrong; 3 where ./plan itself is; run and send have opcplan's. Stopped by
+a signal it ends by it, and leaves nothing behind. python/opcplan/plans/views.sql has views for stock sqlite3."""
+
+
+class Command(Protocol):
+    """A subcommand: its module in the package commands."""
+
+    SUMMARY: str
+
+    def add_words(self, parser: words.Parser) -> None:
+        """Adds its words to a parser."""
+
+    def run(self, given: argparse.Namespace) -> int:
+        """Does what the words ask for; the exit status."""
+
+
+def module_name(name: str) -> str:
+    """The name of the module of a subcommand."""
+    return name.replace("-", "_") + "_" * keyword.iskeyword(name)
+
+
+def module_of(name: str) -> Command:
+    """The module of a subcommand."""
+    return cast(Command, importlib.import_module(f"opcplan.commands.{module_name(name)}"))
+
+
+def summary_of(name: str) -> str:
+    """The SUMMARY of a subcommand, read from the text of its module: not one of them is imported for it."""
+    path = os.path.join(os.path.dirname(os.path.abspath(__file__)), "commands", f"{module_name(name)}.py")
+    with open(path, encoding="utf-8") as file:
+        found = re.search(r'(?m)^SUMMARY = "([^"\\]*)"$', file.read())
+    return found.group(1) if found else module_of(name).SUMMARY
+
+
+def help_text() -> str:
+    """What `./plan --help` prints."""
+    width = max(map(len, SUBCOMMANDS))
+    about = __doc__.partition(": ")[2]
+    lines = ["usage: ./plan SUBCOMMAND ... | --help | --version", "", about[0].upper() + about[1:]]
+    for title, names in GROUPS.items():
+        lines += ["", title, *(f"  {name:{width}}  {summary_of(name)}" for name in names)]
+    return "\n".join([*lines, END])
+
+
+def parser_of(name: str) -> words.Parser:
+    """The parser of a subcommand's words."""
+    module = module_of(name)
+    parser = words.Parser(prog=f"{words.CALLED} {name}", description=module.SUMMARY)
+    module.add_words(parser)
+    return parser
+
+
+def ask(name: str, given: list[str]) -> int:
+    """The exit status of a subcommand with its words."""
+    return module_of(name).run(parser_of(name).parse_args(given))
+
+
+def main(given: list[str]) -> int:
+    """The exit status of the words of a command line."""
+    if given[:1] in (["-h"], ["--help"], ["help"]):
+        print(help_text())
+        return 0
+    if given in (["-V"], ["--version"]):
+        print("\n".join(version.lines()))
+        return 0
+    if not given or given[0] not in SUBCOMMANDS:
+        from opcplan.rules import naming_words
+
+        near = naming_words.meant_text(given[0], SUBCOMMANDS) if given else ""
+        told = f"there is no subcommand {given[0]!r}{near}" if given else "a subcommand is wanted"
+        words.tell(f"{told}; ./plan --help lists all")
+        return 2
+    return ask(given[0], given[1:])
+
+
+def status_of(given: list[str]) -> int:
+    """The exit status, with all printed; what isn't done is told in a sentence, and where a defect is, if asked for."""
+    try:
+        try:
+            status = main(given)
+        except SystemExit as ended:  # help, or wrong words
+            status = int(ended.code or 0)
+        sys.stdout.flush()
+        return status
+    except BrokenPipeError:  # who reads what is printed has enough
+        return 0
+    except (Unreadable, Unwritable) as error:
+        words.tell(str(error))
+    except MemoryError:
+        words.tell("memory was refused")
+    except OSError as error:
+        words.tell(f"{error.filename}: {error.strerror}" if error.filename else f"{error.strerror or error}")
+    except Exception as error:
+        if os.environ.get(WITH_TRACEBACK):
+            raise
+        what = f"{type(error).__name__}: {error}"
+        words.tell(f"this is a defect of ./plan: {what}; with {WITH_TRACEBACK}=1 before it, it tells where")
+        return DEFECT
+    return 1
+
+
+def run(given: list[str]) -> None:
+    """Ends the process, by the signal that stopped it or with its status; nothing of its own is left."""
+    status: int | None = None
+    number: int | None = None
+    try:
+        try:
+            output.prepare()
+            signals.catch()
+            status = status_of(given)
+        finally:
+            signals.ignore()
+    except signals.Stopped as stopped:
+        number = stopped.number
+    finally:
+        tempfiles.drop_all()
+    if number:
+        signals.end_by(number)
+    sys.exit(status)
+
+
+def run_words() -> None:
+    """Runs the words of the command line."""
+    run(sys.argv[1:])
+
+
+if __name__ == "__main__":
+    run_words()

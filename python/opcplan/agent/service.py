@@ -1,0 +1,114 @@
+"""An agent from its beginning to its end."""
+
+import os
+import signal
+import stat
+import sys
+import threading
+
+from opcplan.agent import record, work
+from opcplan.cli import words
+from opcplan.desk import client
+
+LOCK = ".agent"
+# a token that an agent gives itself
+PIPE = "/dev/fd/"
+# how long it rests at most while nothing can be asked, in seconds
+LONGEST_REST = 30
+
+
+class Unable(Exception):
+    """Why an agent doesn't begin."""
+
+
+def run(given):
+    """Its exit status."""
+    given.desk = given.desk or client.usual()
+    if given.desk is None:
+        words.tell("agent: --desk is wanted; ./plan agent --help says more")
+        return 2
+    try:
+        desk = client.Client(given.desk, private_token())
+    except client.Wrong as why:
+        words.tell(f"agent: {why}")
+        return 2
+    except OSError as error:
+        words.tell(f"agent: {error.filename}: the token can't be read: {error.strerror}")
+        return 1
+    try:
+        take_folders(given)
+        number = locked(given.logs)
+    except Unable as why:
+        words.tell(f"agent: {why}")
+        return 1
+    except OSError as error:
+        words.tell(f"agent: {error.filename}: {error.strerror}")
+        return 1
+    try:
+        return watch(given, work.Agent(given, desk))
+    finally:
+        os.close(number)
+
+
+def private_token():
+    """The token for the desk. Where the environment has it, this process is run anew without: jobs can read with which
+    environment an agent of their user was begun. Raises OSError."""
+    found = client.token()
+    if "OPCPLAN_TOKEN" in os.environ:
+        reader, writer = os.pipe()
+        os.write(writer, (found or "").encode())
+        os.set_inheritable(reader, True)
+        del os.environ["OPCPLAN_TOKEN"]
+        os.environ["OPCPLAN_TOKEN_FILE"] = f"{PIPE}{reader}"
+        sys.stdout.flush()
+        os.execv(sys.executable, [sys.executable, *sys.orig_argv[1:]])
+    if os.environ.get("OPCPLAN_TOKEN_FILE", "").startswith(PIPE):
+        os.close(int(os.environ.pop("OPCPLAN_TOKEN_FILE").removeprefix(PIPE)))
+    return found
+
+
+def take_folders(given):
+    """Makes the paths whole, and the folder of logs where there is none. Raises Unable and OSError."""
+    given.jobs = os.path.realpath(given.jobs)
+    if not os.path.isdir(given.jobs):
+        raise Unable(f"{given.jobs}: there is no such folder")
+    if os.stat(given.jobs).st_mode & stat.S_IWOTH:
+        raise Unable(f"{given.jobs}: everybody may write into it, so no job of it is run")
+    given.logs = os.path.realpath(given.logs or os.path.join(given.jobs, "log"))
+    os.makedirs(given.logs, mode=0o750, exist_ok=True)
+
+
+def locked(folder):
+    """The number of the open file whose lock says that an agent has a folder of logs. Raises Unable and OSError."""
+    number = os.open(os.path.join(folder, LOCK), os.O_WRONLY | os.O_CREAT | os.O_CLOEXEC | os.O_NOFOLLOW, 0o600)
+    if not record.is_taken(number):
+        os.close(number)
+        raise Unable(f"{folder}: another agent has it")
+    return number
+
+
+def watch(given, agent):
+    """Looks until it is to end; the exit status."""
+    stop = threading.Event()
+    for one in (signal.SIGTERM, signal.SIGINT):
+        signal.signal(one, lambda *_: stop.set())
+    agent.load()
+    trouble, rest = None, given.every
+    while not stop.is_set():
+        try:
+            agent.step()
+            if trouble:
+                work.tell(f"{given.desk} answers again")
+            trouble, rest = None, given.every
+        except (client.Away, client.Refused, OSError) as why:
+            if agent.watched.position is None and isinstance(why, client.Refused) and why.status < 500:
+                work.tell(f"{given.desk}: {why}")
+                return 1
+            if str(why) != trouble:
+                trouble = str(why)
+                work.tell(f"{trouble}; it is tried again")
+            rest = min(max(2 * rest, given.every), LONGEST_REST)
+        stop.wait(rest)
+    if agent.running():
+        work.tell(f"ends; {agent.running()} of its jobs go on, and the next agent tells how they end")
+    return 0

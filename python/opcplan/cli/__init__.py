@@ -1,0 +1,1 @@
+"""Words, output and signals of a command."""

@@ -1,0 +1,114 @@
+"""The words of a subcommand: what `argparse` asks of them here, and what is told where they are wrong."""
+
+import argparse
+import os
+import re
+import sys
+from collections.abc import Sequence
+from typing import NoReturn
+
+from opcplan.rules import hints, moments, printable
+
+CALLED = "./plan"  # by make install as the command is called there
+
+NAME = re.compile(r"[A-Z@#$][A-Z0-9@#$]{0,15}")
+
+
+def tell(message: str) -> None:
+    """Says something on standard error, in one line. Where it takes nothing, nobody can be told."""
+    try:
+        print(printable.fit(f"{os.path.basename(CALLED)}: {message}"), file=sys.stderr, flush=True)
+    except OSError:
+        sys.stderr = open(os.devnull, "w", encoding="utf-8")
+
+
+class Parser(argparse.ArgumentParser):
+    """A parser that tells wrong words in one line and ends with status 2."""
+
+    is_mixed = False  # whether options may stand between words that belong together
+
+    def error(self, message: str) -> NoReturn:
+        tell(f"{message}; {self.prog} --help says more")
+        raise SystemExit(2)
+
+    def parse_args(  # type: ignore[override]  # argparse has overloads, of which these words are all
+        self, args: Sequence[str] | None = None, namespace: argparse.Namespace | None = None
+    ) -> argparse.Namespace:
+        """The words; a day and a time that stand apart, as lists print them, are one moment."""
+        given = joined(sys.argv[1:] if args is None else args)
+        if self.is_mixed:
+            return self.parse_intermixed_args(given, namespace)
+        return super().parse_args(given, namespace)
+
+
+def joined(given: Sequence[str]) -> list[str]:
+    """Words, of which a day and the time after it are one."""
+    found: list[str] = []
+    for word in given:
+        if found and moments.day_of(found[-1]) is not None and moments.typed_moment(f"{found[-1]} {word}") is not None:
+            word = f"{found.pop()} {word}"
+        found.append(word)
+    return found
+
+
+def day(text: str) -> int:
+    """A day, for `type=`."""
+    found = moments.day_of(text)
+    if found is None:
+        raise argparse.ArgumentTypeError(f"{text!r} is no day like 2026-11-25{told(hints.of_day(text))}")
+    return found
+
+
+def moment(text: str) -> int:
+    """A moment, for `type=`."""
+    found = moments.typed_moment(text)
+    if found is None:
+        raise argparse.ArgumentTypeError(f"{text!r} is no moment like 2026-11-25/06.00{told(hints.of_moment(text))}")
+    return found
+
+
+def now(text: str) -> int:
+    """A moment, or a minute of the clock's day, for `type=`."""
+    minute = moments.minute_of(text.replace(":", "."))
+    return moment(text) if minute is None else moments.now() // moments.DAY * moments.DAY + minute
+
+
+def told(slip: str) -> str:
+    """What is said behind a word that is not taken, where more than its form can be said."""
+    return f": {slip}" if slip else ""
+
+
+def name(text: str) -> str:
+    """The name of an application, for `type=`; small letters are taken as capitals."""
+    if not NAME.fullmatch(text.upper()):
+        raise argparse.ArgumentTypeError(f"{text!r} is no name of an application")
+    return text.upper()
+
+
+def file(text: str) -> str:
+    """The name of a file, for `type=`."""
+    if not text:
+        raise argparse.ArgumentTypeError("'' is no name of a file")
+    return text
+
+
+def add_plan(parser: argparse.ArgumentParser) -> None:
+    """The word that names the plan's file, as `words.plan`."""
+    parser.add_argument("plan", metavar="PLAN.db", type=file, help="the file that opcplan --db keeps")
+
+
+def add_stream(parser: argparse.ArgumentParser) -> None:
+    """The word that names a job stream, as `words.stream`."""
+    parser.add_argument("stream", metavar="STREAM", type=file, help="a file with a job stream, or - for standard input")
+
+
+def add_now(parser: argparse.ArgumentParser) -> None:
+    """The option that says what time it is, as `words.now`."""
+    parser.add_argument("--now", type=now, metavar="D/HH.MM",
+                        help="as of this moment, or of HH.MM of today (else the clock's)")
+
+
+def add_journal(parser: argparse.ArgumentParser) -> None:
+    """The option that names a journal, as `words.journal`."""
+    parser.add_argument("--journal", type=file, metavar="FILE",
+                        help="the journal of the plan's desk: when what happened, and when what waits is likely to end")

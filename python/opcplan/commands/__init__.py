@@ -1,0 +1,1 @@
+"""The subcommands of ./plan, a module each, with their helpers."""

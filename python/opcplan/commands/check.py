@@ -1,0 +1,80 @@
+"""./plan check: what a stream drops, what it lacks and what is refused of it, over a plan."""
+
+import argparse
+import dataclasses
+from collections.abc import Iterator
+
+from opcplan.cli import words
+from opcplan.commands import lint, trial_words
+from opcplan.plans import trial
+from opcplan.plans.stream_state import Known
+from opcplan.rules import explanations, lint_checks, printable, stream
+from opcplan.rules.stream import Item, Source
+
+SUMMARY = "what a stream drops, what it lacks and what would be refused, over a plan"
+
+
+@dataclasses.dataclass
+class Checked:
+    """All that is to be told of a stream over a plan, by line, and what it was answered in short."""
+
+    findings: list[lint_checks.Finding]
+    answered: int = 0
+    refused: int = 0
+    kept: int = 0  # jobs that the plan keeps
+    end: tuple[str, ...] = ()  # the lines on a fault, or on an output that ends too early
+
+
+def add_words(parser: words.Parser) -> None:
+    """Adds its words to a parser."""
+    parser.description = (
+        "Runs STREAM over a private copy of PLAN.db, and tells by line what each block drops or changes of what is "
+        "defined (a definition is replaced whole), what stream and plan together don't define, loops of predecessors "
+        "with their members, what else `./plan lint` finds, and each statement that would be refused, with the reason. "
+        "The plan stays as it is. The exit status is 1 where there is something to tell. " + stream.BOUND
+    )
+    words.add_plan(parser)
+    trial_words.add_words(parser, "runs")
+
+
+def run(given: argparse.Namespace) -> int:
+    """Does what the words ask for; the exit status."""
+    with trial.tried(given.plan, given.stream, checked, given.program) as tried:
+        print("\n".join(lines_of(tried.found)))
+    trial_words.tell_end(tried)
+    return 0 if tried.status == 0 and not tried.found.findings else 1
+
+
+def checked(items: Iterator[Item], output: Source, now: Known) -> Checked:
+    """A Checked of a stream and its output, from what is known before it on."""
+    walk, told = lint.Walk(now), Checked([])
+    for item, reply in explanations.answered(items, output, now.see):
+        if item is None or reply is None or explanations.is_end(reply):
+            told.end = tuple(explanations.end_lines(item, reply))
+            break
+        told.answered += 1
+        told.kept += is_answered_again(now, item)
+        if reply.startswith("refused"):
+            told.refused += 1
+            text = "; ".join(explanations.refusal_sentences(item, reply, now))
+            told.findings.append(lint_checks.Finding("refused", (), item.line, f"{reply}: {text}"))
+        walk.take(item, reply)
+    told.findings = sorted([*walk.ended(), *told.findings], key=lambda finding: finding.line or 0)
+    return told
+
+
+def is_answered_again(now: Known, item: Item) -> bool:
+    """Whether the plan keeps the job of a statement with the same text."""
+    kept = now.kept(item)
+    return kept is not None and (item.is_whole or not item.has_data) and kept[0] == stream.text_of_job(item)
+
+
+def lines_of(told: Checked) -> list[str]:
+    """A Checked in lines fit for a terminal: its findings, how many statements were accepted, refused and kept, and how
+    the output ended where it ended early."""
+    lines = [line for finding in told.findings for line in lint.finding_lines(finding)]
+    count = f"{told.answered - told.refused} accepted, {told.refused} refused"
+    if told.kept:
+        jobs = "is a job" if told.kept == 1 else "are jobs"
+        count += f"; {told.kept} of them {jobs} that the plan keeps, answered as then"
+    return [*lines, *([""] if lines else []), count, *map(printable.fit, told.end)]

@@ -1,0 +1,132 @@
+"""./plan desk: one planner for many callers, all day.
+
+Its parts are in the package opcplan.desk; those that speak HTTP need aiohttp, which Debian's package python3-aiohttp
+has."""
+
+import argparse
+import contextlib
+import importlib.util
+import ipaddress
+import os
+import sys
+
+from opcplan.cli import interpreter, words
+from opcplan.desk import log_words
+from opcplan.errors import Unreadable
+from opcplan.plans.program import built_program
+
+SUMMARY = "serves one plan to many callers at once, by HTTP, with a journal"
+USUAL = "127.0.0.1:7411"
+# the Python for which Debian has the package
+DEBIAN = "/usr/bin/python3"
+LACKING = "it needs aiohttp for Python 3, which Debian's package python3-aiohttp has: apt-get install python3-aiohttp"
+
+
+def add_words(parser: words.Parser) -> None:
+    """Adds its words to a parser."""
+    parser.description = (
+        "Keeps one opcplan over PLAN.db and answers callers by HTTP: statements, lists, events, a copy of the plan. "
+        "Each change stands in the journal before it is done; with --log in a log that outlives this machine. "
+        "docs/use/DESK.md has what may be asked, who may, and how "
+        "it is run as a service. It ends by SIGTERM or SIGINT, with status 0; what it was asked is answered then, and "
+        "PLAN.db has the plan alone. Status 1 where it can't begin, 2 where the words are wrong."
+    )
+    words.add_plan(parser)
+    parser.add_argument("--log", type=log_words.address, metavar="LOG",
+                        help="a log in etcd that several desks share, each with a plan of its own (else the journal "
+                        f"alone): {log_words.EXAMPLE}")
+    parser.add_argument("--from", dest="source", metavar="DESK",
+                        help="another desk of the log, whose plan is taken where there is no PLAN.db yet")
+    log_words.add_etcd(parser)
+    parser.add_argument("--listen", type=address, metavar="HOST:PORT",
+                        help=f"an address (else {USUAL} where there is no --socket); port 0 takes a free one")
+    parser.add_argument("--socket", type=words.file, metavar="PATH",
+                        help="a Unix socket, whose callers are known by their user")
+    parser.add_argument("--journal", type=words.file, metavar="FILE",
+                        help="the journal (else PLAN.db.journal beside the plan)")
+    parser.add_argument("--users", type=words.file, metavar="FILE",
+                        help="lines `USER ROLE`; a role is read, operate or plan")
+    parser.add_argument("--tokens", type=words.file, metavar="FILE",
+                        help="lines `SHA256 USER ROLE`, for callers by the address")
+    parser.add_argument("--host", metavar="NAME", action="append", default=[],
+                        help="a name, with its port if it has one, under which pages ask; may stand repeatedly")
+    parser.add_argument("--proxy", metavar="ADDRESS|USER",
+                        help="the proxy: its address, or its user who says by the socket who is logged in")
+    parser.add_argument("--limit", type=seconds, default=60.0, metavar="SECONDS",
+                        help="how long opcplan may say nothing while it is asked something; then it is killed and "
+                        "asked again (else 60)")
+    parser.add_argument("--program", type=words.file, metavar="FILE",
+                        help="the planner (else the one that is built here)")
+
+
+def address(text: str) -> tuple[str, int]:
+    """Host and port of an address, for `type=`."""
+    host, _, port = text.rpartition(":")
+    try:
+        found = str(ipaddress.ip_address(host.removeprefix("[").removesuffix("]").replace("localhost", "127.0.0.1")))
+    except ValueError:
+        found = ""
+    if not found or not port.isascii() or not port.isdigit() or int(port) > 65535:
+        raise argparse.ArgumentTypeError(f"{text!r} is no address like {USUAL}")
+    return found, int(port)
+
+
+def seconds(text: str) -> float:
+    """A time in seconds, for `type=`."""
+    with contextlib.suppress(ValueError):
+        if 0.1 <= (found := float(text)) <= 100_000:
+            return found
+    raise argparse.ArgumentTypeError(f"{text!r} is no number of seconds, 0.1 at least")
+
+
+def run(given: argparse.Namespace) -> int:
+    """Does what the words ask for; the exit status."""
+    if importlib.util.find_spec("aiohttp") is None:
+        return by_debian()
+    if given.listen is None and given.socket is None:
+        given.listen = address(USUAL)
+    if wrong := wrong_words(given):
+        words.tell(wrong)
+        return 2
+    from opcplan.desk import guard, listeners, server, snapshot_fetch, versions
+    from opcplan.plans import journal
+
+    given.journal = os.path.realpath(given.journal or journal.beside(given.plan))
+    try:
+        program = os.path.abspath(given.program or built_program())
+        if given.source and not os.path.exists(given.plan):
+            snapshot_fetch.take(given.source, given.plan, given.journal)
+        check_file(given.plan)
+        server.serve(given, program)
+    except (listeners.Unable, guard.Wrong, versions.Unfit) as why:
+        words.tell(str(why))
+        return 1
+    except OSError as error:
+        words.tell(f"{error.filename or given.plan}: {error.strerror}")
+        return 1
+    return 0
+
+
+def wrong_words(given: argparse.Namespace) -> str | None:
+    """What is wrong with the words together, or nothing."""
+    is_open = given.listen and not ipaddress.ip_address(given.listen[0]).is_loopback
+    if is_open and not (given.tokens and given.proxy):
+        return (f"{given.listen[0]} is an address that other machines reach: it takes --tokens, and --proxy with the "
+                "address of a proxy that speaks TLS")
+    if given.log is None and any((given.source, given.etcd_ca, given.etcd_cert, given.etcd_key, given.etcd_user)):
+        return "--from and the options of etcd go with --log"
+    return log_words.wrong_etcd(given)
+
+
+def check_file(path: str) -> None:
+    """Asks that there is such a file; opcplan would make a plan. Raises Unreadable."""
+    if not os.path.isfile(path):
+        raise Unreadable(f"{path}: there is no such file; `./opcplan --db` makes a new plan")
+
+
+def by_debian() -> int:
+    """Runs the same words by the Python that Debian's package is for; the exit status where that can't be."""
+    if os.path.realpath(sys.executable) != os.path.realpath(DEBIAN) and os.access(DEBIAN, os.X_OK):
+        interpreter.run_by(DEBIAN)
+    words.tell(f"desk: {LACKING}")
+    return 1

@@ -1,0 +1,161 @@
+"""./plan dump: the definitions of a plan, as a job stream that gives them again."""
+
+import argparse
+import re
+import sys
+from collections.abc import Callable, Iterator
+from typing import Any, NamedTuple
+
+from opcplan.cli import words
+from opcplan.plans import plan_definitions, plan_file
+from opcplan.plans.plan_file import Plan
+from opcplan.rules import definitions, moments
+from opcplan.rules.definitions import Application, Calendar, Period, RunCycle
+
+SUMMARY = "the definitions of a plan, as a job stream that gives them again"
+MOST_BYTES = 262_144
+GREATEST_JOB = 999_999_999
+
+
+class Kind(NamedTuple):
+    """What a plan defines of one kind: the kind, how many names it has in words, and its blocks."""
+
+    kind: str
+    title: str
+    blocks: list[str]
+
+
+class NoRoom(Exception):
+    """Its text says what can't be written as statements."""
+
+
+def add_words(parser: words.Parser) -> None:
+    """Adds its words to a parser."""
+    parser.description = (
+        "Prints the definitions of PLAN.db as a job stream that gives equal definitions, run over an empty plan. Each "
+        "statement has a job number of its own, counted on from the greatest that the plan has used."
+    )
+    words.add_plan(parser)
+    parser.add_argument("--job", metavar="N", type=job_number, help="the job number of the first statement")
+
+
+def job_number(text: str) -> int:
+    """A job number, for `type=`."""
+    if not re.fullmatch(r"[1-9][0-9]{0,8}", text):
+        raise argparse.ArgumentTypeError(f"{text!r} is no job number, 1 to {GREATEST_JOB}")
+    return int(text)
+
+
+def run(given: argparse.Namespace) -> int:
+    """Does what the words ask for; the exit status."""
+    with plan_file.opened(given.plan) as plan:
+        try:
+            text = stream_of(plan, given.job)
+        except NoRoom as lacks:
+            words.tell(f"{given.plan}: {lacks}")
+            return 1
+    sys.stdout.write(text)
+    return 0
+
+
+def stream_of(plan: Plan, first_job: int | None = None) -> str:
+    """The stream whose statements give the definitions of the plan."""
+    if first_job is None:
+        (used,) = plan.db.execute("SELECT coalesce(max(number), 0) FROM job").fetchone()
+        first_job = used + 1
+    text, number = ["* The definitions of a plan: run over an empty plan, this stream gives them again.\n"], first_job
+    for kind, title, blocks in kinds_of(plan):
+        text.append(f"\n* {title}\n")
+        for block in blocks:
+            if number > GREATEST_JOB:
+                raise NoRoom(f"no job numbers are left after {GREATEST_JOB}; name a smaller one by --job")
+            text.append(f"define {kind} --job {number}\n{block}/*\n")
+            number += 1
+    return "".join(text)
+
+
+def kinds_of(plan: Plan) -> Iterator[Kind]:
+    """Each kind that the plan defines something of."""
+    found = plan_definitions.of_plan(plan)
+    limits = [within for listed in found.predecessors.values() for within in listed.values()]
+    predecessor_records = without_limits if limits.count(None) == len(limits) else with_limits
+    kinds: tuple[tuple[str, dict[str, Any], Callable[[str, Any], list[str]]], ...] = (
+        ("calendars", found.calendars, calendar_records),
+        ("periods", found.periods, period_records),
+        ("applications", found.applications, application_records),
+        ("run-cycles", found.run_cycles, run_cycle_records),
+        ("predecessors", found.predecessors, predecessor_records),
+    )
+    for kind, names, records_of in kinds:
+        records = {name: records_of(name, defined) for name, defined in names.items()}
+        if records:
+            title = f"{kind}, of {len(records)} name{'s' if len(records) > 1 else ''}"
+            yield Kind(kind, title, blocks_of(kind, records))
+    options = f'default_calendar = "{found.default_calendar}"\nmax_extension_hours = {found.max_hours}\n'
+    yield Kind("options", "options", [options])
+
+
+def blocks_of(kind: str, records: dict[str, list[str]]) -> list[str]:
+    """The records by blocks, so that the records of one name stand in one and none has too many bytes."""
+    blocks: list[list[str]] = [[]]
+    size = 0
+    for name, lines in records.items():
+        text = "".join(line + "\n" for line in lines)
+        if len(text) > MOST_BYTES:
+            raise NoRoom(f"the {kind} of {name} take {len(text)} bytes, and a block holds at most {MOST_BYTES}")
+        if size + len(text) > MOST_BYTES:
+            blocks.append([])
+            size = 0
+        blocks[-1].append(text)
+        size += len(text)
+    return ["".join(texts) for texts in blocks]
+
+
+# The records of each kind, by name, in the order in which they are printed.
+
+
+def date_text(day: int | None) -> str:
+    """A day, or nothing where there is none."""
+    return "" if day is None else moments.day_text(day)
+
+
+def calendar_records(name: str, calendar: Calendar) -> list[str]:
+    """The records of a calendar."""
+    entries = [(definitions.WEEKDAYS[day], is_work) for day, is_work in calendar.weekdays.items()]
+    entries += [(moments.day_text(day), is_work) for day, is_work in calendar.dates.items()]
+    return [f"{name},{entry},{'WORK' if is_work else 'FREE'}" for entry, is_work in entries]
+
+
+def period_records(name: str, period: Period) -> list[str]:
+    """The records of a period."""
+    if period.kind == "N":
+        return [f"{name},N,{moments.day_text(first)},{date_text(end)}" for first, end in period.entries]
+    return [f"{name},{period.kind},{moments.day_text(period.origin)},{period.interval}"]
+
+
+def application_records(name: str, application: Application) -> list[str]:
+    """The record of an application."""
+    return [f"{name},{'A' if application.is_active else 'P'},{application.calendar or ''}"]
+
+
+def run_cycle_records(app: str, cycles: dict[str, RunCycle]) -> list[str]:
+    """The records of an application's run cycles."""
+    return [run_cycle_record(app, cycle) for cycle in cycles.values()]
+
+
+def run_cycle_record(app: str, cycle: RunCycle) -> str:
+    """The record of a run cycle."""
+    days = [moments.day_text(cycle.in_effect), date_text(cycle.out_effect)]
+    due = ["", ""] if cycle.due is None else [str(cycle.due.days), moments.minute_text(cycle.due.minute)]
+    offsets, time = " ".join(map(str, cycle.offsets)), moments.minute_text(cycle.time)
+    return ",".join([app, cycle.name, cycle.kind, cycle.period, cycle.rule, offsets, *days, time, *due])
+
+
+def without_limits(app: str, listed: dict[str, int | None]) -> list[str]:
+    """The records of a list of predecessors none of which has a limit."""
+    return [f"{app},{predecessor}" for predecessor in listed]
+
+
+def with_limits(app: str, listed: dict[str, int | None]) -> list[str]:
+    """The records of a list of predecessors."""
+    return [f"{app},{predecessor},{'' if within is None else within}" for predecessor, within in listed.items()]

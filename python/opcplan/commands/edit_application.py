@@ -1,0 +1,100 @@
+"""./plan edit PLAN.db application: whether an application is active, and its calendar."""
+
+import argparse
+
+from opcplan.cli.words import Parser
+from opcplan.commands import edit_words
+from opcplan.commands.edit_change import Change, Unmade
+from opcplan.plans.plan_file import Plan
+from opcplan.rules.definitions import Application, Definitions
+from opcplan.rules.naming_words import count_text, few
+
+SUMMARY = "makes an application active or pending, or gives it another calendar"
+
+
+def add_words(parser: Parser) -> None:
+    """Adds its words to a parser."""
+    parser.add_argument("name", metavar="NAME", type=edit_words.name, help="the application")
+    parser.add_argument("changes", metavar="CHANGE", type=change_of, nargs="+",
+                        help="active, pending, calendar=NAME, or calendar= for the default one")
+
+
+def change_of(text: str) -> tuple[str, bool | str | None]:
+    """A change: its field and what it is then."""
+    if text.lower() in ("active", "pending"):
+        return "status", text.lower() == "active"
+    key, equals, value = text.partition("=")
+    if key != "calendar" or not equals:
+        raise argparse.ArgumentTypeError(f"{text!r} is none of active, pending and calendar=NAME")
+    return "calendar", edit_words.name(value) if value else None
+
+
+def change(plan: Plan, found: Definitions, given: argparse.Namespace) -> Change:
+    """The change that is asked for."""
+    app, wanted = given.name, dict(given.changes)
+    if app not in found.applications:
+        raise Unmade(f"there is no application {app}")
+    if len(wanted) < len(given.changes):
+        raise Unmade("one thing is given twice", 2)
+    before = found.applications[app]
+    after = Application(wanted.get("status", before.is_active), wanted.get("calendar", before.calendar))
+    if after == before:
+        is_so = f"{status_text(before)}, {calendar_text(found, before)}"
+        raise Unmade(f"{app} is so already ({is_so}): nothing would change")
+    if after.calendar is not None and after.calendar not in (before.calendar, *found.calendars):
+        raise Unmade(edit_words.lack("calendar", after.calendar, found.calendars))
+    ask_plannable(found, app, after)
+    told = [*differences(found, app, before, after), *others_told(plan, found, app, before, after)]
+    is_modified = before.is_active or after.is_active
+    return Change("applications", {app: after}, told, app if after.is_active else None, is_modified)
+
+
+def ask_plannable(found: Definitions, app: str, after: Application) -> None:
+    """Asks that planning statements wouldn't be refused for an application that is active then."""
+    if not after.is_active:
+        return
+    name = after.calendar or found.default_calendar
+    if name != found.default_calendar and name not in found.calendars:
+        raise Unmade(f"{app} goes by the calendar {name}, which isn't defined: while {app} is active, planning "
+                     "statements would be refused (22)")
+    lacking = found.lacking_periods(app)
+    if lacking:
+        raise Unmade(f"run cycles of {app} name {few(lacking)}, which no period is: while {app} is active, "
+                     "planning statements would be refused (23)")
+
+
+def status_text(application: Application) -> str:
+    """A status in words."""
+    return "active" if application.is_active else "pending"
+
+
+def calendar_text(found: Definitions, application: Application) -> str:
+    """A calendar in words."""
+    return f"calendar {application.calendar}" if application.calendar else f"default calendar {found.default_calendar}"
+
+
+def differences(found: Definitions, app: str, before: Application, after: Application) -> list[str]:
+    """What changes, in sentences."""
+    told = []
+    if before.is_active != after.is_active:
+        told.append(f"{app}: {status_text(before)} -> {status_text(after)}.")
+    if before.calendar != after.calendar:
+        told.append(f"{app}: {calendar_text(found, before)} -> {calendar_text(found, after)}.")
+    return told
+
+
+def others_told(plan: Plan, found: Definitions, app: str, before: Application, after: Application) -> list[str]:
+    """What it means, and what stays, in sentences."""
+    query = "SELECT count(*) FROM ltp_row WHERE app = ? AND run_cycle IS NOT NULL"
+    (planned,) = plan.db.execute(query, (app,)).fetchone()
+    told = []
+    if before.is_active and not after.is_active:
+        told.append(f"While it is pending nothing of it is planned or can be added; {planned:,} that "
+                    f"{'is' if planned == 1 else 'are'} planned by its run cycles would be withdrawn.")
+    if after.is_active and not found.run_cycles.get(app):
+        told.append("It has no run cycles, so no day is named.")
+    waiting = [name for name, listed in found.predecessors.items() if app in listed and name != app]
+    cycles, listed = found.run_cycles.get(app, {}), found.predecessors.get(app, {})
+    own = f"{count_text(len(cycles), 'run cycle')} and its {count_text(len(listed), 'predecessor')}"
+    lists = f", and so do the lists that have it ({few(waiting)})" if waiting else ""
+    return [*told, f"Its {own} stay{lists}."]

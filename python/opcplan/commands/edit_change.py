@@ -1,0 +1,118 @@
+"""A change of definitions: what is defined then, what is told of it, and the statements that make it."""
+
+import dataclasses
+from collections.abc import Callable, Mapping, Sequence
+from typing import Any
+
+from opcplan.commands import dump, next_job
+from opcplan.errors import Unreadable
+from opcplan.plans.plan_file import Plan
+from opcplan.rules import blocks
+from opcplan.rules.moments import moment_text
+
+
+class Unmade(Exception):
+    """Why a change isn't made; `status` is 2 where the words are wrong."""
+
+    def __init__(self, text: str, status: int = 1) -> None:
+        super().__init__(text)
+        self.status = status
+
+
+@dataclasses.dataclass
+class Change:
+    """What is defined then of one kind, by name as in definitions.py (None where it is taken away), and what is told:
+    sentences on what changes and what doesn't. `one` is the application that alone is meant, and `is_modified` whether
+    a modification of the long-term plan takes the change into it."""
+
+    kind: str
+    after: dict[str, Any]
+    told: list[str]
+    one: str | None = None
+    is_modified: bool = True
+
+
+def stream_of(plan: Plan, changes: Sequence[Change], first_job: int | None = None) -> tuple[str, int]:
+    """The statements that make changes, and the job number of the last one."""
+    found = [statement for change in changes for statement in statements_of(plan, change)]
+    numbers = job_numbers(plan, len(found), first_job)
+    lines = [f"{statement} --job {number}\n{data}" for (statement, data), number in zip(found, numbers)]
+    return "".join(lines), numbers[-1]
+
+
+def statements_of(plan: Plan, change: Change) -> list[tuple[str, str]]:
+    """The statements of one change: the words before the job number, and the data behind the line."""
+    kept = {name: defined for name, defined in change.after.items() if defined is not None}
+    found = [(f"undefine {change.kind} --name {name}", "") for name in change.after if name not in kept]
+    if kept:
+        try:
+            found += [(f"define {change.kind}", f"{data}/*\n") for data in data_of(plan, change.kind, kept)]
+        except dump.NoRoom as lacks:
+            raise Unmade(str(lacks)) from None
+    return found
+
+
+def data_of(plan: Plan, kind: str, defined: dict[str, Any]) -> list[str]:
+    """The data of the blocks that give definitions of one kind. They are read again: a plan whose rows somebody changed
+    by hand may have what no record can give."""
+    found = [options_text(defined)] if kind == "options" else dump.blocks_of(kind, records_of(kind, defined))
+    read = [blocks.read(kind, data.encode()) for data in found]
+    again = {name: value for block in read for name, value in block.defined.items()}
+    if again != defined or any(block.fault for block in read):
+        raise Unreadable(f"{plan.path}: its rows are no sound plan: no records can give these {kind}")
+    return found
+
+
+def records_of(kind: str, defined: dict[str, Any]) -> dict[str, list[str]]:
+    """The records of each name."""
+    makers: dict[str, Callable[[str, Any], list[str]]] = {
+        "calendars": dump.calendar_records,
+        "periods": dump.period_records,
+        "applications": dump.application_records,
+        "run-cycles": dump.run_cycle_records,
+        "predecessors": dump.without_limits,
+    }
+    make = makers[kind]
+    if kind == "predecessors" and any(within for listed in defined.values() for within in listed.values()):
+        make = dump.with_limits
+    return {name: make(name, value) for name, value in defined.items()}
+
+
+def options_text(options: Mapping[str, object]) -> str:
+    """The document of the options."""
+    return "".join(f'{key} = {value}\n' if isinstance(value, int) else f'{key} = "{value}"\n'
+                   for key, value in options.items())
+
+
+def job_numbers(plan: Plan, count: int, first: int | None) -> list[int]:
+    """As many job numbers as are wanted, none of them kept, from a number on; by None from the next one."""
+    number = next_job.after_greatest(plan.db) if first is None else first
+    kept = next_job.kept_from(plan.db, number)
+    found: list[int] = []
+    if first in kept:
+        raise Unmade(f"job {first} is kept already; name one that is free, or leave --job away", 2)
+    while len(found) < count and number <= next_job.GREATEST:
+        if number not in kept:
+            found.append(number)
+        number += 1
+    if len(found) < count:
+        raise Unmade("no job numbers are left behind it; name a smaller one that is free by --job")
+    return found
+
+
+def way_into(plan: Plan, changes: Sequence[Change], job: int) -> list[str]:
+    """What takes changes into the plan, in sentences."""
+    if not any(change.is_modified for change in changes):
+        return []
+    if not plan.is_created:
+        return ["There is no long-term plan yet: `ltp-create` will go by it."]
+    try:
+        number = str(job_numbers(plan, 1, job + 1)[0])
+    except Unmade:
+        number = "N"
+    ones = {change.one for change in changes}
+    one = ones.pop() if len(ones) == 1 else None
+    alone = f", or `ltp-modify-one --app {one} --job {number}` for {one} alone," if one else ""
+    end = moment_text(plan.meta["plan_end"])
+    return [f"`ltp-modify-all --job {number}`{alone} takes it into the long-term plan, from {end} on, where the "
+            "current plan ends; what stands in the current plan stays there."]

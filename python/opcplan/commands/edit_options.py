@@ -1,0 +1,54 @@
+"""./plan edit PLAN.db options: the default calendar, and how far one daily plan goes."""
+
+import argparse
+
+from opcplan.cli.words import Parser
+from opcplan.commands import edit_words
+from opcplan.commands.edit_change import Change, Unmade
+from opcplan.plans.plan_file import Plan
+from opcplan.rules import blocks, record_fields
+from opcplan.rules.definitions import Definitions
+from opcplan.rules.naming_words import few
+
+SUMMARY = "changes default_calendar or max_extension_hours"
+
+
+def add_words(parser: Parser) -> None:
+    """Adds its words to a parser."""
+    parser.add_argument("pairs", metavar="KEY=VALUE", type=edit_words.pair, nargs="+",
+                        help="default_calendar=NAME or max_extension_hours=1 to 504")
+
+
+def change(plan: Plan, found: Definitions, given: argparse.Namespace) -> Change:
+    """The change that is asked for."""
+    before: dict[str, str | int] = {"default_calendar": found.default_calendar, "max_extension_hours": found.max_hours}
+    if len(dict(given.pairs)) < len(given.pairs):
+        raise Unmade("an option is given twice", 2)
+    after = {**before, **{key: value_of(key, value) for key, value in given.pairs}}
+    if after == before:
+        raise Unmade("the options are so already: nothing would change")
+    name = str(after["default_calendar"])
+    if name != found.default_calendar and name not in found.calendars:
+        raise Unmade(edit_words.lack("calendar", name, found.calendars))
+    told = [f"{key}: {before[key]} -> {after[key]}." for key in after if after[key] != before[key]]
+    told += [f"{key} stays {after[key]}." for key in after if after[key] == before[key]]
+    is_modified = name != found.default_calendar
+    if is_modified:
+        users = [app for app, application in found.applications.items() if application.calendar is None]
+        told.append(f"By the default calendar {'goes' if len(users) == 1 else 'go'} "
+                    f"{few(users) or 'no application'}; `dp-extend --count W` counts by it at once.")
+    if after["max_extension_hours"] != before["max_extension_hours"]:
+        told.append("`dp-extend` asks for max_extension_hours at once.")
+    return Change("options", after, told, None, is_modified)
+
+
+def value_of(key: str, text: str) -> str | int:
+    """The value of an option that a text spells."""
+    try:
+        if key == "max_extension_hours":
+            return edit_words.texts_of(value=text).number("value", 1, 504)
+        value = edit_words.texts_of(value=text.upper()).text("value")
+        blocks.check_option(key, value)
+        return value
+    except record_fields.Wrong as wrong:
+        raise Unmade(f"{key}={text}: {wrong}", 2) from None

@@ -1,0 +1,206 @@
+"""./plan edit PLAN.db period: the origins, interval ends, type and interval of a period."""
+
+import argparse
+import dataclasses
+from collections.abc import Callable
+
+from opcplan.cli.words import Parser
+from opcplan.commands import edit_words
+from opcplan.commands.edit_change import Change, Unmade
+from opcplan.plans.plan_file import Plan
+from opcplan.rules import reaches, record_fields
+from opcplan.rules.definitions import Definitions, Entry, Interval, Period
+from opcplan.rules.moments import day_text
+from opcplan.rules.naming_words import count_text, few
+
+SUMMARY = "adds or removes an origin or an interval's end, or changes type, origin or interval"
+KEYS = ("type", "origin", "interval")
+
+
+def add_words(parser: Parser) -> None:
+    """Adds its words to a parser."""
+    parser.description = (
+        f"{parser.description} "
+        "Of type N: `add ORIGIN [END]` lists a further interval, `remove ORIGIN` takes one away, `end ORIGIN [END]` "
+        "gives one an end or takes it away; `months FIRST..LAST` lists each month from one YYYY-MM to another, "
+        "`quarters` each quarter, `weeks` each week from one day to another, and without FIRST they go on after the "
+        "last interval. Else type=, origin= and interval= change what a period of type A or W has; "
+        "with type=N, origin= lists a first interval."
+    )
+    parser.add_argument("name", metavar="NAME", type=edit_words.short_name, help="the period")
+    parser.add_argument("changes", metavar="CHANGE", nargs="+",
+                        help="add ORIGIN [END], remove ORIGIN, end ORIGIN [END], months, quarters or weeks "
+                        "[FIRST]..LAST, or KEY=VALUE ..")
+
+
+def change(plan: Plan, found: Definitions, given: argparse.Namespace) -> Change:
+    """The change that is asked for."""
+    name = given.name
+    if name not in found.periods:
+        raise Unmade(edit_words.lack("period", name, found.periods))
+    before, (verb, *more) = found.periods[name], given.changes
+    if verb in LISTED or verb in reaches.NEXT:
+        if before.kind != "N":
+            raise Unmade(f"{name} is of type {before.kind}, which lists no intervals; it has type=, origin=, interval=")
+        entries = with_span(before, verb, more) if verb in reaches.NEXT else \
+            LISTED[verb](name, before.entries, *days_of(verb, more))
+        after = dataclasses.replace(before, entries=entries)
+    else:
+        after = with_fields(name, before, given.changes)
+    if after == before:
+        raise Unmade(f"{name} is so already: nothing would change")
+    users = [(app, cycle.name) for app, cycles in found.run_cycles.items() for cycle in cycles.values()
+             if cycle.period == name]
+    shown = few(f"{cycle} of {app}" for app, cycle in users)
+    is_gone = after.kind == "N" and not after.entries
+    if is_gone and users:
+        raise Unmade(f"no interval of {name} would be left, and it would have to go; but {shown} "
+                     f"{'counts' if len(users) == 1 else 'count'} in it")
+    counting = f"Run cycles that count in it: {shown or 'none'}; they stay as they are."
+    return Change("periods", {name: None if is_gone else after}, [*differences(name, before, after), counting])
+
+
+def days_of(verb: str, words: list[str]) -> tuple[int, int | None]:
+    """The days that are given with a verb: an origin, and an end or None."""
+    if len(words) not in ((1,) if verb == "remove" else (1, 2)):
+        raise Unmade(f"`{verb}` wants an origin{'' if verb == 'remove' else ', and an end where it has one'}", 2)
+    try:
+        origin, *ends = map(edit_words.day, words)
+    except argparse.ArgumentTypeError as wrong:
+        raise Unmade(str(wrong), 2) from None
+    return origin, ends[0] if ends else None
+
+
+# Entries with a change in them.
+
+
+def added(name: str, entries: list[Entry], origin: int, end: int | None) -> list[Entry]:
+    """The entries with a further one."""
+    if origin in dict(entries):
+        raise Unmade(f"{name} has an interval from {day_text(origin)} on already; `end` changes its end")
+    return sorted([*entries, Entry(origin, asked_end(origin, end))])
+
+
+def removed(name: str, entries: list[Entry], origin: int, _: int | None) -> list[Entry]:
+    """The entries without one."""
+    ask_listed(name, entries, origin)
+    return [entry for entry in entries if entry.origin != origin]
+
+
+def ended(name: str, entries: list[Entry], origin: int, end: int | None) -> list[Entry]:
+    """The entries, of which one has another end, or none."""
+    ask_listed(name, entries, origin)
+    return sorted([*removed(name, entries, origin, None), Entry(origin, asked_end(origin, end))])
+
+
+def ask_listed(name: str, entries: list[Entry], origin: int) -> None:
+    """Asks that a period lists an interval from a day on."""
+    if origin not in dict(entries):
+        near = sorted(dict(entries), key=lambda other: abs(other - origin))[:3]
+        raise Unmade(f"{name} has no interval from {day_text(origin)} on; the nearest are from "
+                     f"{', '.join(map(day_text, sorted(near)))} on")
+
+
+def asked_end(origin: int, end: int | None) -> int | None:
+    """An end that isn't before its origin."""
+    if end is not None and end < origin:
+        raise Unmade(f"the end {day_text(end)} is before its own origin, {day_text(origin)}", 2)
+    return end
+
+
+LISTED: dict[str, Callable[[str, list[Entry], int, int | None], list[Entry]]] = {
+    "add": added, "remove": removed, "end": ended}
+
+
+def with_span(before: Period, verb: str, words: list[str]) -> list[Entry]:
+    """The entries of a period with each month, quarter or week of a span that it doesn't list yet."""
+    after = reaches.NEXT[verb]
+    first, dots, last = words[0].partition("..") if len(words) == 1 else ("", "", "")
+    form = "FIRST..LAST, as 2027-01-04..2027-12-31" if verb == "weeks" else "FIRST..LAST, as 2027-01..2027-12"
+    if not dots or not last:
+        raise Unmade(f"`{verb}` wants {form}; without FIRST it goes on after the last interval", 2)
+    begin = after(before.entries[-1].origin) if not first else begin_of(verb, first)
+    end = begin_of(verb, last)
+    if end < begin:
+        raise Unmade(f"{words[0]} lists nothing: it would begin on {day_text(begin)}", 2)
+    listed = {entry.origin for entry in before.entries}
+    found = list(before.entries)
+    while begin <= end:
+        if begin not in listed:
+            found.append(Entry(begin, after(begin) - 1))
+        begin = after(begin)
+    return sorted(found, key=lambda entry: entry.origin)
+
+
+def begin_of(verb: str, text: str) -> int:
+    """The day on which a month, or a week, begins that somebody typed."""
+    try:
+        day: int = edit_words.day(text if verb == "weeks" else f"{text}-01")
+        return day
+    except argparse.ArgumentTypeError as wrong:
+        why = str(wrong) if verb == "weeks" else f"{text!r} is no month like 2027-01"
+        raise Unmade(why, 2) from None
+
+
+def with_fields(name: str, before: Period, words: list[str]) -> Period:
+    """A period with other fields."""
+    try:
+        pairs = [edit_words.pair(word) for word in words]
+    except argparse.ArgumentTypeError as wrong:
+        raise Unmade(f"{wrong}, nor one of {', '.join([*LISTED, *reaches.NEXT])}", 2) from None
+    wanted = {key.lower(): value for key, value in pairs}
+    strange = [key for key in wanted if key not in KEYS]
+    if strange or len(wanted) < len(pairs):
+        raise Unmade(f"{strange[0]!r} is none of {', '.join(KEYS)}" if strange
+                     else "a field is given twice", 2)
+    held = {"type": before.kind}
+    if before.kind != "N":
+        held |= {"origin": day_text(before.origin), "interval": str(before.interval)}
+    fields = {**held, **wanted}
+    kind = fields["type"] = fields["type"].upper()
+    if before.kind == kind == "N":
+        raise Unmade(f"{name} is of type N, whose intervals `add`, `remove` and `end` change", 2)
+    lacking = [key for key in KEYS if key not in fields and (key, kind) != ("interval", "N")]
+    if lacking or kind == "N" and "interval" in wanted:
+        raise Unmade(f"for type {kind} {lacking[0]}= is wanted too" if lacking
+                     else "type N has no interval=", 2)
+    return period_of(name, fields)
+
+
+def period_of(name: str, fields: dict[str, str]) -> Period:
+    """The period that the fields of a record make."""
+    second = "" if fields["type"] == "N" else fields["interval"]
+    texts = edit_words.texts_of(period=name, type=fields["type"], origin=fields["origin"], second=second)
+    found: dict[str, Period] = {}
+    try:
+        record_fields.take_period(found, texts, {})
+    except record_fields.Wrong as wrong:
+        key = "interval" if wrong.field == "second" else wrong.field
+        raise Unmade(f"{key}={fields[key]}: {wrong}", 2) from None
+    return found[name]
+
+
+def differences(name: str, before: Period, after: Period) -> list[str]:
+    """What changes, in sentences."""
+    if before.kind == after.kind == "N":
+        old, new = before.listed(), after.listed()
+        gone = [f"- {interval_text(span)}" for span in old if span not in new]
+        come = [f"+ {interval_text(span)}" for span in new if span not in old]
+        if not gone + come:
+            return [f"The intervals of {name} stay as they are; the record has its end written out or not."]
+        return [f"The intervals of {name}: {'; '.join(gone + come)}; {len(new) - len(come):,} stay."]
+    return [f"{name}: {period_text(before)} -> {period_text(after)}."]
+
+
+def interval_text(span: Interval) -> str:
+    """An interval in words."""
+    first = day_text(span.first)
+    return f"{first} on" if span.last is None else f"{first} to {day_text(span.last)}"
+
+
+def period_text(period: Period) -> str:
+    """A period in words."""
+    if period.kind == "N":
+        return f"type N, {count_text(len(period.entries), 'interval')} from {day_text(period.entries[0].origin)} on"
+    days = count_text(period.interval, "day" if period.kind == "A" else "work day")
+    return f"type {period.kind}, intervals of {days} from {day_text(period.origin)} on"

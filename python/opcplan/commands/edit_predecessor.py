@@ -1,0 +1,88 @@
+"""./plan edit PLAN.db predecessor: what an application waits for."""
+
+import argparse
+import dataclasses
+
+from opcplan.cli.words import Parser
+from opcplan.commands import edit_words
+from opcplan.commands.edit_change import Change, Unmade
+from opcplan.plans import stream_state
+from opcplan.plans.plan_file import Plan
+from opcplan.rules import lint_checks, loops
+from opcplan.rules.definitions import Definitions
+from opcplan.rules.naming_words import count_text, few
+
+Limits = dict[str, int | None]  # by predecessor: the hours of its limit, or None
+SUMMARY = "adds a predecessor to an application's list, with a limit or none, or removes one"
+
+
+def add_words(parser: Parser) -> None:
+    """Adds its words to a parser."""
+    parser.add_argument("app", metavar="APP", type=edit_words.name, help="the application that waits")
+    parser.add_argument("verb", metavar="add|remove", type=verb, help="add (also for another limit), or remove")
+    parser.add_argument("other", metavar="P", type=edit_words.name, help="the application that it waits for")
+    parser.add_argument("hours", metavar="HOURS", type=edit_words.hours, nargs="?",
+                        help="how many hours before APP an occurrence of P may arrive at most; none: no limit")
+
+
+def verb(text: str) -> str:
+    """What is to be done."""
+    if text not in ("add", "remove"):
+        raise argparse.ArgumentTypeError(f"{text!r} is neither add nor remove")
+    return text
+
+
+def change(plan: Plan, found: Definitions, given: argparse.Namespace) -> Change:
+    """The change that is asked for."""
+    before = found.predecessors.get(given.app, {})
+    if given.verb == "add":
+        after, told = added(found, given.app, given.other, given.hours, before)
+    else:
+        after, told = removed(given.app, given.other, given.hours, before)
+    others = [name for name in before if name != given.other]
+    told.append(f"What else {given.app} waits for stays: {few(others)}." if others
+                else f"{given.app} {'waited' if given.other in before else 'waits'} for no other.")
+    told.append("What is started by then keeps what it waited for.")
+    is_active = given.app in found.applications and found.applications[given.app].is_active
+    return Change("predecessors", {given.app: after or None}, told, given.app if is_active else None)
+
+
+def added(found: Definitions, app: str, other: str, hours: int | None, before: Limits) -> tuple[Limits, list[str]]:
+    """The list with a further name or another limit, and what changes."""
+    for name in (app, other):
+        if name not in found.applications:
+            raise Unmade(f"there is no application {name}")
+    if before.get(other, 0) == hours:
+        raise Unmade(f"{app} waits for {other} already, {limit_text(hours)}: nothing would change")
+    ring = loops.ring_of({**found.predecessors, app: {other: hours}}, app)
+    if other not in before and ring:
+        raise Unmade(f"that makes a loop, {' waits for '.join(ring)}, and planning statements would be refused (25)")
+    if other in before:
+        told = [f"{app} waits for {other}: {limit_text(before[other])} -> {limit_text(hours)}."]
+    else:
+        told = [f"{app} waits for {other} too, {limit_text(hours)}."]
+    after = dict(sorted({**before, other: hours}.items()))
+    return after, told + slips(found, app, {other: hours})
+
+
+def removed(app: str, other: str, hours: int | None, before: Limits) -> tuple[Limits, list[str]]:
+    """The list without a name, and what changes."""
+    if hours is not None:
+        raise Unmade("hours are for add alone", 2)
+    if other not in before:
+        raise Unmade(f"{app} doesn't wait for {other}: its list has "
+                     f"{few(before) or 'nothing'}")
+    after = {name: within for name, within in before.items() if name != other}
+    return after, [f"{app} waits no more for {other} ({limit_text(before[other])})."]
+
+
+def limit_text(hours: int | None) -> str:
+    """A limit in words."""
+    return "without a limit" if hours is None else f"within {count_text(hours, 'hour')}"
+
+
+def slips(found: Definitions, app: str, listed: Limits) -> list[str]:
+    """What is likely a slip in a list, in sentences."""
+    now = stream_state.Known(is_whole=True)
+    now.defined = dataclasses.replace(found, predecessors={app: listed})
+    return [f"Likely a slip: {finding.text}." for finding in lint_checks.predecessors(now)]

@@ -1,0 +1,118 @@
+"""./plan edit PLAN.db run-cycle: the fields of a run cycle."""
+
+import argparse
+import dataclasses
+from collections.abc import Iterable
+
+from opcplan.cli.words import Parser
+from opcplan.commands import dump, edit_words
+from opcplan.commands.edit_change import Change, Unmade
+from opcplan.errors import Unreadable
+from opcplan.plans import stream_state
+from opcplan.plans.plan_file import Plan
+from opcplan.rules import lint_checks, record_fields
+from opcplan.rules.definitions import Definitions, RunCycle
+from opcplan.rules.naming_words import few
+
+SUMMARY = "changes fields of a run cycle"
+NAMES, TAKE = record_fields.KINDS["run-cycles"]
+FIELDS = {field.replace(" ", "-"): field for field in NAMES[2:]}
+OTHER_WORDS = {"offset": "offsets", "ia": "input arrival"}
+
+
+def add_words(parser: Parser) -> None:
+    """Adds its words to a parser."""
+    parser.add_argument("app", metavar="APP", type=edit_words.name, help="its application")
+    parser.add_argument("name", metavar="NAME", type=edit_words.short_name, help="the run cycle")
+    parser.add_argument("pairs", metavar="FIELD=VALUE", type=edit_words.pair, nargs="+",
+                        help=f"{', '.join(FIELDS)}; offset and ia for short, and deadline=DAYS/HH.MM for both of its "
+                        "fields, deadline=HH.MM for the time alone; offsets are parted by blanks or commas; an empty "
+                        "value is none")
+
+
+def change(plan: Plan, found: Definitions, given: argparse.Namespace) -> Change:
+    """The change that is asked for."""
+    cycles = found.run_cycles.get(given.app, {})
+    if given.name not in cycles:
+        raise Unmade(edit_words.lack(f"run cycle {given.name} of", given.app, cycles))
+    before = cycles[given.name]
+    wanted = wanted_fields(given.pairs)
+    after = cycle_of({**fields_of(plan, given.app, before), **wanted})
+    if after == before:
+        raise Unmade(f"{given.name} of {given.app} is so already: nothing would change")
+    if after.period not in found.periods:
+        raise Unmade(edit_words.lack("period", after.period, found.periods))
+    then = {name: after if name == given.name else cycle for name, cycle in cycles.items()}
+    told = [*differences(plan, given.app, before, after), staying(given.app, cycles, before, after),
+            *slips(plan, found, given.app, then, after)]
+    is_active = given.app in found.applications and found.applications[given.app].is_active
+    if not is_active:
+        told.append(f"{given.app} isn't an active application, so nothing of it is planned.")
+    return Change("run-cycles", {given.app: then}, told, given.app if is_active else None, is_active)
+
+
+def wanted_fields(pairs: Iterable[tuple[str, str]]) -> dict[str, str]:
+    """The fields of a record that are given, by name."""
+    wanted: dict[str, str] = {}
+    for key, value in pairs:
+        parts = parts_of(key, value)
+        if wanted.keys() & parts.keys():
+            raise Unmade(f"the field {key} is given twice", 2)
+        wanted.update(parts)
+    return wanted
+
+
+def parts_of(key: str, value: str) -> dict[str, str]:
+    """The fields that one `key=value` gives."""
+    key = key.lower()
+    if key == "deadline":
+        days, slash, time = value.partition("/")
+        if not slash:
+            return {"deadline time": value} if value else {"deadline day": "", "deadline time": ""}
+        return {"deadline day": days, "deadline time": time}
+    field = OTHER_WORDS.get(key, FIELDS.get(key))
+    if field is None:
+        raise Unmade(f"a run cycle has no field {key!r}; it has {', '.join(FIELDS)}, and deadline", 2)
+    if field == "offsets":
+        value = value.replace(",", " ")
+    return {field: value.upper() if field in ("type", "period", "rule") else value}
+
+
+def fields_of(plan: Plan, app: str, cycle: RunCycle) -> dict[str, str]:
+    """The fields of a run cycle's record, by name."""
+    fields = dump.run_cycle_record(app, cycle).split(",")
+    if len(fields) != len(NAMES):
+        raise Unreadable(f"{plan.path}: its rows are no sound plan: a run cycle of {app} has a name that no "
+                                   "name can be")
+    return dict(zip(NAMES, fields))
+
+
+def cycle_of(fields: dict[str, str]) -> RunCycle:
+    """The run cycle that the fields of a record make."""
+    found: dict[str, dict[str, RunCycle]] = {}
+    try:
+        app, name = map(str, TAKE(found, edit_words.texts_of(**fields), {}))
+    except record_fields.Wrong as wrong:
+        raise Unmade(f"{wrong.field}={fields[wrong.field]}: {wrong}", 2) from None
+    return found[app][name]
+
+
+def differences(plan: Plan, app: str, before: RunCycle, after: RunCycle) -> list[str]:
+    """The fields that change, in one sentence for each."""
+    old, new = fields_of(plan, app, before), fields_of(plan, app, after)
+    return [f"{after.name} of {app}, {field}: {old[field] or 'none'} -> {new[field] or 'none'}."
+            for field in NAMES if old[field] != new[field]]
+
+
+def staying(app: str, cycles: dict[str, RunCycle], before: RunCycle, after: RunCycle) -> str:
+    """What stays, in a sentence."""
+    others = [name for name in cycles if name != before.name]
+    told = f", and so do its other run cycles: {few(others)}" if others else f"; {app} has no other one"
+    return f"All else of {before.name} stays{told}."
+
+
+def slips(plan: Plan, found: Definitions, app: str, cycles: dict[str, RunCycle], cycle: RunCycle) -> list[str]:
+    """What is likely a slip in a run cycle, in sentences."""
+    now = stream_state.of_plan(plan)
+    now.defined = dataclasses.replace(found, run_cycles={**found.run_cycles, app: cycles})
+    return [f"Likely a slip: {text}." for _, _, text in lint_checks.run_cycle_checks(now, app, cycle)]

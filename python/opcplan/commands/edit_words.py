@@ -1,0 +1,74 @@
+"""Words of ./plan edit and ./plan import: names, days and what is said of many of them."""
+
+import argparse
+from collections.abc import Callable, Iterable
+from typing import TypeVar
+
+from opcplan.cli import words
+from opcplan.commands import dump
+from opcplan.rules import naming_words, record_fields
+from opcplan.rules.definitions import WEEKDAYS
+
+Read = TypeVar("Read")  # what a text is read as
+
+
+def checked(read: Callable[[str], Read], text: str) -> Read:
+    """What a reader of record_fields answers, for `type=`."""
+    try:
+        return read(text)
+    except record_fields.Wrong as wrong:
+        raise argparse.ArgumentTypeError(f"{text!r}: {wrong}") from None
+
+
+def texts_of(**fields: str) -> record_fields.Texts:
+    """Words as the fields of a record; what is no text is told as a byte of it."""
+    return record_fields.Texts({field: text.encode("utf-8", "surrogateescape") for field, text in fields.items()})
+
+
+def name(text: str) -> str:
+    """A name of 16, for `type=`; small letters are taken as capitals."""
+    return checked(lambda given: texts_of(name=given.upper()).name("name"), text)
+
+
+def short_name(text: str) -> str:
+    """A name of 8, for `type=`; small letters are taken as capitals."""
+    return checked(lambda given: texts_of(name=given.upper()).name("name", 8), text)
+
+
+def day(text: str) -> int:
+    """A day, for `type=`."""
+    return checked(lambda given: texts_of(day=given).day("day"), text)
+
+
+def hours(text: str) -> int:
+    """A limit in hours, for `type=`."""
+    return checked(lambda given: texts_of(hours=given).number("hours", 1, 9999), text)
+
+
+def pair(text: str) -> tuple[str, str]:
+    """`key=value`, for `type=`."""
+    key, equals, value = text.partition("=")
+    if not equals or not key:
+        raise argparse.ArgumentTypeError(f"{text!r} is no key=value")
+    return key, value
+
+
+def add_job(parser: argparse.ArgumentParser) -> None:
+    """The option that names the first statement's job number, as `words.job`."""
+    parser.add_argument("--job", metavar="N", type=dump.job_number, help="its job number (else the next one)")
+
+
+def lack(what: str, name: str, known: Iterable[str]) -> str:
+    """That a plan has no such definition, and what it has."""
+    return f"there is no {what} {name}; the plan has {naming_words.few(known) or 'none'}"
+
+
+def tell(sentences: Iterable[str]) -> None:
+    """Says sentences on standard error."""
+    for sentence in sentences:
+        words.tell(sentence)
+
+
+def weekday(text: str) -> int | None:
+    """The weekday of `MON` to `SUN`, 0 for Monday, or None."""
+    return WEEKDAYS.index(text) if text in WEEKDAYS else None

@@ -1,0 +1,54 @@
+"""./plan explain: each refusal in the output of a job stream, with its line, its statement, and what it means."""
+
+import argparse
+import contextlib
+from collections.abc import Iterator
+
+from opcplan.cli import words
+from opcplan.plans import plan_file, stream_file, stream_state
+from opcplan.rules import explanations, stream
+
+SUMMARY = "each refusal of a stream's output: its line, its statement, what it means"
+
+
+def add_words(parser: words.Parser) -> None:
+    """Adds its words to a parser."""
+    parser.description = (
+        "Lays the lines that a job stream was answered beside its statements, and explains each refusal. With --plan "
+        "it knows what stands in the plan too: how far it reaches, which status an occurrence has. The exit status is "
+        "0 where all statements were accepted, and 1 where some were refused, or the two don't fit. "
+        f"{stream.BOUND[:-1]}, nor an output of more than {explanations.OF_OUTPUT}."
+    )
+    words.add_stream(parser)
+    parser.add_argument("output", metavar="OUTPUT", type=words.file, help="the file of what opcplan answered to it")
+    add_known_plan(parser)
+
+
+def add_known_plan(parser: words.Parser) -> None:
+    """The option that names the plan which a stream goes on with, as `words.plan`."""
+    parser.add_argument("--plan", metavar="PLAN.db", type=words.file, help="the plan that the stream is run over")
+
+
+@contextlib.contextmanager
+def known_at_first(path: str | None) -> Iterator[stream_state.Known]:
+    """What is known before a stream, where a plan is named by that plan."""
+    if path is None:
+        yield stream_state.Known()
+        return
+    with plan_file.opened(path) as plan:
+        yield stream_state.of_plan(plan)
+
+
+def run(given: argparse.Namespace) -> int:
+    """Does what the words ask for; the exit status."""
+    try:
+        with known_at_first(given.plan) as now, stream_file.opened(given.stream) as text:
+            with stream_file.opened(given.output, explanations.OF_OUTPUT) as output:
+                lines, refused, answered = explanations.explained(stream.items(text), output, now)
+    except explanations.Unlike as why:
+        words.tell(f"{given.output} is no output of {given.stream}: {why}")
+        return 1
+    count = f"{answered} statement{'' if answered == 1 else 's'}"
+    were = "was" if refused == 1 else "were"
+    print("\n".join([*lines, f"{refused} of {count} {were} refused." if refused else f"{count}, none refused."]))
+    return 1 if lines else 0

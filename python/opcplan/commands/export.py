@@ -1,0 +1,254 @@
+"""./plan export: occurrences for a calendar, a spreadsheet or a program."""
+
+import argparse
+import csv
+import datetime
+import io
+import json
+import os
+import sqlite3
+import sys
+from collections.abc import Callable, Collection, Iterable, Iterator
+from typing import NamedTuple
+
+from opcplan.cli import words
+from opcplan.commands import export_actual
+from opcplan.commands.export_actual import Ran
+from opcplan.plans import plan_file
+from opcplan.plans.plan_file import Plan
+from opcplan.rules import moments, printable
+
+SUMMARY = "occurrences as iCalendar, CSV or JSON, with ISO dates"
+SETS = {
+    "ltp": ("ltp_row", "'', ''"),
+    "cp": ("cp_row", "status, ''"),
+    "history": ("history_row", "'C', ''"),
+    "deletions": ("deletion_row", "'', reason"),
+}
+USUAL = ["ltp", "cp", "history"]
+STATUSES = {"W": "waiting", "S": "started", "E": "in error", "C": "complete", "D": "deleted"}
+REASONS = {"O": "deleted by an operator", "W": "withdrawn", "P": "deleted in the current plan"}
+PLACES = {"ltp": "long-term plan", "cp": "current plan", "history": "history", "deletions": "deletions"}
+COLUMNS = "serial application set status reason arrives due run_cycle added".split()
+# of a line of iCalendar, without its end
+MOST_OCTETS = 75
+# a spreadsheet takes a cell that begins with one of these for a formula, or looks behind it for one
+FORMULA_SIGNS = ("=", "+", "-", "@", "\t", "\r")
+
+
+class Occurrence(NamedTuple):
+    """An occurrence and where it stands: in a set, with its status there or the reason of its deletion, else ''."""
+
+    serial: int
+    app: str
+    arrival: int
+    deadline: int
+    run_cycle: str | None
+    held: str
+    status: str
+    reason: str
+
+    def values(self, moment_text: Callable[[int], str]) -> list[object]:
+        """What the columns show; None where there is nothing to show."""
+        status, reason = STATUSES.get(self.status), REASONS.get(self.reason)
+        moments_shown = [moment_text(self.arrival), moment_text(self.deadline)]
+        added = self.run_cycle is None
+        return [self.serial, self.app, self.held, status, reason, *moments_shown, self.run_cycle, added]
+
+
+def add_words(parser: words.Parser) -> None:
+    """Adds its words to a parser."""
+    parser.description = (
+        "Prints occurrences of PLAN.db by input arrival: those of the long-term plan, of the current plan and of "
+        "history, or of the sets that are named. Moments are those of the plan, local and without a time zone."
+    )
+    words.add_plan(parser)
+    words.add_journal(parser)
+    words.add_now(parser)
+    form = parser.add_mutually_exclusive_group(required=True)
+    form.add_argument("--ics", dest="form", action="store_const", const=calendar_text, help="iCalendar, an event each")
+    form.add_argument("--csv", dest="form", action="store_const", const=csv_text,
+                      help="a table with a line of names; a cell that begins as a formula has an apostrophe before it")
+    form.add_argument("--json", dest="form", action="store_const", const=json_text, help="with what each waits for")
+    parser.add_argument("--raw", action="store_true", help="with --csv: cells as they are, for what is no spreadsheet")
+    parser.add_argument("--set", dest="sets", action="append", choices=list(SETS), help="a set; may stand repeatedly")
+    parser.add_argument("--app", type=words.name, help="of this application alone")
+    parser.add_argument("--from", dest="first", type=words.day, metavar="D", help="that arrive on this day or later")
+    parser.add_argument("--to", dest="last", type=words.day, metavar="D", help="that arrive on this day or before")
+
+
+def run(given: argparse.Namespace) -> int:
+    """Does what the words ask for; the exit status."""
+    if given.raw and given.form is not csv_text:
+        words.tell("--raw goes with --csv alone")
+        return 2
+    if given.now is not None and given.journal is None:
+        words.tell("--now says as of when ends are expected, so it goes with --journal")
+        return 2
+    form = raw_csv_text if given.raw else given.form
+    with plan_file.opened(given.plan) as plan:
+        found = occurrences(plan.db, given.sets or USUAL, given.app, given.first, given.last)
+        ran = export_actual.of_journal(given.journal, plan, given.now) if given.journal else None
+        text = form(plan, found, ran) if found else None
+    if text is None:
+        words.tell(f"{given.plan}: it has no such occurrence")
+        return 1
+    sys.stdout.flush()
+    sys.stdout.buffer.write(text.encode())
+    return 0
+
+
+def occurrences(
+    db: sqlite3.Connection, sets: Collection[str], app: str | None, first: int | None, last: int | None
+) -> list[Occurrence]:
+    """The rows of these sets, in the order of lists: by input arrival, application and serial."""
+    texts = [
+        f"SELECT serial, app, ia, deadline, run_cycle, '{name}', {SETS[name][1]} FROM {SETS[name][0]} "
+        "WHERE (?1 IS NULL OR app = ?1) AND ia >= ?2 AND ia < ?3"
+        for name in SETS
+        if name in sets
+    ]
+    begin = 0 if first is None else first * moments.DAY
+    end = 1 << 40 if last is None else (last + 1) * moments.DAY
+    rows = db.execute(" UNION ALL ".join(texts) + " ORDER BY 3, 2, 1", (app, begin, end))
+    return [Occurrence(*row) for row in rows]
+
+
+def iso(moment: int, between: str = "T") -> str:
+    """A moment by ISO 8601, without a zone."""
+    day, minute = divmod(moment, moments.DAY)
+    return f"{moments.day_text(day)}{between}{minute // 60:02}:{minute % 60:02}"
+
+
+# A table. Spreadsheets take moments with a blank in them for moments.
+
+
+def spaced(moment: int) -> str:
+    """A moment by ISO 8601 with a blank in it."""
+    return iso(moment, " ")
+
+
+def csv_text(_: Plan, found: list[Occurrence], ran: Ran | None = None) -> str:
+    """A table for a spreadsheet."""
+    return table_text(ran, ([cell(value) for value in row] for row in cells_of(found, ran)))
+
+
+def raw_csv_text(_: Plan, found: list[Occurrence], ran: Ran | None = None) -> str:
+    """A table of the cells as they are."""
+    return table_text(ran, cells_of(found, ran))
+
+
+def cells_of(found: list[Occurrence], ran: Ran | None) -> Iterator[list[object]]:
+    """The values of the rows of a table."""
+    return ([*one.values(spaced), *(ran.values(one, " ") if ran else ())] for one in found)
+
+
+def table_text(ran: Ran | None, rows: Iterable[list[object]]) -> str:
+    """The text of a table, with a line of names."""
+    text = io.StringIO()
+    table = csv.writer(text, lineterminator="\n")
+    table.writerow([*COLUMNS, *(export_actual.COLUMNS if ran else ())])
+    for values in rows:
+        table.writerow([int(value) if isinstance(value, bool) else value for value in values])
+    return text.getvalue()
+
+
+def cell(value: object) -> object:
+    """A value such as no spreadsheet takes for a formula."""
+    return f"'{value}" if isinstance(value, str) and value.startswith(FORMULA_SIGNS) else value
+
+
+# For programs: an object, an occurrence on each line of its list.
+
+
+def json_text(plan: Plan, found: list[Occurrence], ran: Ran | None = None) -> str:
+    """An object, with a list of occurrences."""
+    waits_for: dict[int, list[int]] = {}
+    for row in plan.db.execute("SELECT successor, predecessor FROM dependency ORDER BY successor, predecessor"):
+        waits_for.setdefault(row["successor"], []).append(row["predecessor"])
+    meta = plan.meta
+    head: dict[str, object] = {
+        "plan": os.path.basename(plan.path),
+        "first_day": moments.day_text(meta["first_day"]),
+        "last_day": moments.day_text(meta["last_day"]),
+        "plan_end": iso(meta["plan_end"]),
+        **({"durations": ran.durations} if ran else {}),
+    }
+    lines = []
+    for one in found:
+        values = dict(zip(COLUMNS, one.values(iso)))
+        more = dict(zip(export_actual.COLUMNS, ran.values(one, "T"))) if ran else {}
+        lines.append(json.dumps({**values, "waits_for": waits_for.get(one.serial, []), **more}))
+    begin = json.dumps(head, indent=1).removesuffix("\n}")
+    return begin + ',\n "occurrences": [\n' + ",\n".join("  " + line for line in lines) + "\n ]\n}\n"
+
+
+# iCalendar, RFC 5545: an event from input arrival to deadline, in floating local time.
+
+
+def calendar_text(plan: Plan, found: list[Occurrence], ran: Ran | None = None) -> str:
+    """A calendar, with an event for each occurrence."""
+    stamp = last_written(plan.path).strftime("%Y%m%dT%H%M%SZ")
+    lines = ["BEGIN:VCALENDAR", "VERSION:2.0", "PRODID:-//opcplan//plan export//EN", "CALSCALE:GREGORIAN"]
+    for one in found:
+        lines += event_lines(one, stamp, ran)
+    return "".join(folded(line) + "\r\n" for line in [*lines, "END:VCALENDAR"])
+
+
+def last_written(path: str) -> datetime.datetime:
+    """When the plan was last written, in universal time: the stamp of what is told about it."""
+    times = [os.stat(path + tail).st_mtime for tail in ("", "-wal") if os.path.exists(path + tail)]
+    return datetime.datetime.fromtimestamp(max(times, default=0), datetime.timezone.utc)
+
+
+def event_lines(one: Occurrence, stamp: str, ran: Ran | None) -> list[str]:
+    """The lines of an event. An end has to come after the start, so a deadline that doesn't is told in words alone."""
+    start, end = (iso(moment).replace("-", "").replace(":", "") + "00" for moment in (one.arrival, one.deadline))
+    is_gone = one.status == "D" or one.held == "deletions"
+    return [
+        "BEGIN:VEVENT",
+        f"UID:opcplan-{one.serial:09}-{start}-{escaped(one.app)}",
+        f"DTSTAMP:{stamp}",
+        f"DTSTART:{start}",
+        *([f"DTEND:{end}"] if one.deadline > one.arrival else []),
+        f"SUMMARY:{escaped(one.app)}",
+        f"DESCRIPTION:{escaped(description(one) + (ran.text(one) if ran else ''))}",
+        f"CATEGORIES:{escaped(PLACES[one.held])}",
+        f"STATUS:{'CANCELLED' if is_gone else 'CONFIRMED'}",
+        "TRANSP:TRANSPARENT",
+        "END:VEVENT",
+    ]
+
+
+def description(one: Occurrence) -> str:
+    """What an occurrence is, in words."""
+    status = None if one.held == "history" else STATUSES.get(one.status)
+    place = ", ".join(filter(None, [PLACES[one.held], status, REASONS.get(one.reason)]))
+    origin = "added by hand" if one.run_cycle is None else f"named by run cycle {one.run_cycle}"
+    due = f"due {moments.moment_text(one.deadline)}"
+    return f"serial {one.serial}, {place}\narrives {moments.moment_text(one.arrival)}, {due}\n{origin}"
+
+
+def escaped(text: str) -> str:
+    """A value of type TEXT: line ends are written `\\n`, other controls as their numbers."""
+    if not text.replace("\n", "").isprintable():
+        text = printable.text(text.replace("\r\n", "\n").replace("\r", "\n").split("\n"))
+    for sign, written in (("\\", "\\\\"), (";", "\\;"), (",", "\\,"), ("\n", "\\n")):
+        text = text.replace(sign, written)
+    return text
+
+
+def folded(line: str) -> str:
+    """A line cut so that no piece has more octets than it may, each character whole; each further piece begins behind
+    a blank, which counts."""
+    octets, begin = line.encode("utf-8"), 0
+    pieces: list[bytes] = []
+    if len(octets) <= MOST_OCTETS:
+        return line
+    while len(octets) - begin > MOST_OCTETS - bool(pieces):
+        end = begin + MOST_OCTETS - bool(pieces)
+        while octets[end] & 0xC0 == 0x80:  # it goes on with a character that began before
+            end -= 1
+        pieces.append(octets[begin:end])
+        begin = end
+    return b"\r\n ".join([*pieces, octets[begin:]]).decode("utf-8")

@@ -1,0 +1,124 @@
+"""./plan import: holidays or a crontab, as the job stream that gives them to a plan."""
+
+import argparse
+import datetime
+import sys
+
+from opcplan.cli import words
+from opcplan.commands import edit_calendar, edit_change, edit_words, import_cron, import_csv, import_ics
+from opcplan.commands.edit_calendar import Entry
+from opcplan.commands.edit_change import Unmade
+from opcplan.commands.imported import Changes
+from opcplan.plans import plan_definitions, plan_file, stream_file
+from opcplan.plans.plan_file import Plan
+from opcplan.rules import stream
+from opcplan.rules.definitions import FIRST_DAY, LAST_DAY, LAST_PLANNING_DAY, Definitions
+from opcplan.rules.moments import DAY, EPOCH, day_text
+
+SUMMARY = "the job stream that gives a plan holidays (iCalendar, CSV), or a crontab's jobs"
+LONGEST = 1461  # days that a plan may reach on
+OF_FILE = stream.Bounds(16 << 20, 1_000_000)
+
+
+def add_words(parser: words.Parser) -> None:
+    """Adds its words to a parser."""
+    parser.description = (
+        "Prints the job stream that takes what FILE has into the definitions of PLAN.db. Of iCalendar (--ics) each "
+        "all-day event makes its days free in the calendar, several days and yearly rules too. Of CSV (--csv) each "
+        "record is `date[,status[,comment]]`, and the status is free, where none is given, or work. What the calendar "
+        "lists beside them stays. Of a crontab (--cron) each line makes an application with its run cycles, and the "
+        "periods that they count in are made where the plan has none that fits. What is taken, what isn't and why is "
+        "told on standard error. The exit status is 1 where something is left out or nothing would change, and 2 where "
+        f"the words or the file's records are wrong. A file of more than {OF_FILE} is not read."
+    )
+    kinds = parser.add_mutually_exclusive_group(required=True)
+    kinds.add_argument("--ics", metavar="FILE", type=words.file,
+                       help="an iCalendar file (needs Debian's python3-icalendar)")
+    kinds.add_argument("--csv", metavar="FILE", type=words.file, help="a file of records `date[,status[,comment]]`")
+    kinds.add_argument("--cron", metavar="FILE", type=words.file, help="a crontab, as `crontab -l` prints it")
+    parser.add_argument("--calendar", metavar="NAME", type=edit_words.name,
+                        help="the calendar that gets the days, or that a crontab's applications go by")
+    parser.add_argument("--new", action="store_true", help="also where the plan has no such calendar")
+    parser.add_argument("--from", dest="first", metavar="D", type=edit_words.day,
+                        help="the first day that is taken (else the plan's first day, or the year's; of CSV: each)")
+    parser.add_argument("--to", dest="last", metavar="D", type=edit_words.day,
+                        help=f"the last day that is taken (else {LONGEST:,} days on; of CSV: each)")
+    parser.add_argument("--system", action="store_true",
+                        help="the lines of the crontab name a user before the command, as in /etc/crontab")
+    edit_words.add_job(parser)
+    words.add_plan(parser)
+
+
+def run(given: argparse.Namespace) -> int:
+    """Does what the words ask for; the exit status."""
+    if given.ics:
+        import_ics.ask_library()
+    with plan_file.opened(given.plan) as plan:
+        try:
+            ask_words(given)
+            found = plan_definitions.of_plan(plan)
+            ask_calendar(found, given)
+            changes, told, left = taken(plan, found, given)
+            text, job = edit_change.stream_of(plan, changes, given.job) if changes else ("", 0)
+            told += edit_change.way_into(plan, changes, job)
+        except Unmade as why:
+            edit_words.tell([str(why)])
+            return why.status
+    edit_words.tell([*left, *told])
+    sys.stdout.write(text)
+    return 1 if left or not changes else 0
+
+
+def ask_words(given: argparse.Namespace) -> None:
+    """Asks that the words fit together."""
+    if given.calendar is None and not given.cron:
+        raise Unmade("--calendar NAME is wanted: the calendar that gets the days", 2)
+    if given.new and given.cron or given.system and not given.cron:
+        raise Unmade("--new is for holidays, and --system for a crontab", 2)
+    if given.first is not None and given.last is not None and given.last < given.first:
+        raise Unmade("--to is before --from", 2)
+
+
+def ask_calendar(found: Definitions, given: argparse.Namespace) -> None:
+    """Asks that the calendar is defined."""
+    if given.calendar is None or given.calendar in found.calendars or given.new:
+        return
+    new = "" if given.cron else "; with --new it is made"
+    raise Unmade(edit_words.lack("calendar", given.calendar, found.calendars) + new)
+
+
+def taken(plan: Plan, found: Definitions, given: argparse.Namespace) -> Changes:
+    """The changes, what is told of them, and what is left out, in sentences."""
+    path = given.ics or given.csv or given.cron
+    data = bytes_of(path)
+    if given.cron:
+        return import_cron.changes(found, data, path, given.calendar, given.system, *window(plan, given))
+    if given.csv:
+        first, last = given.first or FIRST_DAY, LAST_DAY if given.last is None else given.last
+        days, told, left = import_csv.days(data, path, first, last)
+    else:
+        days, told, left = import_ics.days(data, path, *window(plan, given))
+    if not days:
+        raise Unmade(" ".join([f"{path}: it has no day that is taken.", *left, *told]))
+    wanted: edit_calendar.Wanted = {Entry("date", day): days[day] for day in sorted(days)}
+    change = edit_calendar.of_entries(plan, found, given.calendar, wanted)
+    if given.calendar not in found.calendars:
+        told.append(f"{given.calendar} is new: it lists no weekday, so Saturdays and Sundays are work days by it.")
+    return Changes([change], [*told, *change.told], left)
+
+
+def bytes_of(path: str) -> bytes:
+    """The bytes of a file, or of standard input for `-`. Raises Unreadable."""
+    with stream_file.opened(path, OF_FILE) as source:
+        return b"".join(source.pieces())
+
+
+def window(plan: Plan, given: argparse.Namespace) -> tuple[int, int]:
+    """The first and the last day that are taken."""
+    new_year = (datetime.datetime(datetime.date.today().year, 1, 1) - EPOCH).days
+    begin, end = (plan.meta["first_day"], plan.meta["plan_end"] // DAY) if plan.is_created else (new_year, new_year)
+    first = begin if given.first is None else given.first
+    last = min(LAST_PLANNING_DAY, max(end, first) + LONGEST) if given.last is None else given.last
+    if last < first:
+        raise Unmade(f"--to {day_text(last)} is before {day_text(first)}, the first day that is taken", 2)
+    return first, last

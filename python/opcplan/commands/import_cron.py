@@ -1,0 +1,209 @@
+"""Applications, periods and run cycles of a crontab's lines."""
+
+import calendar
+import re
+from collections.abc import Callable, Container
+from typing import Any, NamedTuple
+
+from opcplan.commands import crontab
+from opcplan.commands.crontab import Line, Unfit
+from opcplan.commands.edit_change import Change, Unmade
+from opcplan.commands.imported import Changes
+from opcplan.rules.definitions import FIRST_DAY, Application, Definitions, Due, Entry, Period, RunCycle, weekday_of
+from opcplan.rules.moments import EPOCH, day_text, minute_text
+from opcplan.rules.naming_words import count_text, few
+
+MOST_TIMES = 24  # of one line on a day
+EVERY_DAY, EVERY_MONTH, EVERY_WEEKDAY = set(range(1, 32)), set(range(1, 13)), set(range(7))
+LONGEST_MONTHS = dict(enumerate((31, 29, 31, 30, 31, 30, 31, 31, 30, 31, 30, 31), 1))
+MONTHS = [name.upper() for name in crontab.MONTHS]
+# words that stand before a command, and those of parts of a line that do no work of their own
+BEFORE = set("sudo nice ionice nohup env exec time chronic sh bash python3 python perl".split())
+WITH_VALUE = {"-n", "-u", "-g"}
+ASIDE = {"cd", "test", "[", "[[", "command", "true", ":", "export", "sleep", "umask", "."}
+
+
+class Way(NamedTuple):
+    """A way of counting days: in a `day`, a `week` or a `month`; the months, and the numbers that are counted there."""
+
+    kind: str
+    months: set[int]
+    numbers: set[int]
+
+
+def changes(
+    found: Definitions, data: bytes, path: str, calendar_name: str | None, has_user: bool, first: int, last: int
+) -> Changes:
+    """The changes that a crontab's lines make, what is told of them, and what is left out, in sentences."""
+    text, made = data.decode("utf-8-sig", "replace"), Made(found, calendar_name, first, last)
+    told, left = [], [f"line {number}: a time zone is set, and a plan has none." for number in crontab.zones_of(text)]
+    for number, line in crontab.lines_of(text):
+        try:
+            read = crontab.read(number, line, has_user)
+            told.append(f"line {number}: {made.take(read)}: {line[:60]}")
+        except Unfit as why:
+            left.append(f"line {number} is left out: {why}: {line[:60]}")
+    if not told:
+        raise Unmade(" ".join([f"{path}: it has no line that fits.", *left]))
+    names = few(f"{name} of type {period.kind}" for name, period in made.periods.items())
+    told += [
+        f"{count_text(len(made.applications), 'application')}; periods made: {names or 'none'}; months are "
+        f"listed from {day_text(first)} to {day_text(last)} (--from and --to name others).",
+        "Each is due a day after it arrives, since a crontab knows no deadline, and runs on free days too, as by cron "
+        "(rule 3): `./plan edit PLAN.db run-cycle APP NAME deadline=0/HH.MM rule=1` changes that.",
+    ]
+    kinds: tuple[tuple[str, dict[str, Any]], ...] = (
+        ("periods", made.periods), ("applications", made.applications), ("run-cycles", made.cycles))
+    return Changes([Change(kind, names, []) for kind, names in kinds if names], told, left)
+
+
+class Made:
+    """What the lines taken so far make, beside the definitions of a plan."""
+
+    def __init__(self, found: Definitions, calendar_name: str | None, first: int, last: int) -> None:
+        self.found, self.calendar, self.first, self.last = found, calendar_name, first, last
+        self.periods: dict[str, Period] = {}
+        self.applications: dict[str, Application] = {}
+        self.cycles: dict[str, dict[str, RunCycle]] = {}
+        self.by_command: dict[str, str] = {}
+        self.used = {*found.applications, *found.run_cycles, *found.predecessors,
+                     *(name for listed in found.predecessors.values() for name in listed)}
+
+    def take(self, line: Line) -> str:
+        """Takes a line, and says in words what it makes."""
+        if len(line.times) > MOST_TIMES:
+            raise Unfit(f"it runs {len(line.times):,} times a day, and at most {MOST_TIMES} are taken")
+        ways = days_of(line)
+        counted = [(way.kind, *self.period_of(*way)) for way in ways]
+        if line.command not in self.by_command:
+            self.by_command[line.command] = self.app_name(line)
+        app = self.by_command[line.command]
+        self.applications[app] = Application(True, self.calendar)
+        for kind, name, offsets in counted:
+            for time in line.times:
+                self.add(app, kind[0].upper(), name, offsets, time)
+        when = " or ".join(way_text(*way) for way in ways)
+        return f"{app}, {when} at {few(map(minute_text, line.times), 4)}"
+
+    def add(self, app: str, letter: str, period: str, offsets: list[int], time: int) -> None:
+        """Adds a run cycle to an application where it has none alike."""
+        cycles = self.cycles.setdefault(app, {})
+        cycle = RunCycle("", "N", period, "3", offsets, self.first, None, time, Due(1, time))
+        if any(vars(other) | {"name": ""} == vars(cycle) for other in cycles.values()):
+            return
+        cycle.name = free_name(f"{letter}{minute_text(time).replace('.', '')}", 8, cycles)
+        cycles[cycle.name] = cycle
+
+    def app_name(self, line: Line) -> str:
+        """A name for the application of a line, that nothing in the plan has."""
+        name = free_name(name_of(line), 16, self.used)
+        self.used.add(name)
+        return name
+
+    def period_of(self, kind: str, months: set[int], numbers: set[int]) -> tuple[str, list[int]]:
+        """The period that numbers of days are counted in, and their offsets there."""
+        if kind == "day":
+            return self.period_like("DAY", Period("A", self.first, 1), self.is_daily), [1]
+        if kind == "month":
+            name = "MONTH" if months == EVERY_MONTH else MONTHS[min(months) - 1] if len(months) == 1 else "MONTHS"
+            wanted = Period("N", entries=self.month_spans(months))
+            if not wanted.entries:
+                raise Unfit(f"none of its months lies between {day_text(self.first)} and {day_text(self.last)}")
+            return self.period_like(name, wanted, lambda other: self.has_spans(other, wanted.entries)), sorted(numbers)
+        monday = self.first - weekday_of(self.first)
+        name = self.period_like("WEEK", Period("A", max(FIRST_DAY, monday), 7), self.is_weekly)
+        begin = weekday_of(self.known_period(name).origin)
+        return name, sorted((day - begin) % 7 + 1 for day in numbers)
+
+    def known_period(self, name: str) -> Period:
+        """A period of the plan, or one that is made."""
+        return self.periods.get(name) or self.found.periods[name]
+
+    def period_like(self, name: str, wanted: Period, is_alike: Callable[[Period], bool]) -> str:
+        """The name of a period that is alike, which is made where there is none."""
+        for known, period in [*self.found.periods.items(), *self.periods.items()]:
+            if is_alike(period):
+                return known
+        made = free_name(name, 8, {*self.found.periods, *self.periods})
+        self.periods[made] = wanted
+        return made
+
+    def is_daily(self, period: Period) -> bool:
+        """Whether each day is an interval of a period."""
+        return period.kind == "A" and period.interval == 1 and period.origin <= self.first
+
+    def is_weekly(self, period: Period) -> bool:
+        """Whether each week is an interval of a period."""
+        return period.kind == "A" and period.interval == 7 and period.origin <= self.first
+
+    def has_spans(self, period: Period, spans: list[Entry]) -> bool:
+        """Whether a period lists these intervals and no others within the days that are asked for."""
+        return period.kind == "N" and spans == [
+            Entry(*span) for span in period.listed()
+            if span.first <= self.last and (span.last is None or self.first <= span.last)
+        ]
+
+    def month_spans(self, months: set[int]) -> list[Entry]:
+        """The first and the last day of each month that is meant and has a day within the days that are asked for."""
+        spans: list[Entry] = []
+        day = EPOCH.toordinal()
+        at = EPOCH.fromordinal(day + self.first)
+        year, month = at.year, at.month
+        while (begin := EPOCH.replace(year, month).toordinal() - day) <= self.last:
+            if month in months:
+                spans.append(Entry(begin, begin + calendar.monthrange(year, month)[1] - 1))
+            year, month = year + month // 12, month % 12 + 1
+        return spans
+
+
+def days_of(line: Line) -> list[Way]:
+    """The days of a line, as ways of counting them."""
+    days, weekdays = line.days != EVERY_DAY, line.weekdays != EVERY_WEEKDAY
+    either = line.days_given and line.weekdays_given
+    if not days and not weekdays or either and not (days and weekdays):
+        return [Way("day", EVERY_MONTH, {1}) if line.months == EVERY_MONTH else Way("month", line.months, EVERY_DAY)]
+    if days and weekdays and not either:
+        raise Unfit("it means days of the week that are certain days of the month too, and no run cycle names these")
+    if weekdays and line.months != EVERY_MONTH:
+        raise Unfit("it means days of the week in some months alone, and no period has these")
+    ways = [Way("week", EVERY_MONTH, line.weekdays)] if weekdays else []
+    if days and min(line.days) > max(LONGEST_MONTHS[month] for month in line.months):
+        raise Unfit("no such day is in its months")
+    return [*ways, Way("month", line.months, line.days)] if days else ways
+
+
+def way_text(kind: str, months: set[int], numbers: set[int]) -> str:
+    """A way of counting days in words."""
+    if kind == "day":
+        return "each day"
+    if kind == "week":
+        return f"on {', '.join(('MON', 'TUE', 'WED', 'THU', 'FRI', 'SAT', 'SUN')[day] for day in sorted(numbers))}"
+    of = "each month" if months == EVERY_MONTH else ", ".join(MONTHS[month - 1] for month in sorted(months))
+    days = f"day{'s' if len(numbers) > 1 else ''} {', '.join(map(str, sorted(numbers)))}"
+    return f"on {'each day' if numbers == EVERY_DAY else days} of {of}"
+
+
+def name_of(line: Line) -> str:
+    """A name for the application that runs a line's command."""
+    bare = re.sub(r"['\"()]", " ", line.command)
+    parts = [part.split() for part in re.split(r"&&|\|\||[;|&]", bare)]
+    words: list[str] = next((part for part in parts if part and part[0] not in ASIDE), [])
+    while len(words) > 1 and is_before(words[0]):
+        words = words[2 if words[0] in WITH_VALUE else 1 :]
+    base = "".join(words[:1]).rpartition("/")[2]
+    name = re.sub(r"[^A-Z0-9@#$]", "", (base.partition(".")[0] or base).upper())
+    return name.lstrip("0123456789")[:16] or f"CRON{line.number}"[:16]
+
+
+def is_before(word: str) -> bool:
+    """Whether a word stands before the command proper: a program that runs another one, an option, a variable."""
+    return word.rpartition("/")[2] in BEFORE or re.match(r"-|[A-Za-z_][A-Za-z0-9_]*=", word) is not None
+
+
+def free_name(name: str, longest: int, used: Container[str]) -> str:
+    """A name that isn't used: this one, or one with a number behind it."""
+    tried, number = name, 1
+    while tried in used:
+        number += 1
+        tried = f"{name[: longest - len(str(number))]}{number}"
+    return tried

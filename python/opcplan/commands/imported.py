@@ -1,0 +1,21 @@
+"""What a file gives to a plan, and what is said of it: sentences on what is taken, and on what is left out."""
+
+from typing import NamedTuple
+
+from opcplan.commands.edit_change import Change
+
+
+class Days(NamedTuple):
+    """The days of a file, each True for a work day."""
+
+    days: dict[int, bool]
+    told: list[str]
+    left: list[str]
+
+
+class Changes(NamedTuple):
+    """The changes of definitions that a file makes."""
+
+    changes: list[Change]
+    told: list[str]
+    left: list[str]

@@ -1,0 +1,73 @@
+"""./plan journal: what a desk was asked, by whom and when, and what it answered."""
+
+import argparse
+import datetime
+import json
+import sys
+
+from opcplan.cli import words
+from opcplan.plans import journal
+from opcplan.plans.entry import Entry
+from opcplan.rules import moments, printable
+
+SUMMARY = "what a desk was asked, by whom, when, and what it answered"
+
+
+def add_words(parser: words.Parser) -> None:
+    """Adds its words to a parser."""
+    parser.description = (
+        "Shows the journal of the desk that serves PLAN.db, also while it runs: a line for each change, with its "
+        "number, when it was taken, who asked, the statement and the reply. Days and times are those of this machine. "
+        "With --stream it prints the statements as they were done, which opcplan can run again over the plan as it "
+        "was. The exit status is 1 where there is none."
+    )
+    words.add_plan(parser)
+    add_journal(parser)
+    parser.add_argument("--app", type=words.name, metavar="A", help="statements on this application alone")
+    parser.add_argument("--from", dest="first", type=words.day, metavar="D", help="those of this day or later")
+    parser.add_argument("--to", dest="last", type=words.day, metavar="D", help="those of this day or before")
+    form = parser.add_mutually_exclusive_group()
+    form.add_argument("--json", action="store_true", help="a line of JSON for each")
+    form.add_argument("--stream", action="store_true", help="the statements alone, as a job stream")
+
+
+def add_journal(parser: words.Parser, usual: str = "PLAN.db.journal beside the plan") -> None:
+    """The option that names a journal, as `words.journal`."""
+    parser.add_argument("--journal", type=words.file, metavar="FILE", help=f"the journal of the desk (else {usual})")
+
+
+def run(given: argparse.Namespace) -> int:
+    """Does what the words ask for; the exit status."""
+    found = 0
+    with journal.opened(given.journal or journal.beside(given.plan)) as held:
+        for one in held.every():
+            if not is_asked(one, given):
+                continue
+            found += 1
+            if given.stream:
+                sys.stdout.flush()
+                sys.stdout.buffer.write(one.text)
+            else:
+                print(json.dumps(one.values()) if given.json else line_of(one))
+    if not found:
+        words.tell("the journal has no such statement")
+    return 0 if found else 1
+
+
+def is_asked(one: Entry, given: argparse.Namespace) -> bool:
+    """Whether an entry is of the application and the days that are asked for."""
+    day = (local(one.at).date() - moments.EPOCH.date()).days
+    if given.first is not None and day < given.first or given.last is not None and day > given.last:
+        return False
+    return given.app is None or journal.options(one.text).get("app") == given.app
+
+
+def local(at: str) -> datetime.datetime:
+    """A moment of the journal by the clock of this machine."""
+    return datetime.datetime.fromisoformat(at.replace("Z", "+00:00")).astimezone()
+
+
+def line_of(one: Entry) -> str:
+    """A line for a reader, fit for a terminal."""
+    reply = one.reply if one.reply is not None else "not answered yet"
+    return printable.fit(f"{one.seq}  {local(one.at):%Y-%m-%d %H.%M.%S}  {one.who}  {one.line}  {reply}")

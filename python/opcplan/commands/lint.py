@@ -1,0 +1,189 @@
+"""./plan lint: what a job stream says that is taken without a word, and is likely a slip."""
+
+import argparse
+import functools
+import textwrap
+from collections.abc import Iterable, Iterator
+
+from opcplan.cli import words
+from opcplan.commands import explain
+from opcplan.plans import stream_file, stream_state
+from opcplan.plans.stream_state import Known
+from opcplan.rules import blocks, changes, definitions, lint_checks, moments, printable, reaches, stream
+from opcplan.rules.lint_checks import Finding
+from opcplan.rules.stream import Item
+
+About = tuple[object, ...]
+SUMMARY = "what is taken silently in a stream and is likely a slip"
+PLANNING = ("ltp-create", "ltp-extend", "ltp-modify-all", "ltp-modify-one", "ltp-trial")
+LONGER = ("ltp-create", "ltp-extend")
+WIDTH = 100
+
+
+def add_words(parser: words.Parser) -> None:
+    """Adds its words to a parser."""
+    parser.description = (
+        "Reads a job stream and tells, with the line of its record, what opcplan takes without a word and is likely a "
+        "slip: " + "; ".join(lint_checks.KINDS.values()) + ". With --plan it knows what the plan defines too, and "
+        "tells also what each block drops or changes of it, and " + "; ".join(lint_checks.KINDS_BY_PLAN.values())
+        + ". What is refused `./plan check` and `./plan explain` tell. The exit status is 1 where it finds something. "
+        + "Where stream or plan say how far the long-term plan goes, it tells "
+        + "; ".join(reaches.KINDS.values()) + ". "
+        + stream.BOUND
+    )
+    words.add_stream(parser)
+    explain.add_known_plan(parser)
+
+
+def run(given: argparse.Namespace) -> int:
+    """Does what the words ask for; the exit status."""
+    with explain.known_at_first(given.plan) as now, stream_file.opened(given.stream) as source:
+        unread: list[int] = []
+        found = findings(noted(stream.items(source), unread), now)
+    for finding in found:
+        print("\n".join(finding_lines(finding)))
+    if not found:
+        words.tell(f"{given.stream}: nothing that is likely a slip{unread_text(unread)}")
+    return 1 if found else 0
+
+
+def noted(items: Iterable[Item], unread: list[int]) -> Iterator[Item]:
+    """The items, of which those that are refused for their own sake are noted by their lines."""
+    for item in items:
+        if item.statement is None or item.has_data and not is_sound(item):
+            unread.append(item.line)
+        yield item
+
+
+def unread_text(lines: list[int]) -> str:
+    """What is said of lines that are refused for their own sake, where there are any."""
+    if not lines:
+        return ""
+    if len(lines) == 1:
+        return f"; line {lines[0]} is refused as it stands: `./plan check` tells why"
+    many = f"{len(lines):,} statements, the first at line {lines[0]}, are refused as they stand"
+    return f"; {many}: `./plan check` tells why"
+
+
+def finding_lines(finding: Finding) -> list[str]:
+    """A finding as it is printed, fit for a terminal."""
+    text = printable.fit(f"line {finding.line}: {finding.text}")
+    first, *more = textwrap.wrap(text, WIDTH, break_on_hyphens=False)
+    return [first, *(f"    {line}" for line in more)]
+
+
+def findings(items: Iterable[Item], now: Known) -> list[Finding]:
+    """All findings of a stream, by line, from what is known before it on. What can't be refused for its own sake is
+    taken as accepted."""
+    walk = Walk(now)
+    for item in items:
+        walk.take(item, reply_of(now, item))
+    return walk.ended()
+
+
+class Walk:
+    """A way through a stream, with what was found on it: what each statement drops, and what is looked for at each
+    planning statement and at the end. What was found in the plan before, and stands there as it was, is not told."""
+
+    def __init__(self, now: Known) -> None:
+        self.now = now
+        self.found: dict[tuple[str, About, int | None], Finding] = {}
+        # the line of the last statement that changed a definition since findings were looked for
+        self.changed: int | None = None
+
+    @functools.cached_property
+    def before(self) -> set[tuple[str, About]]:
+        """What is found in the plan by itself."""
+        if self.now.plan is None:
+            return set()
+        now = stream_state.of_plan(self.now.plan)
+        found = {(one.kind, one.about) for one in lint_checks.all_of(now)}
+        return found | {(one.kind, one.about) for one in shortfalls(now)}
+
+    def take(self, item: Item, reply: str) -> None:
+        """Takes an item and what it was answered."""
+        is_done = reply.startswith("ok") and item.statement is not None and not self.now.is_repeated(item)
+        if is_done and item.asked.name in ("define", "undefine"):
+            self.changed = item.line
+            for finding in losses(self.now, item):
+                self.found[finding.kind, finding.about, finding.line] = finding
+        planned = self.now.bounds
+        self.now.take(item, reply)
+        if is_done and item.asked.name in LONGER:
+            self.look_ahead(item.line, planned.last_day + 1 if planned else None)
+        if is_done and item.asked.name in PLANNING:
+            self.look()
+
+    def look_ahead(self, line: int, first: int | None = None) -> None:
+        """Looks for what ends before the long-term plan, whose days from `first` on are new."""
+        for one in shortfalls(self.now, first):
+            if (one.kind, one.about) not in self.before:
+                self.found.setdefault((one.kind, one.about, None), Finding(one.kind, one.about, line, one.text))
+
+    def look(self) -> None:
+        """Looks for findings, if a definition has changed since that was done last."""
+        if self.changed is None:
+            return
+        self.look_ahead(self.changed)
+        for one in lint_checks.all_of(self.now):
+            if one.line is None and (one.kind, one.about) in self.before:
+                continue
+            one = lint_checks.Finding(one.kind, one.about, one.line or self.changed, one.text)
+            self.found.setdefault((one.kind, one.about, one.line), one)
+        self.changed = None
+
+    def ended(self) -> list[Finding]:
+        """All that was found, by line, once the stream has ended."""
+        self.look()
+        return sorted(self.found.values(), key=lambda finding: (finding.line, finding.kind, finding.about))
+
+
+def shortfalls(now: Known, first: int | None = None) -> list[reaches.Shortfall]:
+    """What ends before the long-term plan, whose days from `first` on are new: all of them in a plan that is new."""
+    if now.bounds is None:
+        return []
+    first = now.bounds.plan_end // moments.DAY if first is None else first
+    return reaches.shortfalls(now.defined, first, now.bounds.last_day)
+
+
+def losses(now: Known, item: Item) -> Iterator[Finding]:
+    """What a `define` drops or changes of what is defined before it, as findings."""
+    block = block_of(item)
+    if block is None or block.fault:
+        return
+    if block.kind == "options":
+        given = definitions.Definitions(
+            default_calendar=block.defined["default_calendar"], max_hours=block.defined["max_extension_hours"]
+        )
+        told = changes.of_options(now.defined, given) if now.is_whole else ()
+    else:
+        held = getattr(now.defined, stream_state.HELD[block.kind])
+        told = (change for name, new in block.defined.items() if name in held
+                for change in changes.of_name(block.kind, name, held[name], new))
+    for number, change in enumerate(told):
+        line = block.lines.get(change.about)
+        line = item.line if line is None else item.data_line + line
+        if change.is_loss:
+            yield lint_checks.Finding("change", (item.line, number), line, change.text)
+
+
+def reply_of(now: Known, item: Item) -> str:
+    """How the reply begins that an item will have, where the item shows that by itself, and what is known of bounds."""
+    if item.statement is None:
+        return "refused 10"
+    if item.has_data and not is_sound(item):
+        return "refused 11"
+    return "refused 21" if item.statement.name == "ltp-create" and now.bounds is not None else "ok"
+
+
+def is_sound(item: Item) -> bool:
+    """Whether an item has data that are read as a block without a fault."""
+    block = block_of(item)
+    return block is not None and block.fault is None
+
+
+def block_of(item: Item) -> blocks.Block | None:
+    """What the data of an item are read as, or None where it has none that can be read as a block."""
+    if not item.has_data or not item.is_whole or item.data is None:
+        return None
+    return blocks.read(item.asked.kind, item.data)

@@ -1,0 +1,70 @@
+"""./plan log: the log in etcd that several desks share."""
+
+import argparse
+import importlib.util
+import os
+
+from opcplan.cli import words
+from opcplan.commands.desk import by_debian
+from opcplan.desk import log_words
+from opcplan.errors import Unreadable
+from opcplan.plans.program import built_program
+
+SUMMARY = "shows the log in etcd that several desks share, trims it, begins it, moves its version"
+USUAL_KEPT = 5000
+
+
+def add_words(parser: words.Parser) -> None:
+    """Adds its words to a parser."""
+    parser.description = (
+        "Says what stands in etcd of the log that several desks share (`./plan desk --log`): its last entry and its "
+        "first, which opcplan answers it, how far the desks are, how full etcd is. With --trim it takes old entries "
+        "away and has etcd give the room back; entries stay that a desk which said how far it is hasn't applied. With "
+        "--version it has another opcplan answer from the next entry on: each desk applies what is before, and goes on "
+        "once it is started with that program. With --begin it makes a new log behind a plan: the one that is the "
+        "furthest, where etcd is lost, or one that had a desk of its own. The exit status is 1 where there is no such "
+        "log, or it can't be done, and 2 where the words are wrong."
+    )
+    parser.add_argument("log", metavar="LOG", type=log_words.address, help=log_words.EXAMPLE)
+    does = parser.add_mutually_exclusive_group()
+    does.add_argument("--trim", action="store_true", help="takes old entries away, and compacts and defragments etcd")
+    does.add_argument("--version", action="store_true", help="has --program answer from the next entry on")
+    does.add_argument("--begin", metavar="PLAN.db", type=words.file, help="makes the log behind this plan")
+    parser.add_argument("--keep", type=kept, default=USUAL_KEPT, metavar="N",
+                        help=f"how many of the last entries --trim leaves at least (else {USUAL_KEPT:,})")
+    parser.add_argument("--forget", metavar="DESK", action="append", default=[],
+                        help="a desk that is gone for good: --trim waits for it no more; may stand repeatedly")
+    parser.add_argument("--program", type=words.file, metavar="FILE",
+                        help="the planner of --version and --begin (else the one that is built here)")
+    parser.add_argument("--journal", type=words.file, metavar="FILE",
+                        help="the journal of the plan of --begin (else PLAN.db.journal beside it)")
+    log_words.add_etcd(parser)
+
+
+def kept(text: str) -> int:
+    """How many entries stay, for `type=`."""
+    if not text.isascii() or not text.isdigit() or len(text) > 9:
+        raise argparse.ArgumentTypeError(f"{text!r} is no number of entries")
+    return int(text)
+
+
+def run(given: argparse.Namespace) -> int:
+    """Does what the words ask for; the exit status."""
+    if importlib.util.find_spec("aiohttp") is None:
+        return by_debian()
+    if wrong := log_words.wrong_etcd(given):
+        words.tell(wrong)
+        return 2
+    import asyncio  # with log_tool the greater part of what an import of this module would take
+
+    from opcplan.desk import log_tool, versions
+
+    try:
+        if given.begin and not os.path.isfile(given.begin):
+            raise Unreadable(f"{given.begin}: there is no such file")
+        program = os.path.abspath(given.program or built_program()) if given.version or given.begin else None
+        print("\n".join(asyncio.run(log_tool.done(given, program))))
+    except versions.Unfit as why:
+        words.tell(str(why))
+        return 1
+    return 0

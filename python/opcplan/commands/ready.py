@@ -1,0 +1,78 @@
+"""./plan ready: what may be started at a moment, for whatever starts it."""
+
+import argparse
+import json
+import sys
+
+from opcplan.cli import words
+from opcplan.commands import export, late
+from opcplan.plans import plan_file, waits
+from opcplan.plans.plan_file import Plan
+from opcplan.plans.waits import Row
+from opcplan.rules import moments
+
+SUMMARY = "what may be started now: it has arrived, and nothing is in its way"
+# none of what it waits for stands in a place where it isn't complete
+READY = f"""SELECT {waits.COLUMNS}, status FROM cp_row
+    WHERE status = 'W' AND ia <= :now AND (:app IS NULL OR app = :app)
+    AND NOT EXISTS (SELECT 1 FROM dependency WHERE successor = cp_row.serial AND (
+        EXISTS (SELECT 1 FROM cp_row AS other WHERE other.serial = predecessor AND other.status IN ('W', 'S', 'E'))
+        OR EXISTS (SELECT 1 FROM ltp_row WHERE ltp_row.serial = predecessor)))
+    ORDER BY deadline, ia, app, serial"""
+
+
+def add_words(parser: words.Parser) -> None:
+    """Adds its words to a parser."""
+    parser.description = (
+        "Prints the occurrences of the current plan that wait, have arrived, and wait for nothing that isn't complete, "
+        "the earliest deadline first: application, input arrival and serial, as statements and `./plan agent` have "
+        "them. The exit status is 1 where nothing is ready."
+    )
+    words.add_plan(parser)
+    parser.add_argument("--app", type=words.name, help="of this application alone")
+    words.add_now(parser)
+    form = parser.add_mutually_exclusive_group()
+    form.add_argument("--json", dest="form", action="store_const", const=json_text, help="an object on each line")
+    form.add_argument("-0", "--null", dest="form", action="store_const", const=null_text,
+                      help="each of the three with a zero byte behind it, as for `xargs -0 -n 3`")
+    parser.set_defaults(form=line_text)
+
+
+def run(given: argparse.Namespace) -> int:
+    """Does what the words ask for; the exit status."""
+    now = moments.now() if given.now is None else given.now
+    with plan_file.opened(given.plan) as plan:
+        found = of_plan(plan, now, given.app)
+        notes = late.notes_on(plan, now)
+    sys.stdout.write("".join(map(given.form, found)))
+    for note in notes:
+        words.tell(note)
+    return 0 if found else 1
+
+
+def of_plan(plan: Plan, now: int, app: str | None = None) -> list[Row]:
+    """The rows that are ready at a moment, the earliest deadline first."""
+    return [Row(*row) for row in plan.db.execute(READY, {"now": now, "app": app})]
+
+
+def parts(row: Row) -> list[str]:
+    """Application, input arrival and serial, each as text."""
+    return [*moments.key_text(row.app, row.ia).split(" "), str(row.serial)]
+
+
+def line_text(row: Row) -> str:
+    """A line."""
+    return " ".join(parts(row)) + "\n"
+
+
+def null_text(row: Row) -> str:
+    """Its parts, each with a zero byte behind it."""
+    return "".join(part + "\0" for part in parts(row))
+
+
+def json_text(row: Row) -> str:
+    """An object on a line."""
+    app, ia, _ = parts(row)
+    told = {"serial": row.serial, "application": app, "ia": ia, "arrives": export.iso(row.ia),
+            "due": export.iso(row.deadline), "run_cycle": row.cycle, "added": row.cycle is None}
+    return json.dumps(told) + "\n"

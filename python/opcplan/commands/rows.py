@@ -1,0 +1,163 @@
+"""./plan rows: the rows of a plan as `list` prints them, or those of them that are asked for."""
+
+import argparse
+import json
+import re
+import sys
+
+from opcplan.cli import words
+from opcplan.commands import export, late
+from opcplan.commands.export import Occurrence
+from opcplan.plans import plan_file, waits
+from opcplan.plans.plan_file import Plan
+from opcplan.rules import moments, printable
+from opcplan.rules.naming_words import meant_text
+from opcplan.rules.statuses import UNFINISHED
+
+SUMMARY = "the rows of a list that meet a filter, as `list` prints them, as CSV or as JSON"
+STATUSES = {told: letter for letter, told in export.STATUSES.items()}
+BY_WORD = ", ".join(f"{told.replace(' ', '-')} ({letter})" for told, letter in STATUSES.items())
+# the sets whose rows have a status
+WITH_STATUS = ("cp", "history")
+
+
+def add_words(parser: words.Parser) -> None:
+    """Adds its words to a parser."""
+    parser.description = (
+        "Prints rows of PLAN.db by input arrival, application and serial: those of the list that is named, else of the "
+        "long-term plan, of the current plan and of history. The lines are those of opcplan's `list`, with `ok rows` "
+        "and their number at the end. The exit status is 1 where no row is found."
+    )
+    words.add_plan(parser)
+    parser.add_argument("what", metavar="LIST", nargs="?", choices=list(export.SETS), help=", ".join(export.SETS))
+    parser.add_argument("--app", type=words.name, help="of this application alone")
+    parser.add_argument("--from", dest="first", type=first_moment, metavar="D", help="that arrive from this day or "
+                        "moment on")
+    parser.add_argument("--to", dest="last", type=last_moment, metavar="D", help="that arrive up to this day's end or "
+                        "this moment")
+    parser.add_argument("--status", type=statuses, metavar="S", help="of these statuses: letters as W,S,E, or words "
+                        f"({', '.join(STATUSES).replace(' e', '-e')})")
+    parser.add_argument("--late", action="store_true", help="of the current plan those that are past their deadline, "
+                        "and neither complete nor deleted")
+    words.add_now(parser)
+    form = parser.add_mutually_exclusive_group()
+    form.add_argument("--csv", dest="form", action="store_const", const=export.csv_text, help="a table, as of export")
+    form.add_argument("--json", dest="form", action="store_const", const=json_text, help="an object on each line")
+    parser.set_defaults(form=list_text)
+    parser.is_mixed = True
+
+
+def first_moment(text: str) -> int:
+    """The moment from which on rows are asked for, of a day or a moment."""
+    return edge(text, 0)
+
+
+def last_moment(text: str) -> int:
+    """The moment up to which rows are asked for, of a day or a moment."""
+    return edge(text, moments.DAY - 1)
+
+
+def edge(text: str, minute: int) -> int:
+    """The moment that a text spells; of a day its minute of this number."""
+    day, moment = moments.day_of(text), moments.typed_moment(text)
+    if day is not None:
+        return day * moments.DAY + minute
+    if moment is None:
+        raise argparse.ArgumentTypeError(f"{text!r} is no day like 2026-11-25 and no moment like 2026-11-25/06.00")
+    return moment
+
+
+def statuses(text: str) -> set[str]:
+    """The letters of statuses that a text names, by letters or by words."""
+    found: set[str] = set()
+    for word in text.lower().replace("-", " ").split(","):
+        if word in STATUSES:
+            found.add(STATUSES[word])
+        elif re.fullmatch("[wsecd]+", word):
+            found |= set(word.upper())
+        else:
+            late = "; what is late `--late` shows" if word == "late" else ""
+            raise argparse.ArgumentTypeError(f"{word!r} is no status: it is one of {BY_WORD}{late}")
+    return found
+
+
+def run(given: argparse.Namespace) -> int:
+    """Does what the words ask for; the exit status."""
+    wrong = fault_of(given)
+    if wrong:
+        words.tell(wrong)
+        return 2
+    now = moments.now() if given.now is None else given.now
+    with plan_file.opened(given.plan) as plan:
+        found = [one for one in asked_for(plan, given) if is_wanted(one, given, now)]
+        text = given.form(plan, found)
+        notes = notes_on(plan, given, now)
+    sys.stdout.write(text)
+    for note in notes:
+        words.tell(note)
+    return 0 if found else 1
+
+
+def fault_of(given: argparse.Namespace) -> str | None:
+    """What is wrong with words that don't go together, or None."""
+    if None not in (given.first, given.last) and given.last < given.first:
+        return "--to is before --from"
+    if given.now is not None and not given.late:
+        return "--now says as of when something is late, so it goes with --late"
+    if given.late and given.what not in (None, "cp"):
+        return f"--late is asked of the current plan alone, and not of {given.what}"
+    if given.status and given.what not in (None, *WITH_STATUS):
+        return f"rows of {given.what} have no status; those of {' and '.join(WITH_STATUS)} have"
+    return None
+
+
+def asked_for(plan: Plan, given: argparse.Namespace) -> list[Occurrence]:
+    """The rows of the sets, of the application, of the days."""
+    sets = [given.what] if given.what else ["cp"] if given.late else export.USUAL
+    days = [bound and bound // moments.DAY for bound in (given.first, given.last)]
+    return export.occurrences(plan.db, sets, given.app, *days)
+
+
+def is_wanted(one: Occurrence, given: argparse.Namespace, now: int) -> bool:
+    """Whether a row meets the other filters."""
+    return bool(
+        (given.first is None or one.arrival >= given.first)
+        and (given.last is None or one.arrival <= given.last)
+        and (not given.status or one.status in given.status)
+        and (not given.late or one.status in tuple(UNFINISHED) and one.deadline < now)
+    )
+
+
+def notes_on(plan: Plan, given: argparse.Namespace, now: int) -> list[str]:
+    """What is to be said of the moment, and of a plan and an application of which there can be no rows."""
+    notes = late.notes_on(plan, now) if given.late else []
+    if not plan.is_created:
+        return notes or [f"{plan.path}: there is no long-term plan yet, and so no rows"]
+    if given.app is None or is_known(plan, given.app):
+        return notes
+    known = (name for name, in plan.db.execute("SELECT name FROM application"))
+    return [*notes, f"{plan.path}: there is no application {given.app} in it{meant_text(given.app, known)}"]
+
+
+def is_known(plan: Plan, app: str) -> bool:
+    """Whether an application is defined, or has a row."""
+    defined = plan.db.execute("SELECT 1 FROM application WHERE name = ?", (app,)).fetchone()
+    return defined is not None or bool(waits.rows_where(plan, "app = :v0", app))
+
+
+def list_text(_: Plan, found: list[Occurrence]) -> str:
+    """The lines that `list` prints."""
+    return printable.text([*map(list_line, found), f"ok rows {len(found)}", ""])
+
+
+def list_line(one: Occurrence) -> str:
+    """A row in a list; none of the long-term plan has a letter at its end."""
+    origin, cycle = ("A", "") if one.run_cycle is None else ("G", one.run_cycle)
+    times = f"{moments.moment_text(one.arrival)} {moments.moment_text(one.deadline)}"
+    row = f"{one.serial:09} {one.app:16} {origin} {cycle:8} {times}"
+    return " ".join(filter(None, [row, one.status or one.reason]))
+
+
+def json_text(_: Plan, found: list[Occurrence]) -> str:
+    """An object a row, each on a line."""
+    return "".join(json.dumps(dict(zip(export.COLUMNS, one.values(export.iso)))) + "\n" for one in found)

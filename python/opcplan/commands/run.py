@@ -1,0 +1,139 @@
+"""./plan run: checks a stream, shows what it would change, asks, and runs it by opcplan."""
+
+import argparse
+import difflib
+import os
+import sys
+
+from opcplan.cli import words
+from opcplan.commands import check, trial_words, what_if
+from opcplan.errors import Unreadable, Unwritable
+from opcplan.plans import plan_file, stream_file, stream_state, trial
+from opcplan.plans.stream_state import Known
+from opcplan.plans.trial import Trial
+from opcplan.rules import explanations, printable, stream
+from opcplan.rules.stream import Item
+
+SUMMARY = "checks a stream, shows what it would change, asks, and runs it"
+MOST_ROWS = 20  # of the table of occurrences
+REFUSED_HERE = 1  # nothing was run
+
+
+def add_words(parser: words.Parser) -> None:
+    """Adds its words to a parser."""
+    parser.description = (
+        "Checks STREAM over PLAN.db as `./plan check` does, shows what it would change as `./plan what-if` does, asks, "
+        "and then runs it by opcplan --db, each refusal explained below its answer. The exit status is that of opcplan "
+        "(0 all accepted, 4 some refused, 8 a fault); 1 where nothing was run, 2 where the words are wrong. "
+        + stream.BOUND
+    )
+    words.add_plan(parser)
+    trial_words.add_words(parser, "runs")
+    parser.add_argument("--yes", action="store_true", help="run it without asking")
+    parser.add_argument("--new", action="store_true", help="make a new plan in PLAN.db, which isn't there yet")
+
+
+def run(given: argparse.Namespace) -> int:
+    """Does what the words ask for; the exit status."""
+    ask_file(given.plan, given.new)
+    path = os.path.realpath(given.plan)
+    before = plan_file.stamps(path)
+    with trial.tried(None if given.new else given.plan, given.stream, check.checked, given.program) as tried:
+        try:
+            show(tried)
+        except (OSError, Unwritable) as error:
+            return nothing_done(f"what would change can't be shown: {why_of(error)}")
+        if tried.found.end or tried.status not in trial.SOUND:
+            trial_words.tell_end(tried)
+            return nothing_done("the trial didn't come to its end")
+        if not given.yes and not is_wanted():
+            return REFUSED_HERE
+        if plan_file.stamps(path) != before:
+            return nothing_done(f"{given.plan} was written to meanwhile; ask again")
+        answers = f"{tried.stream}.out"
+        status = trial.done(tried, os.path.abspath(given.plan), answers)
+        status = status if status >= 0 else 128 - status
+        try:
+            show_answers(tried, answers)
+            sys.stdout.flush()
+        except (OSError, Unwritable) as error:
+            words.tell(f"it was run, with status {status}; its answers can't be shown: {why_of(error)}")
+    return status
+
+
+def ask_file(path: str, is_new: bool) -> None:
+    """Asks that the plan is there, or where a new one is wanted, that nothing is. Raises Unreadable."""
+    if is_new and os.path.lexists(path):
+        raise Unreadable(f"{path}: it is there already; without --new the stream goes on with it")
+    if not is_new and not os.path.lexists(path):
+        folder, name = os.path.split(os.path.abspath(path))
+        others = os.listdir(folder) if os.path.isdir(folder) else []
+        near = difflib.get_close_matches(name, others, 1)
+        meant = f" (is {os.path.join(os.path.dirname(path), near[0])} meant?)" if near else ""
+        raise Unreadable(f"{path}: there is no such file{meant}; --new makes a new plan there")
+
+
+def show(tried: Trial[check.Checked]) -> None:
+    """Prints what is found of a stream and what it would change."""
+    changed = what_if.difference(tried.plan, tried.after, MOST_ROWS)
+    print("\n".join([*check.lines_of(tried.found), printable.text(changed), ""]), flush=True)
+
+
+def is_wanted() -> bool:
+    """Asks on the terminal whether the stream shall be run; where there is none, or the answer isn't yes, says so."""
+    if not (sys.stdin and sys.stdin.isatty() and sys.stderr.isatty()):
+        nothing_done("there is no terminal to ask on; --yes runs it without asking")
+        return False
+    print("Run it? [y/N] ", end="", file=sys.stderr, flush=True)
+    if sys.stdin.buffer.readline().strip().lower() in (b"y", b"yes"):
+        return True
+    words.tell("nothing was done")
+    return False
+
+
+def nothing_done(why: str) -> int:
+    """Says why nothing was run, and gives the status."""
+    words.tell(f"{why}: nothing was done")
+    return REFUSED_HERE
+
+
+def why_of(error: Exception) -> str:
+    """Why something can't be written."""
+    return error.strerror if isinstance(error, OSError) else str(error)
+
+
+def show_answers(tried: Trial[check.Checked], path: str) -> None:
+    """Prints what opcplan answered, each refusal with its explanation below it."""
+    now = stream_state.of_plan(tried.plan)
+    rows: list[str] = []
+
+    def see(line: str) -> None:
+        now.see(line)
+        rows.append(line)
+
+    with stream_file.opened(tried.stream) as text, stream_file.opened(path, trial.OF_ANSWERS) as answers:
+        try:
+            for item, reply in explanations.answered(stream.items(text), answers, see):
+                print(printable.text([*rows, *reply_lines(item, reply, now)]))
+                rows.clear()
+        except explanations.Unlike as why:
+            words.tell(f"{tried.program}: it doesn't answer as opcplan does: {why}; all that it answered follows")
+            show_raw(path)
+
+
+def reply_lines(item: Item | None, reply: str | None, now: Known) -> list[str]:
+    """The lines on one reply."""
+    if reply is None:
+        return explanations.end_lines(item, reply)
+    if item is None or reply.startswith("fault"):
+        return [reply, f"    {explanations.fault_text(reply)}"]
+    told = explanations.refusal_lines(item, reply, now)[:-1] if reply.startswith("refused") else []
+    now.take(item, reply)
+    return [reply, *(f"    {line.strip()}" for line in told if line.strip() != reply)]
+
+
+def show_raw(path: str) -> None:
+    """Prints an output line by line, fit for a terminal."""
+    with open(path, "rb") as file:
+        for line in file:
+            print(printable.fit(line.decode("latin-1").rstrip("\r\n")))

@@ -1,0 +1,354 @@
+"""./plan send: a statement in words, or a job stream, to a desk, or to a plan that other programs use too.
+
+A desk is asked under one key until it has answered. Where there is none, `opcplan` ends with fault 50 while another
+program has the file, and has answered nothing then. So it is started again until it has the file, and no statement is
+ever run twice."""
+
+import argparse
+import contextlib
+import dataclasses
+import io
+import math
+import os
+import random
+import re
+import secrets
+import subprocess
+import sys
+import time
+from collections.abc import Callable, Iterator
+from typing import NamedTuple
+
+from opcplan.cli import words
+from opcplan.commands import keys, next_job, rows
+from opcplan.desk import client
+from opcplan.errors import Unreadable, Unwritable
+from opcplan.plans import entry, locks, plan_definitions, plan_file, stream_file, stream_state
+from opcplan.plans.program import built_program
+from opcplan.rules import explanations, moments, printable, statement_words, statements, stream
+from opcplan.rules.naming_words import meant_text
+
+Ran = subprocess.CompletedProcess[bytes]
+SUMMARY = "sends a statement in words, or a job stream, to a desk or a plan, and waits for it"
+FAILED = 8
+HELD = b"another program has FILE open"
+# how often a number that another stream took meanwhile is replaced
+TRIES = 9
+SHORT = (*statements.ACTS, "add")
+
+
+class Refused(Exception):
+    """Why words are not sent."""
+
+
+class Line(NamedTuple):
+    """The line of a statement in words, and whether it lacks its job number."""
+
+    text: str
+    lacks_job: bool
+
+
+def add_words(parser: words.Parser) -> None:
+    """Adds its words to a parser."""
+    parser.description = (
+        "Sends the job stream on standard input to a desk, or runs it over PLAN.db where no desk has that; or one "
+        "statement in words: `start APP D/HH.MM`, and so "
+        f"{', '.join(SHORT[1:])}, each as the statement cp-..; or any statement but define as "
+        "docs/rules/STATEMENTS.md has it. With --db a serial may stand for APP D/HH.MM. A statement in words without a "
+        "job number gets the next one, which is told; "
+        "a desk gives numbers to all that lack one. While the desk is away, or another program has PLAN.db, it is "
+        "tried again; no statement is "
+        "run twice. The replies are printed as opcplan prints them, and "
+        "what a refusal means on standard error. The exit status is opcplan's: 0, 4 where some were refused, 8 after "
+        "a fault, and where nothing could be sent; 2 where the words are wrong. " + stream.BOUND + " A token for the "
+        "desk stands in the environment as OPCPLAN_TOKEN, or in the file that OPCPLAN_TOKEN_FILE names."
+    )
+    where = parser.add_mutually_exclusive_group()
+    where.add_argument("--desk", default=client.usual(), metavar="DESK",
+                       help="http://HOST:PORT, or the path of a desk's socket; several desks of one log with commas "
+                       "between them (else what OPCPLAN_DESK has)")
+    where.add_argument("--db", type=words.file, metavar="PLAN.db", help="the file that opcplan --db keeps")
+    parser.add_argument("--wait", type=seconds, default=0, metavar="SECONDS",
+                        help="how long it is tried again while the desk is away, or another program has PLAN.db (else "
+                        "once)")
+    parser.add_argument("--key", type=key, metavar="KEY",
+                        help="the key under which a desk does the stream once (else a new one)")
+    parser.add_argument("--program", metavar="FILE", type=words.file,
+                        help="the planner that runs it (else the one that is built here)")
+    parser.add_argument("words", nargs=argparse.REMAINDER, metavar="STATEMENT",
+                        help="the words of a statement (else the stream on standard input)")
+
+
+def seconds(text: str) -> float:
+    """A number of seconds, for `type=`."""
+    try:
+        found = float(text)
+    except ValueError:
+        found = math.nan
+    if not 0 <= found <= 1_000_000:
+        raise argparse.ArgumentTypeError(f"{text!r} is no number of seconds, 0 to 1000000")
+    return found
+
+
+def key(text: str) -> str:
+    """A key for a desk, for `type=`."""
+    if not re.fullmatch(r"[!-\"$-~]{1,200}", text):
+        raise argparse.ArgumentTypeError(f"{text!r} is no key: 1 to 200 characters, and neither blanks nor #")
+    return text
+
+
+def run(given: argparse.Namespace) -> int:
+    """Does what the words ask for; the exit status."""
+    until = time.monotonic() + given.wait
+    if given.db is None and given.desk is None:
+        words.tell("one of --desk and --db is wanted; ./plan send --help says more")
+        return 2
+    try:
+        line = line_of(with_key(given.db, parts(given.words))) if given.words else None
+        desk = client.Client(given.desk, client.token()) if given.db is None else None
+    except (Refused, client.Wrong) as why:
+        words.tell(f"{why}; nothing was sent")
+        return 2
+    except Unreadable as why:
+        words.tell(f"{why}; nothing was sent")
+        return FAILED
+    except OSError as error:
+        words.tell(f"{error.filename}: the token can't be read: {error.strerror}; nothing was sent")
+        return FAILED
+    if desk is not None:
+        return run_by_desk(given, desk, line, until)
+    try:
+        told: list[str] | None = None
+        check_file(given.db)
+        program = os.path.abspath(given.program or built_program())
+        if line is None:
+            text = text_sent()
+            ran = sent(program, given.db, text, until)
+        else:
+            text, ran, told = sent_in_turn(program, given.db, line, until)
+    except Refused as why:
+        words.tell(f"{why}; nothing was sent")
+        return 2
+    except (Unreadable, locks.Held) as why:
+        words.tell(str(why) or f"{given.db}: another program sends to it all the while; nothing was sent")
+        return FAILED
+    except OSError as error:
+        words.tell(f"{error.filename or 'standard input'}: {error.strerror}; nothing was sent")
+        return FAILED
+    return shown(text, ran, told=told)
+
+
+def check_file(path: str) -> None:
+    """Asks that there is such a file; opcplan would make one. Raises Unreadable."""
+    if not os.path.isfile(path):
+        raise Unreadable(f"{path}: there is no such file; `./opcplan --db` makes a new plan")
+    if not os.path.getsize(path):
+        raise Unreadable(f"{path}: it is empty, and no plan; `./opcplan --db` makes a new one in it")
+
+
+def text_sent() -> bytes:
+    """The stream on standard input. Raises Unreadable."""
+    with stream_file.opened("-") as source:
+        return b"".join(source.pieces())
+
+
+# By a desk.
+
+
+def run_by_desk(given: argparse.Namespace, desk: client.Client, line: Line | None, until: float) -> int:
+    """Has a desk answer, and prints that; the exit status."""
+    used = given.key or secrets.token_hex(16)
+    try:
+        text = text_sent() if line is None else f"{line.text}\n".encode("ascii")
+        answer = desk.statements(text, used, until)
+    except Unreadable as why:
+        words.tell(str(why))
+        return FAILED
+    except client.Refused as why:
+        words.tell(f"{desk.name}: {why}")
+        return FAILED
+    except client.Away as why:
+        told = f"send it again with `--key {used}`, and nothing is done twice"
+        if "may be done all the same" not in str(why):
+            told = f"it may be done all the same: {told}"
+        words.tell(f"{why}; {told if why.may_be_done else 'nothing was sent'}")
+        return FAILED
+    return shown(text, subprocess.CompletedProcess([], 4 if has_refusals(answer) else 0, answer, b""), used)
+
+
+def items_of(source: stream.Source) -> Iterator[stream.Item]:
+    """The items of a stream; a statement that lacks its job number has one of the desk's."""
+    for place, item in enumerate(stream.items(source)):
+        if item.statement is None:
+            whole = item.text + b" --job %d" % (entry.FIRST_JOB + place)
+            statement, _ = stream.read_line(whole, len(whole))
+            item = dataclasses.replace(item, statement=statement or item.statement)
+        yield item
+
+
+# A statement in words.
+
+
+def parts(given: list[str]) -> list[str]:
+    """The words of a statement, also where one word in quotes has all of them."""
+    if len(given) != 1:
+        return given
+    return words.joined([word for word in given[0].split(" ") if word]) or given
+
+
+def with_key(path: str | None, given: list[str]) -> list[str]:
+    """The words of a statement, in which the serial of `start 11` is replaced by what has it in a plan. Raises Refused
+    and Unreadable."""
+    if path is None or given[0] not in statements.ACTS or not re.fullmatch("[1-9][0-9]{0,8}", "".join(given[1:2])):
+        return given
+    if len(given) > 2 and not given[2].startswith("-"):
+        return given
+    check_file(path)
+    with plan_file.opened(path) as plan:
+        found = keys.rows_of(plan, keys.Key(int(given[1]), None, None))
+        if found is None:
+            raise Refused(keys.unknown_text(plan, int(given[1])).removesuffix("."))
+    return [given[0], found.app, moments.moment_word(found.ia), *given[2:]]
+
+
+def line_of(given: list[str]) -> Line:
+    """The line of a statement in words. Raises Refused."""
+    spelled = in_full(list(map(as_word, given)))
+    found, wrong = statement_words.read(spelled)
+    if found is None:
+        found, wrong_with_job = statement_words.read([*spelled, "--job", "1"])
+        if found is None:
+            gets_job = spelled[0] in statements.KINDS and statements.KINDS[spelled[0]].changes
+            has_job = any(word.startswith("--job") for word in spelled)
+            raise Refused(wrong_with_job if gets_job and not has_job else wrong)
+        return Line(" ".join(spelled), True)
+    return Line(" ".join(spelled), False)
+
+
+def as_word(text: str) -> str:
+    """A moment as statements take it, also where it is typed as lists print it; another word as it is."""
+    moment = moments.typed_moment(text)
+    return text if moment is None else moments.moment_word(moment)
+
+
+def in_full(given: list[str]) -> list[str]:
+    """The words of a statement, where `start APP D/HH.MM` stands for `cp-start --app APP --ia D/HH.MM`."""
+    name, *rest = given
+    if name == "define":
+        raise Refused("`define` has data: send it in a stream")
+    if name in statements.KINDS and statements.KINDS[name].is_on_key and not any(
+        word.startswith("-") for word in rest[:2]
+    ) and len(rest) > 1:
+        return [name, "--app", rest[0].upper(), "--ia", *rest[1:]]
+    if name not in SHORT:
+        return given
+    if len(rest) < 2 or rest[0].startswith("-") or rest[1].startswith("-"):
+        serial = "; a serial is taken with --db" if rest and rest[0].isdecimal() else ""
+        raise Refused(f"`{name}` takes an application and its input arrival, as `{name} PAY 2024-01-31/08.00`{serial}")
+    app, ia, *others = rest
+    return [f"cp-{name}", "--app", app.upper(), "--ia", ia, *others]
+
+
+def sent_in_turn(program: str, path: str, line: Line, until: float) -> tuple[bytes, Ran, list[str] | None]:
+    """The text, what it was answered and the lines on a refusal (None: they aren't made here), for a line that may
+    lack its job number. Who sends such lines takes turns, so that two never get one number. Raises Held, Unreadable
+    and Refused."""
+    if not line.lacks_job:
+        text = f"{line.text}\n".encode("ascii")
+        return text, sent(program, path, text, until), None
+    number = os.open(path, os.O_RDWR)
+    try:
+        with locks.locked(number, locks.OF_A_SENDER, until):
+            for _ in range(TRIES):
+                with plan_file.opened(path) as plan:
+                    whole = f"{line.text} --job {next_number(path, plan)}"
+                    ask_application(plan, whole)
+                    words.tell(f"sends `{whole}`")
+                    text = f"{whole}\n".encode("ascii")
+                    ran = sent(program, path, text, until)
+                    told = refusal_lines(text, ran.stdout, stream.items, plan)
+                if ran.stdout != b"refused 12\n":  # no stream took the number meanwhile
+                    break
+        return text, ran, told
+    finally:
+        os.close(number)
+
+
+def ask_application(plan: plan_file.Plan, line: str) -> None:
+    """Asks that an occurrence is named of an application that the plan defines, or has rows of. Raises Refused."""
+    statement, _ = statement_words.read(line.split(" "))
+    if statement is None or not statements.KINDS[statement.name].is_on_key:
+        return
+    app = statement.values["app"]
+    if rows.is_known(plan, app):
+        return
+    known = plan_definitions.of_plan(plan).applications
+    raise Refused(f"the application {app} isn't defined{meant_text(app, known)}")
+
+
+def next_number(path: str, plan: plan_file.Plan) -> int:
+    """The next job number of a plan. Raises Unreadable."""
+    number = next_job.after_greatest(plan.db)
+    if number > next_job.GREATEST:
+        raise Unreadable(f"{path}: the greatest job number is used; name a lesser one by --job")
+    return number
+
+
+# The run.
+
+
+def sent(program: str, path: str, text: bytes, until: float) -> Ran:
+    """What opcplan answers to a text over a file. It is started again, up to a moment of the steady clock, where it
+    ended before the first statement because another program has the file."""
+    while True:
+        ran = subprocess.run([program, "--db", os.path.abspath(path)], input=text, capture_output=True, check=False)
+        if not is_held(ran) or time.monotonic() >= until:
+            return ran
+        time.sleep(random.uniform(0.02, 0.2))
+
+
+def is_held(ran: Ran) -> bool:
+    """Whether a run ended since another program has its file."""
+    return ran.returncode == FAILED and ran.stdout == b"fault 50\n" and HELD in ran.stderr
+
+
+def shown(text: bytes, ran: Ran, used: str | None = None, told: list[str] | None = None) -> int:
+    """Prints what was answered, by a desk under a key that was used, and what refusals mean, as is told or by the text
+    alone; the exit status."""
+    try:
+        sys.stdout.flush()
+        sys.stdout.buffer.write(ran.stdout)
+        sys.stdout.buffer.flush()
+    except (OSError, Unwritable) as error:
+        words.tell(f"the replies can't be printed: {error}; what was sent was answered, so send it again with "
+                   f"{'`--key ' + used + '`' if used else 'its job numbers'}, and nothing is done twice")
+        return FAILED
+    with contextlib.suppress(OSError):
+        said = [printable.fit(line) for line in ran.stderr.decode(errors="surrogateescape").splitlines()]
+        said += refusal_lines(text, ran.stdout, items_of if used else stream.items) if told is None else told
+        sys.stderr.writelines(f"{line}\n" for line in said)
+        sys.stderr.flush()
+    return ran.returncode if ran.returncode in (0, 4) else FAILED
+
+
+def has_refusals(answered: bytes) -> bool:
+    """Whether an output has replies that refuse."""
+    return any(line.startswith(b"refused") for line in answered.splitlines())
+
+
+def refusal_lines(
+    text: bytes, answered: bytes, items: Callable[[stream.Source], Iterator[stream.Item]],
+    plan: plan_file.Plan | None = None,
+) -> list[str]:
+    """What the refusals in an output mean, fit for a terminal, or nothing where it has none; `items` reads what
+    was sent, over a plan as it was before where that is at hand."""
+    if not has_refusals(answered):
+        return []
+    asked, answers = (stream.Source(io.BytesIO(data), "what was sent", explanations.OF_OUTPUT)
+                      for data in (text, answered))
+    try:
+        now = stream_state.Known() if plan is None else stream_state.of_plan(plan)
+        lines, _, _ = explanations.explained(items(asked), answers, now)
+    except explanations.Unlike as why:
+        return [printable.fit(f"plan: the planner doesn't answer as opcplan does: {why}")]
+    return ["\n".join(lines).rstrip("\n")]

@@ -1,0 +1,155 @@
+"""./plan what-if: what a stream would change of a plan, tried on a private copy."""
+
+import argparse
+import collections
+import sqlite3
+from collections.abc import Iterator
+
+from opcplan.cli import words
+from opcplan.commands import trial_words
+from opcplan.plans import plan_definitions, trial, waits
+from opcplan.plans.plan_file import Plan
+from opcplan.plans.stream_state import Known
+from opcplan.plans.waits import Row
+from opcplan.rules import changes, explanations, moments, printable, stream
+from opcplan.rules.definitions import Definitions
+from opcplan.rules.stream import Item, Source
+
+SUMMARY = "what a stream would change of a plan, tried on a private copy"
+KINDS = ["calendars", "periods", "applications", "run_cycles", "predecessors"]
+PLACES = {
+    "L": "long-term plan",
+    "W": "current plan, waiting",
+    "S": "current plan, started",
+    "E": "current plan, in error",
+    "C": "current plan, complete",
+    "D": "current plan, deleted",
+    "H": "history",
+    "o": "deleted by an operator",
+    "w": "withdrawn",
+    "p": "deleted in the current plan",
+}
+
+
+def add_words(parser: words.Parser) -> None:
+    """Adds its words to a parser."""
+    parser.description = (
+        "Runs STREAM over a private copy of PLAN.db, and shows the statements that are refused and what is different "
+        "then: definitions, how far the plans reach, and each occurrence that is new, stands elsewhere or is due "
+        "otherwise. The plan stays as it is. The exit status is 1 where a statement is refused. " + stream.BOUND
+    )
+    words.add_plan(parser)
+    trial_words.add_words(parser, "tries")
+
+
+def run(given: argparse.Namespace) -> int:
+    """Does what the words ask for; the exit status."""
+    with trial.tried(given.plan, given.stream, reply_lines, given.program) as tried:
+        lines = [*tried.found, printable.text(difference(tried.plan, tried.after))]
+    print("\n".join(lines))
+    trial_words.tell_end(tried)
+    return 0 if tried.status == 0 else 1
+
+
+def reply_lines(items: Iterator[Item], output: Source, now: Known) -> list[str]:
+    """How many statements were accepted and refused, and each that was refused, in the words of explain, fit for a
+    terminal."""
+    lines, refused, answered = explanations.explained(items, output, now)
+    told = ["", "\n".join(lines).rstrip("\n")] if lines else []
+    return [f"{answered - refused} accepted, {refused} refused", *told]
+
+
+# What is different.
+
+
+def difference(before: Plan, after: Plan, most: int | None = None) -> list[str]:
+    """Definitions, bounds and occurrences that differ between two plans, in lines; of the occurrences so many at
+    most."""
+    lines = definition_lines(plan_definitions.of_plan(before), plan_definitions.of_plan(after))
+    lines += bound_lines(before.meta, after.meta)
+    rows_before, rows_after = ({row.serial: row for row in waits.rows_where(plan, "1")} for plan in (before, after))
+    lines += occurrence_lines(rows_before, rows_after, most)
+    return lines or ["", "Nothing would be different but the jobs that are kept."]
+
+
+def definition_lines(before: Definitions, after: Definitions) -> list[str]:
+    """The names whose definitions differ, by kind, what was changed of each, and the options."""
+    lines = []
+    for kind in KINDS:
+        held, now = getattr(before, kind), getattr(after, kind)
+        changed = sorted(name for name in held.keys() & now.keys() if held[name] != now[name])
+        for said, names in (
+            ("new", now.keys() - held.keys()),
+            ("changed", changed),
+            ("gone", held.keys() - now.keys()),
+        ):
+            if names:
+                lines.append(f"  {kind.replace('_', ' ')} {said}: {', '.join(sorted(names))}")
+            for name in changed if said == "changed" else ():
+                told = changes.of_name(kind.replace("_", "-"), name, held[name], now[name])
+                lines += [f"    {change.text}" for change in told]
+    if before.default_calendar != after.default_calendar:
+        lines.append(f"  the default calendar: {before.default_calendar}, then {after.default_calendar}")
+    if before.max_hours != after.max_hours:
+        lines.append(f"  the most hours of one daily plan: {before.max_hours}, then {after.max_hours}")
+    return ["", "Definitions:", *lines] if lines else []
+
+
+def bound_lines(before: sqlite3.Row, after: sqlite3.Row) -> list[str]:
+    """How far the plans reach, where that differs."""
+    if not after["created"]:
+        return []
+    lines = []
+    for name, said, text in (
+        ("first_day", "the long-term plan begins on", moments.day_text),
+        ("last_day", "the long-term plan goes to", moments.day_text),
+        ("plan_end", "the current plan ends at", moments.moment_text),
+    ):
+        if not before["created"]:
+            lines.append(f"  {said} {text(after[name])}")
+        elif before[name] != after[name]:
+            lines.append(f"  {said} {text(before[name])}, then {text(after[name])}")
+    return ["", "Plans:", *lines] if lines else []
+
+
+def occurrence_lines(before: dict[int, Row], after: dict[int, Row], most: int | None = None) -> list[str]:
+    """How many occurrences come to stand elsewhere, from where to where, and then each of them, or the first of them
+    and how many more."""
+    changed = [row for serial, row in after.items() if is_other(before.get(serial), row)]
+    changed.sort(key=lambda row: (row.ia, row.app, row.serial))
+    if not changed:
+        return []
+    counts = collections.Counter((place_of(before.get(row.serial)), place_of(row)) for row in changed)
+    wide = len(f"{len(changed)}")
+    lines = ["", f"Occurrences: {len(changed)}"]
+    for (old, new), count in sorted(counts.items()):
+        lines.append(f"  {count:{wide}}  {f'{old}, due or named otherwise' if old == new else f'{old} -> {new}'}")
+    table: list[tuple[str, ...]] = [("serial", "application", "arrives", "before", "then", "due")]
+    table += [occurrence_cells(before.get(row.serial), row) for row in changed[:most]]
+    widths = [max(map(len, column)) for column in zip(*table)]
+    for serial, *cells in table:
+        padded = "  ".join(f"{cell:{width}}" for cell, width in zip(cells, widths[1:]))
+        lines.append(f"  {serial:>{widths[0]}}  {padded}".rstrip())
+    more = len(changed) - len(table) + 1
+    lines.insert(-len(table), "")
+    return lines + ([f"  and {more} more, which `./plan what-if` shows"] if more else [])
+
+
+def is_other(old: Row | None, new: Row) -> bool:
+    """Whether an occurrence is new, stands elsewhere, or is due or named otherwise."""
+    return old is None or (old.place, old.deadline, old.cycle) != (new.place, new.deadline, new.cycle)
+
+
+def place_of(row: Row | None) -> str:
+    """Where an occurrence stands, in words."""
+    return "new" if row is None else PLACES[row.place]
+
+
+def occurrence_cells(old: Row | None, new: Row) -> tuple[str, ...]:
+    """The cells of an occurrence's line."""
+    due = moments.moment_text(new.deadline)
+    if old is not None and old.deadline != new.deadline:
+        due = f"{moments.moment_text(old.deadline)}, then {due}"
+    if old is not None and old.cycle != new.cycle:
+        due += f" (by {old.cycle}, then by {new.cycle})"
+    return str(new.serial), new.app, moments.moment_text(new.ia), place_of(old), place_of(new), due

@@ -1,0 +1,137 @@
+"""A caller's stream that is under way, and the bytes of its answers."""
+
+import asyncio
+import hashlib
+import json
+
+from opcplan.desk.errors import Refused
+from opcplan.desk.planner import Ask
+from opcplan.plans import chain, entry
+
+# statements of one stream that stand in the queue at once
+WINDOW = 32
+
+
+class Body:
+    """The statements of a stream, put into the queue in their order; it goes on where its caller hangs up."""
+
+    def __init__(self, desk, asked, who, key, condition):
+        self.desk, self.asked, self.who, self.key, self.condition = desk, asked, who, key, condition
+        self.at = entry.moment_now()
+        self.asks, self.room = asyncio.Queue(), asyncio.Semaphore(WINDOW)
+        self.has_changes = any(one.changes for one in asked)
+        self.is_left = False  # nobody reads its answers any more
+        self.is_broken = False  # one of its statements wasn't taken, so none behind it is
+        self.digest = key and requests_digest(asked)
+        self.is_claimed, self.is_put, self.left = False, False, 0  # `left`: statements that aren't answered
+
+    async def take(self):
+        """Puts all statements into the queue, up to the first that isn't taken; as many wait as its caller leaves
+        unread, and one where the caller is gone."""
+        try:
+            for place, one in enumerate(self.asked):
+                if not self.is_left:
+                    await self.room.acquire()
+                future = self.put(one, place)
+                self.asks.put_nowait((one, future))
+                if self.is_broken:
+                    return
+                if self.is_left:
+                    await asyncio.wait([future])
+        finally:
+            self.is_put = True
+            self.release()
+
+    def put(self, one, place):
+        """A future of a statement's Ask."""
+        try:
+            if self.is_broken:
+                raise Refused(503, "a statement before this one wasn't taken")
+            ask = self.ask(one, place)
+            ask.streams.append(self)
+            future = ask.wait()
+        except Refused as why:
+            self.is_broken = True
+            future = asyncio.get_running_loop().create_future()
+            future.set_exception(why)
+        self.left += 1
+        future.add_done_callback(self.settle)
+        return future
+
+    def settle(self, done):
+        """A statement is answered, or its caller sent away."""
+        _ = done.cancelled() or done.exception()
+        self.left -= 1
+        self.release()
+
+    def release(self):
+        """Gives the key back once nothing of the stream is under way."""
+        if self.is_claimed and self.is_put and not self.left:
+            self.is_claimed = False
+            self.desk.release(self.who, self.key)
+
+    def leave(self):
+        """Nobody reads on."""
+        self.is_left = True
+        self.room.release()
+
+    def ask(self, one, place):
+        """The Ask of a statement. Raises Refused."""
+        if one.reply is not None:
+            ask = Ask(one.name)
+            ask.reply, ask.tag, ask.position = one.reply, self.desk.tag(), self.desk.position
+            return ask
+        if not one.changes:
+            return self.desk.ask_question(one.name, one.text, self.has_changes)
+        return self.desk.ask_change(one.name, self.wanted(one, place), self.condition)
+
+    def wanted(self, one, place):
+        """What the log is to have of a change."""
+        key = self.key if place == 0 or self.key is None else f"{self.key}#{place}"
+        return entry.Wanted(self.who, key, one.words, one.data, one.job, self.at, self.digest)
+
+    async def claim(self):
+        """Takes the key for this stream. Raises Refused where it stands for another one."""
+        changes = [self.wanted(one, place) for place, one in enumerate(self.asked) if one.changes and one.reply is None]
+        if self.key is not None and changes:
+            await self.desk.claim(self.who, self.key, changes)
+            self.is_claimed = True
+
+    async def next(self):
+        """The next statement and its Ask, answered. Raises Refused and Stopped."""
+        one, future = await self.asks.get()
+        ask = await future
+        self.room.release()
+        if ask.wrong is not None:
+            raise Refused(503, ask.wrong)
+        return one, ask
+
+
+def requests_digest(found):
+    """What tells a stream from others under one key."""
+    whole = hashlib.sha256()
+    for one in found:
+        data = b"" if one.data is None else one.data
+        whole.update(f"{one.name} {one.words} {one.job} {one.reply} {len(data)}\n".encode() + data)
+    return whole.hexdigest()[:chain.DIGEST]
+
+
+def as_text(one, ask):
+    """The bytes of an answer as opcplan prints it."""
+    yield from ask.pieces()
+    yield ask.reply.encode("ascii") + b"\n"
+
+
+def as_json(one, ask):
+    """The bytes of an answer as a line of JSON."""
+    known = ask.entry
+    told = {"seq": known.seq, "statement": known.line, "job": known.job} if known else {
+        "seq": None, "statement": one.words, "job": None}
+    yield json.dumps(told).removesuffix("}").encode() + b', "rows": ['
+    between = b""
+    for piece in ask.pieces():
+        lines = piece.decode("ascii").splitlines()
+        yield between + ", ".join(map(json.dumps, lines)).encode()
+        between = b", "
+    rest = {"reply": ask.reply, "at": known.at if known else entry.moment_now(), "key": known.key if known else None}
+    yield b"], " + json.dumps(rest).removeprefix("{").encode() + b"\n"

@@ -1,0 +1,181 @@
+"""The beginning of a desk over a log in etcd: which entry its plan has, and whether the two belong together."""
+
+import contextlib
+import hashlib
+import os
+import secrets
+
+from opcplan.desk import log
+from opcplan.desk.etcd import Away, Etcd, Wrong
+from opcplan.desk.etcd_log import Shared
+from opcplan.desk.store import Store
+from opcplan.desk.versions import Unfit, different, first_line, version_at, version_of
+from opcplan.errors import LogUnwritable, Unreadable
+from opcplan.plans import entry, journal, journal_plan, sound_rows
+
+OTHER_JOURNAL = "it is the journal of another log; move it away, or name another one by --journal"
+NEW_FILE = "Take the plan of another desk: move {0} away, and start with --from http://OTHERDESK"
+
+
+@contextlib.asynccontextmanager
+async def opened(where, access):
+    """A Store of the log under a name. Raises Unfit where etcd doesn't answer, or refuses."""
+    async with Etcd(where.endpoints, access) as etcd:
+        try:
+            yield Store(etcd, where)
+        except (Away, Wrong) as why:
+            raise Unfit(f"{where}: {'etcd refuses: ' if isinstance(why, Wrong) else ''}{why}") from None
+
+
+async def joined(store, plan, path, program):
+    """The Shared log of a desk over a plan, whose journal is at a path. Raises Unfit, Unreadable, Away and Wrong."""
+    version = version_of(program)
+    with contextlib.ExitStack() as files, contextlib.ExitStack() as left:
+        try:
+            held = files.enter_context(journal.at_rest(plan))
+        except Unreadable as why:
+            raise Unfit(f"{why}. Where it can't be mended: " + NEW_FILE.format(plan)) from None
+        try:
+            state = await store.state()
+            record = journal_of(path, left)
+            state = state or await made(store, held, record, version)
+            given = await Joining(store, state, held, record).applied()
+        except LogUnwritable as why:
+            raise Unfit(str(why)) from None
+        first = next((one.seq for one in record.unanswered() if one.seq <= given), given + 1)
+        check_version(state, first, version, store.where, program)
+        left.pop_all()
+    return Shared(record, store, state, given, version, plan)
+
+
+def journal_of(path, left):
+    """The Journal at a path; where nothing becomes of it, it is closed, and a new one taken away."""
+    if not os.path.exists(path) or not os.path.getsize(path):
+        left.callback(lambda: os.path.exists(path) and os.remove(path))
+    record = journal.Journal(path, is_copy=True)
+    left.callback(record.close)
+    return record
+
+
+async def made(store, held, record, version):
+    """The State of a new log, which a plan without a desk's numbers begins. Raises Unfit."""
+    position = journal.position_of(held)
+    if position or record.position():
+        what = f"{held.path} has numbers of one up to {entry.number_of(position)}" if position else (
+            f"{record.path} is the journal of one")
+        raise Unfit(f"{store.where}: there is no such log in etcd, and {what}. Name the log that it had; where that is "
+                    "lost, or the plan had a desk of its own, end all its desks and begin a log behind the plan that "
+                    f"is the furthest: `./plan log {store.where} --begin {held.path}`")
+    await begun(store, held, 0, version)
+    return await store.state()
+
+
+async def begun(store, held, position, version):
+    """Makes a log behind a plan, where there is none; whether it did."""
+    return await store.create(secrets.token_hex(8), position, content_sum(held), version, entry.moment_now())
+
+
+class Joining:
+    """A plan and its journal, that are to go on with a log."""
+
+    def __init__(self, store, state, held, record):
+        self.where, self.store, self.state, self.held, self.record = store.where, store, state, held, record
+        (self.jobs,) = held.db.execute("SELECT count(*) FROM job").fetchone()
+        self.position = journal.position_of(held)
+
+    async def applied(self):
+        """The entry that the plan has last. Raises Unfit."""
+        known, last = self.record.begun(), next(iter(self.record.last_kept()), None)
+        is_own = known is not None and known[0] == self.state.id
+        has_last = last is None or journal_plan.written(self.job(last.job)) == last.text
+        is_level = is_own and self.jobs >= known[2] and has_last
+        found = max(self.record.position(), known[1]) if is_level else self.by_file()
+        if self.state.first > found + 1:  # a journal may be older than its plan
+            found = max(found, self.position)
+        if not is_own and not (has_last and self.record.position() <= found):
+            raise Unfit(f"{self.record.path}: {OTHER_JOURNAL}")
+        self.check_end(found)
+        # without a journal of the log the last entry has to be there, so that it can be compared
+        if self.state.first > (found + 1 if is_level or found == self.state.base else found):
+            raise Unfit(f"{self.where}: the log is trimmed up to entry {self.state.first - 1}, and {self.held.path} "
+                        f"has entry {found} last. " + NEW_FILE.format(self.held.path))
+        await self.check_text()
+        if not is_level:
+            self.record.begin(self.state.id, found, self.jobs)
+        await self.check_jobs(found)
+        return found
+
+    async def check_jobs(self, upto):
+        """Asks that the plan has the jobs of its journal, as they were answered, and of others those alone that the log
+        has behind the journal. Raises Unfit."""
+        for others in (frozenset(), None):
+            try:
+                others = await self.jobs_behind() if others is None else others
+                return journal_plan.check(self.record, self.held, others, upto)
+            except journal_plan.Strange as why:
+                told = why
+        raise Unfit(f"{told}. " + NEW_FILE.format(self.held.path))
+
+    async def jobs_behind(self):
+        """The job numbers of the entries that the journal doesn't have."""
+        found, last = set(), max(0, self.record.position() - log.MOST_TOGETHER)
+        while batches := (await self.store.read(last))[1]:
+            found |= {one.job for batch in batches for one in batch.entries}
+            last = batches[-1].entries[-1].seq
+        return found
+
+    def by_file(self):
+        """The entry that the plan has last, by its file alone. Raises Unfit."""
+        if self.position > self.state.base:
+            return self.position
+        if content_sum(self.held) == self.state.base_sum:
+            return self.state.base
+        raise Unfit(f"{self.where}: the log began behind another plan than {self.held.path} is, or that is older. "
+                    + NEW_FILE.format(self.held.path))
+
+    async def check_text(self):
+        """Asks that the last job of a desk that the plan keeps is that of the log, where the log still has it. Raises
+        Unfit."""
+        seq, number = self.position, entry.number_of(self.position)
+        batch = await self.store.holding(seq) if max(self.state.base + 1, self.state.first) <= seq else None
+        text = journal_plan.written(self.job(number))
+        if batch is not None and batch.entries[seq - batch.entries[0].seq].text != text:
+            raise Unfit(f"{self.where}: entry {seq} isn't job {number} of {self.held.path}: the log is another plan's, "
+                        "or etcd isn't as it was. Name the log of this plan; where it is to have the plan of the log: "
+                        + NEW_FILE.format(self.held.path))
+
+    def check_end(self, found):
+        """Asks that the log has what the plan has. Raises Unfit."""
+        if found > self.state.head.last:
+            raise Unfit(f"{self.where}: the log ends with entry {self.state.head.last}, and {self.held.path} has entry "
+                        f"{found}: etcd isn't as it was. End all desks of the plan and begin a log of a new name "
+                        "behind the plan that is the furthest, by `./plan log etcd://../NEWNAME --begin PLAN.db`")
+
+    def job(self, number):
+        """The text of a job that the plan keeps, or None."""
+        row = self.held.db.execute("SELECT body FROM job WHERE number = ?", (number,)).fetchone()
+        return row and bytes(row[0])
+
+
+def check_version(state, first, version, where, program):
+    """Asks that the entries from one on are this opcplan's to answer. Raises Unfit."""
+    theirs, newest = version_at(state.versions, first), state.versions[max(state.versions)]
+    if theirs == version:
+        return
+    told = f"{where}: from entry {first} on it is answered by {first_line(theirs)}, and {program} is " \
+           f"{first_line(version)}{different(theirs, version)}. "
+    if newest == version:
+        raise Unfit(f"{told}Start the desk with the older program by --program, until it has all up to entry "
+                    f"{max(state.versions) - 1}, or take the plan of another desk by --from")
+    raise Unfit(f"{told}Start the desk with that program; or, once each machine has the new one, have it answer from "
+                f"now on by `./plan log {where} --version --program {program}`")
+
+
+def content_sum(held):
+    """A sum of all that a plan keeps."""
+    found = hashlib.sha256()
+    for table, keys in sound_rows.KEYS.items():
+        found.update(table.encode())
+        for row in held.db.execute(f"SELECT * FROM {table} ORDER BY {', '.join(keys)}"):
+            found.update(repr(tuple(row)).encode())
+    return found.hexdigest()

@@ -1,0 +1,161 @@
+"""A desk as its callers see it: an address or a socket, a token, and streams that are sent again until they are
+answered, under one key, so that nothing is done twice."""
+
+import contextlib
+import http.client
+import os
+import random
+import re
+import shutil
+import socket
+import time
+import urllib.parse
+
+# of one answer, in seconds; and where another desk can be asked
+PATIENCE, PATIENCE_OF_MANY = 300, 30
+SHORTEST_REST, LONGEST_REST = 0.05, 2.0
+BETWEEN = re.compile(r",(?=https?://|/)")
+
+
+class Wrong(Exception):
+    """What is wrong with the name of a desk."""
+
+
+class Away(Exception):
+    """Why there is no whole answer; `may_be_done` tells whether the stream may have been taken all the same."""
+
+    def __init__(self, text, may_be_done):
+        super().__init__(text)
+        self.may_be_done = may_be_done
+
+
+class Refused(Exception):
+    """Why a desk does nothing of what it was asked, in its words, with HTTP's status."""
+
+    def __init__(self, status, text):
+        super().__init__(text)
+        self.status = status
+
+
+class BySocket(http.client.HTTPConnection):
+    """A connection by a Unix socket."""
+
+    def __init__(self, path, patience):
+        super().__init__("localhost", timeout=patience)
+        self.path = path
+
+    def connect(self):
+        self.sock = socket.socket(socket.AF_UNIX, socket.SOCK_STREAM)
+        self.sock.settimeout(self.timeout)
+        self.sock.connect(self.path)
+
+
+def place_of(name):
+    """How a desk is reached, and where. Raises Wrong."""
+    if "/" in name and "://" not in name:
+        return "socket", name
+    found = urllib.parse.urlsplit(name if "://" in name else f"http://{name}")
+    with contextlib.suppress(ValueError):
+        if found.scheme in ("http", "https") and found.hostname and found.path in ("", "/") and not found.query:
+            return found.scheme, (found.hostname, found.port)
+    raise Wrong(f"{name!r} is no desk: a desk is http://HOST:PORT, or the path of its socket")
+
+
+class Client:
+    """Asks a desk: `http://HOST:PORT`, `https://NAME`, `HOST:PORT`, or the path of a socket. Several desks of one log,
+    with commas between them, are asked in turn. Raises Wrong."""
+
+    def __init__(self, name, token=None):
+        self.name, self.token = name, token
+        self.places, self.turn = [place_of(one) for one in BETWEEN.split(name)], 0
+
+    def connection(self):
+        scheme, where = self.places[self.turn % len(self.places)]
+        patience = PATIENCE if len(self.places) == 1 else PATIENCE_OF_MANY
+        if scheme == "socket":
+            return BySocket(where, patience)
+        kind = http.client.HTTPSConnection if scheme == "https" else http.client.HTTPConnection
+        return kind(*where, timeout=patience)
+
+    def request(self, method, path, body=None, heads=()):
+        """Headers and body of an answer; of several desks the first that answers gives it, from the one on that did
+        last. What changes something has a key. Raises Away and Refused."""
+        for left in reversed(range(len(self.places))):
+            try:
+                return self.asked(method, path, body, heads)
+            except (Away, Refused) as why:
+                if isinstance(why, Refused) and why.status != 503:
+                    raise
+                self.turn += 1
+                if not left:
+                    raise
+        raise AssertionError("a client has a desk")
+
+    def asked(self, method, path, body=None, heads=()):
+        """Headers and body of the answer of one desk. Raises Away and Refused."""
+        with self.answer(method, path, body, heads) as answer:
+            return answer.headers, answer.read()
+
+    def download(self, path, file):
+        """Puts the body of an answer into a file, and answers its headers. Raises Away and Refused."""
+        with self.answer("GET", path) as answer:
+            shutil.copyfileobj(answer, file)
+            if answer.length:
+                raise http.client.IncompleteRead(b"", answer.length)
+            return answer.headers
+
+    @contextlib.contextmanager
+    def answer(self, method, path, body=None, heads=()):
+        """A context with an answer that isn't read yet. Raises Away and Refused."""
+        given = {"X-Opcplan": "desk", **dict(heads)}
+        if self.token:
+            given["Authorization"] = f"Bearer {self.token}"
+        with contextlib.closing(self.connection()) as connection:
+            try:
+                connection.connect()
+            except OSError as error:
+                raise Away(f"{self.name}: there is no desk: {error.strerror or error}", False) from None
+            try:
+                connection.request(method, path, body, given)
+                answer = connection.getresponse()
+                if answer.status >= 400:
+                    raise Refused(answer.status, answer.read().decode("utf-8", "replace").strip() or answer.reason)
+                yield answer
+            except (OSError, http.client.HTTPException) as error:
+                raise Away(f"{self.name}: the answer broke off: {error}", True) from None
+
+    def statements(self, text, key, until, heads=()):
+        """What a stream is answered; it is sent again, up to a moment of the steady clock, while the desk is away.
+        Raises Away and Refused."""
+        rest, may_be_done = SHORTEST_REST, False
+        heads = {"Idempotency-Key": key, "Content-Type": "text/plain", **dict(heads)}
+        while True:
+            for _ in self.places:
+                try:
+                    return self.asked("POST", "/statements", text, heads)[1]
+                except Away as why:
+                    may_be_done = may_be_done or why.may_be_done
+                    last = Away(str(why), may_be_done)
+                except Refused as why:
+                    if why.status != 503:
+                        raise
+                    may_be_done = True
+                    last = Away(f"{self.name}: {why}", True)
+                self.turn += 1
+            if time.monotonic() + rest > until:
+                raise last
+            time.sleep(random.uniform(rest / 2, rest))
+            rest = min(2 * rest, LONGEST_REST)
+
+
+def usual():
+    """The desk that the environment names, or None."""
+    return os.environ.get("OPCPLAN_DESK") or None
+
+
+def token():
+    """The token that the environment has, or that stands in the file it names, or None. Raises OSError."""
+    if path := os.environ.get("OPCPLAN_TOKEN_FILE"):
+        with open(path, encoding="utf-8") as file:
+            return file.read().strip()
+    return os.environ.get("OPCPLAN_TOKEN") or None

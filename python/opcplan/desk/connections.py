@@ -1,0 +1,131 @@
+"""The connections of a desk: how many there may be, and how long one may take to say who it is.
+
+A connection is known once one of its requests came from somebody who may look at the plan. Whoever isn't known yet has
+ten seconds, and the oldest of them go where they are too many, so that nobody keeps others out by saying nothing."""
+
+import asyncio
+import collections
+import contextlib
+import logging
+import resource
+import sys
+import time
+from typing import Any
+
+from aiohttp import http_exceptions, web
+
+# connections at once, at most; and of those who haven't said who they are
+MOST, MOST_UNKNOWN = 4000, 200
+# descriptors that the journal, the plan, opcplan, files of rows and connections that are sent away may take
+RESERVE = 300
+# seconds in which a caller has to say who it is; and a body has to come, with one more for so many bytes of it
+HEADER, BODY, BYTES_A_SECOND = 10.0, 30.0, 50_000
+# seconds between two lines about the same trouble
+QUIET = 60.0
+
+
+def most_open() -> int:
+    """How many connections the descriptors of this process allow; as many descriptors as it may have are taken."""
+    soft, hard = resource.getrlimit(resource.RLIMIT_NOFILE)
+    wanted = MOST + RESERVE if hard == resource.RLIM_INFINITY else min(hard, MOST + RESERVE)
+    if soft != resource.RLIM_INFINITY and soft < wanted:
+        resource.setrlimit(resource.RLIMIT_NOFILE, (wanted, hard))
+        soft = wanted
+    return MOST if soft == resource.RLIM_INFINITY else max(16, min(MOST, soft - RESERVE))
+
+
+class Connections:
+    """All connections that are open, the unknown ones in the order in which they came."""
+
+    def __init__(self) -> None:
+        self.most = most_open()
+        self.unknown: collections.OrderedDict[asyncio.Transport, float] = collections.OrderedDict()
+        self.known: set[asyncio.Transport] = set()
+        self.most_unknown = max(8, min(MOST_UNKNOWN, self.most // 2))
+        self.task: asyncio.Task[None] | None = None
+        self.said: dict[str, float] = {}
+
+    def begin(self, transport: asyncio.Transport) -> None:
+        """A connection begins; the oldest unknown ones go where there are too many."""
+        self.unknown[transport] = time.monotonic()
+        while len(self.unknown) > self.most_unknown or self.unknown and len(self.unknown) + len(self.known) > self.most:
+            oldest, _ = self.unknown.popitem(last=False)
+            oldest.abort()
+            self.say("connections", "there are too many connections whose callers haven't said who they are")
+
+    def know(self, transport: asyncio.Transport) -> None:
+        """A connection's caller may look at the plan."""
+        if self.unknown.pop(transport, None) is not None:
+            self.known.add(transport)
+
+    def end(self, transport: asyncio.Transport | None) -> None:
+        """A connection is over."""
+        if transport is not None:
+            self.unknown.pop(transport, None)
+            self.known.discard(transport)
+
+    def start(self, server: web.Server) -> None:
+        """Sees each connection of a server begin and end, for as long as this runs."""
+        begin, end = server.connection_made, server.connection_lost
+        known_as: dict[object, asyncio.Transport] = {}
+
+        def connection_made(handler: Any, transport: asyncio.Transport) -> None:
+            known_as[handler] = transport
+            self.begin(transport)
+            begin(handler, transport)
+
+        def connection_lost(handler: Any, error: BaseException | None = None) -> None:
+            self.end(known_as.pop(handler, None))
+            end(handler, error)
+
+        server.connection_made, server.connection_lost = connection_made, connection_lost
+        asyncio.get_running_loop().set_exception_handler(self.on_fault)
+        logging.getLogger("aiohttp.server").addFilter(is_defect)
+        self.task = asyncio.create_task(self.watch())
+
+    def close(self) -> None:
+        """Looks at no connection any more."""
+        if self.task is not None:
+            self.task.cancel()
+
+    async def watch(self) -> None:
+        """Sends those away who take too long to say who they are."""
+        while True:
+            await asyncio.sleep(HEADER / 10)
+            late = time.monotonic() - HEADER
+            for transport in [one for one, begun in self.unknown.items() if begun < late]:
+                del self.unknown[transport]
+                transport.abort()
+
+    def on_fault(self, loop: asyncio.AbstractEventLoop, context: dict[str, Any]) -> None:
+        """What went wrong beside all requests: want of descriptors is told once a minute."""
+        if "accept" in context.get("message", ""):
+            self.say("descriptors", f"no connection can be taken for now: {context.get('exception')}")
+        elif not isinstance(context.get("exception"), ConnectionError):
+            loop.default_exception_handler(context)
+
+    def say(self, about: str, text: str) -> None:
+        """A line on standard error, one a minute about one thing."""
+        if time.monotonic() >= self.said.get(about, 0.0):
+            self.said[about] = time.monotonic() + QUIET
+            with contextlib.suppress(OSError):
+                print(f"desk: {text}", file=sys.stderr, flush=True)
+
+
+def is_defect(record: logging.LogRecord) -> bool:
+    """Whether what aiohttp tells of a request is no caller's doing: one that hangs up, or speaks no HTTP."""
+    error = record.exc_info[1] if record.exc_info else None
+    return not isinstance(error, (http_exceptions.HttpProcessingError, ConnectionError, asyncio.TimeoutError))
+
+
+async def body_of(request: web.Request, most: int) -> bytes:
+    """The body of a request. Raises HTTPRequestEntityTooLarge, and HTTPRequestTimeout where it takes too long."""
+    length = request.content_length
+    if length is not None and length > most:
+        raise web.HTTPRequestEntityTooLarge(max_size=most, actual_size=length)
+    patience = BODY + (most if length is None else length) / BYTES_A_SECOND
+    try:
+        async with asyncio.timeout(patience):  # no task of its own: what is there is read also where the caller hung up
+            return await request.read()
+    except TimeoutError:
+        raise web.HTTPRequestTimeout(text="the body didn't come in time; nothing was done\n") from None

@@ -1,0 +1,216 @@
+"""A desk: what its callers ask, and what they are answered."""
+
+import asyncio
+import contextlib
+import time
+
+from opcplan.desk import metrics, state
+from opcplan.desk.errors import Refused, used_otherwise
+from opcplan.desk.events import Events
+from opcplan.desk.feed import Feed, PATIENCE
+from opcplan.desk.planner import Ask, Planner, Stopped
+from opcplan.errors import LogUnwritable
+
+# of lists that are shared as long as nothing changes
+MOST_LISTS = 64
+# seconds until replies are put into the journal where no change comes that takes them along
+LATE = 0.5
+
+
+class Desk:
+    """The desk over HeldFiles, of which it has the locks, and a log. What the journal has without a reply is asked
+    again before anything else."""
+
+    def __init__(self, program, files, the_log, why_not, limit):
+        self.log, self.files = the_log, files
+        pending = the_log.unanswered()
+        position = pending[0].seq - 1 if pending else the_log.given
+        self.state = state.State(the_log.life, position, the_log.chain_at(position),
+                                 [ask_of(one, one.line.split(" ")[0]) for one in pending])
+        self.planner = Planner(program, files, self.state, self.on_answer, self.on_stop, why_not, limit)
+        self.events, self.metrics = Events(self), metrics.Metrics()
+        self.feed = Feed(self)
+        self.lists = {}
+        self.writing = None
+
+    def start(self):
+        """Begins."""
+        self.planner.start()
+        self.feed.start()
+        self.writing = asyncio.create_task(self.write_late())
+
+    async def close(self):
+        """Ends what is in flight, and leaves the plan in one file and the journal whole."""
+        await self.feed.close()
+        await self.planner.close()
+        self.writing.cancel()
+        with contextlib.suppress(LogUnwritable):
+            await self.keep_replies()
+        self.events.close()
+        await self.log.close()
+
+    @property
+    def is_busy(self):
+        """Whether changes are under way."""
+        return bool(self.feed.queue or self.feed.batch or self.state.changes)
+
+    # What is taken.
+
+    @property
+    def position(self):
+        """The entry up to which the plan has all."""
+        return self.state.position
+
+    def tag(self):
+        """Names the state of the plan."""
+        return self.state.tag
+
+    def after(self, last, most):
+        """At most so many answered Entries behind one, as far as there are any."""
+        due = self.state.due(last, most)
+        if not isinstance(due, state.Read):
+            return due
+        return self.log.entries(due.since, most, due.upto) or self.state.due(due.upto, most)
+
+    def ask_question(self, name, text, waits=False):
+        """An Ask of a statement that changes nothing; it perhaps waits for the changes before it. Raises Refused."""
+        ask = Ask(name, text)
+        self.feed.put(ask, not waits)
+        return ask
+
+    def ask_list(self, text):
+        """An Ask of a list, which callers share as long as nothing changes. Raises Refused."""
+        ask = self.lists.get(text)
+        if ask is None:
+            if len(self.lists) >= MOST_LISTS:
+                self.lists.clear()
+            ask = self.lists[text] = self.ask_question("list", text)
+        return ask
+
+    def ask_change(self, name, wanted, condition=None):
+        """An Ask of a change, perhaps the one that its key stands for already. Raises Refused."""
+        known = self.known(wanted)
+        if known is not None:
+            return known
+        ask = Ask(name, None, wanted)
+        ask.condition = condition
+        self.feed.put(ask)
+        if wanted.key is not None:
+            self.state.wants(wanted.who, wanted.key, ask)
+        return ask
+
+    def known(self, wanted):
+        """The Ask that the key of a change stands for, or None. Raises Refused where it is another change."""
+        if wanted.key is None:
+            return None
+        ask = self.state.known(wanted.who, wanted.key)
+        if ask is None:
+            old = self.log.find(wanted.who, wanted.key)
+            if old is None or old.reply is None:  # of a plan that is older than its journal
+                return None
+            ask = Ask("", old.text)
+            ask.entry, ask.reply = old, old.reply
+        job = ask.entry.job if ask.entry else ask.wanted.job
+        text = ask.entry.text if ask.entry else ask.wanted.text(job)
+        if wanted.text(job) != text:
+            raise used_otherwise(wanted.key)
+        return ask
+
+    async def claim(self, who, key, wanted):
+        """Takes a caller's key for a stream, whose changes these are, until `release`. Raises Refused where the key
+        stands for another one."""
+        unknown = [one for one in wanted if self.known(one) is None]
+        with contextlib.suppress(LogUnwritable):  # who appends them is told
+            for place, one in (await self.log.used(unknown)).items():
+                if one is None:
+                    raise used_otherwise(unknown[place].key)
+        if not self.state.claim(who, key, wanted[0].stream, self.log.stream_of(who, key)):
+            raise used_otherwise(key)
+
+    def release(self, who, key):
+        """A stream is over for which its caller's key was taken."""
+        self.state.release(who, key)
+
+    def ask_of(self, one, name):
+        """An Ask of an Entry, which its key finds."""
+        ask = ask_of(one, name)
+        if one.key is not None:
+            self.state.wants(one.who, one.key, ask)
+        return ask
+
+    async def catch_up(self):
+        """Waits until the plan has what the log has now, and answers the last entry. Raises Refused."""
+        until = time.monotonic() + PATIENCE
+        try:
+            last = await self.log.ask_last(until)
+        except LogUnwritable as why:
+            raise Refused(503, f"it isn't known how far the log is: {why}") from None
+        while self.position < last:
+            if self.planner.stopped or time.monotonic() > until:
+                raise Refused(503, f"the plan here is behind the log, which has entry {last}: "
+                                   f"{self.trouble or 'try again'}")
+            await asyncio.sleep(LATE / 50)
+        return last
+
+    def forget(self, ask):
+        """Lets a statement go that wasn't taken."""
+        if ask.wanted is not None and ask.wanted.key is not None:
+            self.state.forget(ask.wanted.who, ask.wanted.key, ask)
+        self.lists.pop(ask.text, None)
+
+    # What comes back.
+
+    def on_answer(self, one):
+        """Takes the Answer of a statement, and has its callers hear it."""
+        ask = one.item
+        if ask.name is not None:
+            self.metrics.count(ask, one.reply)
+        if one.entry is not None:
+            ask.entry = one.entry
+            if one.reply.startswith("ok"):
+                self.lists.clear()
+            self.events.wake()
+        if ask.is_again:  # the journal, or etcd, has its key
+            self.forget(ask)
+        ask.tag, ask.position = one.tag, one.position
+        ask.answer(one.reply)
+
+    def on_stop(self, why):
+        """Sends all away who wait for the planner; what stands in the log stays."""
+        self.feed.drop_queue(Stopped(why))
+        self.feed.drop_questions(Stopped(why))
+        for ask in (*self.feed.batch, *self.feed.asking):
+            ask.fail(Stopped(why))
+        self.lists.clear()
+
+    async def write_late(self):
+        while True:
+            await asyncio.sleep(LATE)
+            for entry, digest in self.log.adopts().items():
+                self.state.adopt(entry, digest)
+            if self.state.unkept():
+                with contextlib.suppress(LogUnwritable):
+                    await self.keep_replies()
+
+    async def keep_replies(self):
+        """Has the log keep what was answered. Raises Unwritable."""
+        entries = self.state.unkept()
+        if entries:
+            await self.log.keep_replies(self.replies_of(entries))
+            self.state.keeps(entries)
+
+    def replies_of(self, entries):
+        """The replies of answered Entries as the journal keeps them: (seq, reply, digest)."""
+        return [(one.seq, one.reply, digest) for one, digest in zip(entries, self.state.digests(entries))]
+
+    @property
+    def trouble(self):
+        """Why the desk answers nothing, or takes no change, for now."""
+        return self.planner.trouble or self.log.trouble
+
+
+def ask_of(one, name):
+    """An Ask of an Entry."""
+    ask = Ask(name, one.text)
+    ask.entry = one
+    return ask

@@ -1,0 +1,159 @@
+"""etcd as a desk asks it: the JSON gateway of its nodes, one after another until one answers."""
+
+import asyncio
+import contextlib
+import json
+import re
+import time
+
+import aiohttp
+
+from opcplan.desk.log_entries import in_base64, of_base64
+
+# how long one call may take, in seconds
+CALL = 2.0
+# codes of gRPC after which another node may do better: unknown, deadline, internal, unavailable
+ELSEWHERE = (2, 4, 13, 14)
+NO_LOGIN, EXHAUSTED, NOT_FOUND, INVALID = 16, 8, 5, 3
+STALE_LOGIN = ("invalid auth token", "user name is empty", "revision of auth store is old")
+MOST_OF_A_WATCH, MOST_TOLD = 1 << 20, 300
+
+
+class Away(Exception):
+    """Why no node answers; what was asked may be done all the same."""
+
+
+class Wrong(Exception):
+    """What etcd says against a call: nothing was done."""
+
+    def __init__(self, code, text):
+        super().__init__(text)
+        self.code = code
+
+
+class Etcd:
+    """The nodes of etcd that are named."""
+
+    def __init__(self, endpoints, access):
+        scheme = "https" if access.tls else "http"
+        self.endpoints = [f"{scheme}://{one}" for one in endpoints]
+        self.access, self.token, self.turn, self.session = access, None, 0, None
+        self.quotas = {}
+
+    async def __aenter__(self):
+        connector = aiohttp.TCPConnector(ssl=self.access.tls or False, limit=0)
+        self.session = aiohttp.ClientSession(connector=connector)
+        return self
+
+    async def __aexit__(self, *_):
+        await self.session.close()
+
+    @property
+    def endpoint(self):
+        """The node that is asked first."""
+        return self.endpoints[self.turn % len(self.endpoints)]
+
+    async def post(self, path, said, until=None):
+        """What the first node that answers says, up to a moment of the steady clock. Raises Away and Wrong."""
+        why = ""
+        for _ in self.endpoints:
+            left = CALL if until is None else min(CALL, until - time.monotonic())
+            if left <= 0:
+                break
+            at = self.endpoint
+            try:
+                return await self.at(at, path, said, left)
+            except Away as error:
+                why = str(error)
+                if at == self.endpoint:  # no other call went on meanwhile
+                    self.turn += 1
+        raise Away(f"etcd doesn't answer: {why}" if why else "etcd doesn't answer in time")
+
+    async def at(self, endpoint, path, said, patience=CALL):
+        """What one node says. Raises Away and Wrong."""
+        try:
+            return await self.once(endpoint, path, said, patience)
+        except Wrong as why:
+            is_stale = why.code == NO_LOGIN or any(text in str(why) for text in STALE_LOGIN)
+            if self.access.user is None or not is_stale:
+                raise
+        self.token = None
+        return await self.once(endpoint, path, said, patience)
+
+    async def once(self, endpoint, path, said, patience):
+        heads = {}
+        if self.access.user is not None:
+            if self.token is None:
+                name, password = self.access.user
+                login = {"name": name, "password": password}
+                self.token = (await self.sent(endpoint, "/v3/auth/authenticate", login, {}, patience))["token"]
+            heads["Authorization"] = self.token
+        return await self.sent(endpoint, path, said, heads, patience)
+
+    async def sent(self, endpoint, path, said, heads, patience):
+        limit = aiohttp.ClientTimeout(total=patience)
+        try:
+            async with self.session.post(endpoint + path, json=said, headers=heads, timeout=limit) as answer:
+                data = await answer.read()
+                status = answer.status
+        except asyncio.TimeoutError:
+            raise Away(f"{endpoint}: no answer in {patience:.1f} s") from None
+        except (aiohttp.ClientError, OSError) as error:
+            raise Away(f"{endpoint}: {error}") from None
+        try:
+            found = json.loads(data)
+        except ValueError:
+            told = data[:MOST_TOLD].decode("utf-8", "replace").strip()
+            if "CommonName" in told:
+                told += "; where etcd has users, --etcd-user says who asks, and --etcd-cert has no CommonName"
+            if 400 <= status < 500:
+                raise Wrong(INVALID, f"{endpoint}: status {status}: {told}") from None
+            raise Away(f"{endpoint}: status {status}, and no answer of etcd's JSON gateway") from None
+        if status == 200:
+            return found
+        code, told = found.get("code", 2), found.get("message") or found.get("error") or f"status {status}"
+        if code in ELSEWHERE and "auth" not in told:
+            raise Away(f"{endpoint}: {told}")
+        raise Wrong(code, told)
+
+    async def watch(self, key, on_value):
+        """Calls `on_value` with each value that a key gets, until the node ends it. Raises Away and Wrong."""
+        said = {"create_request": {"key": in_base64(key)}}
+        limit = aiohttp.ClientTimeout(total=None, sock_connect=CALL, sock_read=60)
+        heads = {"Connection": "close", **({"Authorization": self.token} if self.token else {})}
+        try:
+            path = f"{self.endpoint}/v3/watch"
+            async with self.session.post(path, json=said, headers=heads, timeout=limit) as answer:
+                line = b""
+                async for piece in answer.content.iter_any():
+                    *lines, line = (line + piece).split(b"\n")
+                    for one in lines:
+                        for event in json.loads(one).get("result", {}).get("events", ()):
+                            on_value(of_base64(event["kv"].get("value")))
+                    if len(line) > MOST_OF_A_WATCH:
+                        raise Away(f"{self.endpoint}: it says more of a watch than it should")
+        except (aiohttp.ClientError, asyncio.TimeoutError, OSError, ValueError) as error:
+            raise Away(f"{self.endpoint}: {error}") from None
+
+    async def quota(self, endpoint):
+        """The bytes that a node's database may have, or None where it doesn't tell."""
+        if endpoint in self.quotas:
+            return self.quotas[endpoint]
+        limit = aiohttp.ClientTimeout(total=CALL)
+        with contextlib.suppress(aiohttp.ClientError, asyncio.TimeoutError, OSError, ValueError):
+            async with self.session.get(f"{endpoint}/metrics", timeout=limit) as answer:
+                data = await answer.read()  # whole: aiohttp may hang in what a half-read connection is asked next
+            found = re.search(rb"^etcd_server_quota_backend_bytes ([0-9.e+]+)$", data, re.M)
+            if found:
+                self.quotas[endpoint] = int(float(found[1]))
+        return self.quotas.get(endpoint)
+
+    async def standing(self, endpoint):
+        """How a node stands, for a reader; `answers` is False where it doesn't."""
+        try:
+            found = await self.at(endpoint, "/v3/maintenance/status", {})
+        except (Away, Wrong) as why:
+            return {"endpoint": endpoint, "answers": False, "why": str(why)}
+        return {"endpoint": endpoint, "answers": True, "bytes": int(found.get("dbSize", 0)),
+                "in use": int(found.get("dbSizeInUse", 0)), "quota": await self.quota(endpoint),
+                "leads": found.get("leader") == found["header"]["member_id"], "version": found.get("version", "")}

@@ -1,0 +1,327 @@
+"""The log that several desks share: it stands in etcd, and any desk appends to it where it knows all that is there."""
+
+import asyncio
+import contextlib
+import hashlib
+import os
+import secrets
+import socket
+import time
+
+from opcplan.desk import digests, log
+from opcplan.desk.etcd import Away, EXHAUSTED, NOT_FOUND, Wrong
+from opcplan.desk.log_entries import text_sum
+from opcplan.desk.versions import different, first_line, version_at
+from opcplan.errors import LogUnwritable
+from opcplan.plans import chain, entry
+
+# seconds between two looks at the head where nothing is heard of it, and between two at the nodes
+POLL, LOOK = 0.5, 5.0
+REST = 0.1
+# without a word of the head, in seconds, until that is told; a node that is asked in vain takes two of them
+SILENT = 4.0
+# a caller's key stands for a week at least: a lease goes on for a day
+DAY = 24 * 3600
+LEASE = 8 * DAY
+# a desk says what it answered after so many entries and so many seconds at least, and compares so many of its own
+# entries with what others say
+EVERY, REPORT, MOST_COMPARED = 16, 2.0, 1000
+
+
+class Shared(log.Log):
+    """The log under a name of etcd, of which a plan has the entries up to one; `version` is the opcplan that this desk
+    has, `path` the plan."""
+
+    is_shared = True
+
+    def __init__(self, journal, store, stands, given, version, path):
+        super().__init__(journal)
+        self.store, self.state, self.version = store, stands, version
+        self.head, self.versions, self.moves = stands.head, stands.versions, stands.head.moves
+        self.applied, self.begins = given, journal.begun()[1]
+        # appended batches are read whole: the first one may have begun before
+        self.read_behind = max(0, given - log.MOST_TOGETHER + 1)
+        self.has_news = given < stands.head.last
+        self.heard = time.monotonic()
+        self.away = self.lost = self.full = ""
+        self.members = []
+        self.lease_id, self.lease_begun, self.reported = None, 0.0, None
+        self.path, self.desk_id = os.path.realpath(path), name_of(path)
+        self.tasks, self.on_news = [], lambda: None
+        self.known_chains = {}
+
+    @property
+    def life(self):
+        return self.state.id
+
+    @property
+    def given(self):
+        return self.applied
+
+    @property
+    def trouble(self):
+        silent = time.monotonic() - self.heard
+        unheard = f"etcd hasn't answered for {silent:.0f} s" if silent > SILENT else ""
+        return self.lost or self.held or self.away or unheard or self.full or self.unwritten
+
+    @property
+    def held(self):
+        """Why the desk holds back: another opcplan has to answer what comes next."""
+        theirs = version_at(self.versions, self.given + 1)
+        if theirs == self.version:
+            return ""
+        return (f"the log goes on from entry {self.given + 1} with {first_line(theirs)}, and this desk has "
+                f"{first_line(self.version)}{different(theirs, self.version)}: start it again with that program")
+
+    def chain_at(self, position):
+        _, base, _, digest = self.journal.begun()
+        begin = chain.chain_of(self.state.id, base) if base == self.state.base else digest
+        return self.journal.digest_at(position, base, begin)
+
+    def start(self, on_news, on_difference):
+        self.on_news = on_news
+        loops = self.watch(), self.poll(), self.look(), self.compare(on_difference)
+        self.tasks = [asyncio.create_task(one) for one in loops]
+
+    async def close(self):
+        for task in self.tasks:
+            task.cancel()
+        await asyncio.gather(*self.tasks, return_exceptions=True)
+        with contextlib.suppress(Away, Wrong):
+            await self.report()
+        await super().close()
+
+    # What is appended.
+
+    async def append(self, batch, replies, until):
+        if why := self.lost or self.held:
+            raise LogUnwritable(why)
+        head = self.head
+        if self.has_news or head.last != self.given:
+            raise log.Behind
+        entries = entry.placed(batch, head.last)
+        came = await self.appended(head, entries, until)
+        if not came.is_done:
+            if came.used and came.head == head:
+                raise log.Used({place: known_entry(wanted, came.used[one.who, one.key])
+                                for place, (one, wanted) in enumerate(zip(entries, batch))
+                                if (one.who, one.key) in came.used})
+            self.notice(came.head, self.given)
+            self.has_news = True
+            raise log.Behind
+        try:
+            await self.keep(entries, replies)
+        except LogUnwritable as why:
+            self.has_news = True
+            raise log.Unsure(f"{why}; it stands in the log, and is done once the journal can be written") from None
+        self.notice(came.head)
+        return entries
+
+    async def appended(self, head, entries, until):
+        """What came of a batch behind a head, whatever is heard of another one meanwhile. Where an answer is lost, it
+        is asked again under the same mark, by which one sees that it is done. Raises Unwritable."""
+        mark = secrets.token_hex(8)
+        while True:
+            try:
+                lease = await self.lease() if any(one.key is not None for one in entries) else None
+                came = await self.store.append(head, mark, entries, lease, until)
+            except Away as why:
+                self.away = str(why)
+                if time.monotonic() >= until:
+                    raise log.Unsure(f"{why}; it may be done all the same") from None
+                await asyncio.sleep(REST)
+                continue
+            except Wrong as why:
+                if why.code == NOT_FOUND and self.lease_id is not None:
+                    self.lease_id = None
+                    continue
+                raise LogUnwritable(self.refused(why)) from None
+            self.full = ""
+            first = came.batches[0] if came.batches else None
+            if first and first.mark == mark and first.entries[0].seq == entries[0].seq:
+                return came._replace(is_done=True)
+            return came
+
+    def refused(self, why):
+        """A sentence for what etcd says against a change."""
+        if why.code == EXHAUSTED and "space" in str(why):
+            self.full = f"etcd takes nothing: {why}; `./plan log {self.store.where} --trim` makes room"
+            return self.full
+        return f"etcd takes nothing: {why}"
+
+    async def lease(self):
+        """The lease under which callers' keys are put now. Raises Away and Wrong."""
+        if self.lease_id is None or time.monotonic() > self.lease_begun + DAY:
+            begun = time.monotonic()
+            self.lease_id = await self.store.lease(LEASE)
+            self.lease_begun = begun
+        return self.lease_id
+
+    async def keep(self, entries, replies):
+        await super().keep(entries, replies)
+        if entries:
+            self.applied = self.read_behind = entries[-1].seq
+
+    # What others appended.
+
+    async def others(self):
+        if not self.has_news or self.lost:
+            return []
+        least = self.given
+        try:
+            head, batches = await self.store.read(self.read_behind)
+            if head is not None and head.moves != self.moves:
+                self.versions, self.moves = await self.store.versions(), head.moves
+        except (Away, Wrong) as why:
+            self.away = str(why)
+            raise LogUnwritable(str(why)) from None
+        except (KeyError, TypeError, ValueError) as error:
+            self.lost = f"what stands in etcd below {self.store.root} is nothing that a desk writes: {error!r}"
+            raise LogUnwritable(self.lost) from None
+        self.notice(head, least)
+        found = [one for batch in batches for one in batch.entries if one.seq > self.given]
+        if head and head.last > self.given and (not found or found[0].seq != self.given + 1):
+            self.lost = (f"the log is trimmed behind entry {self.given}, which is the last one of this plan: end the "
+                         "desk, and begin with the plan of another one, by --from")
+            found = []
+        found = [one for one in found if version_at(self.versions, one.seq) == self.version]
+        if not found and head == self.head:
+            self.has_news = False
+        return found
+
+    def notice(self, head, least=0):
+        """Takes what is heard of the head; what was asked when the plan had `least` can't be before that."""
+        self.heard, self.away = time.monotonic(), ""
+        if head is None or head.last < least:
+            has = f"ends with entry {head.last}" if head else "is gone"
+            self.lost = (f"the log {has}, and this plan has entry {least}: etcd isn't as it was. End all desks; "
+                         "`./plan log --help` says how a new log begins behind a plan")
+        elif head > self.head or head.last > self.given:
+            self.head = max(head, self.head)
+            if self.head.last > self.given or self.head.moves != self.moves:
+                self.has_news = True
+                self.on_news()
+
+    async def ask_last(self, until):
+        least = self.given
+        try:
+            self.notice(await self.store.head(until), least)
+        except (Away, Wrong) as why:
+            raise LogUnwritable(str(why)) from None
+        if self.lost or self.held and self.head.last > self.given:
+            raise LogUnwritable(self.lost or self.held)
+        return self.head.last
+
+    async def used(self, wanted):
+        keyed = [one for one in wanted if one.key is not None]
+        if not keyed or self.begins <= self.state.base:  # the journal has all keys
+            return {}
+        try:
+            found = await self.store.keys(keyed[0].who, keyed[0].key.partition("#")[0])
+        except (Away, Wrong) as why:
+            raise LogUnwritable(str(why)) from None
+        if any(told.get("stream") not in (None, keyed[0].stream) for told in found.values()):
+            return {wanted.index(keyed[0]): None}
+        return {place: known_entry(one, found[one.key]) for place, one in enumerate(wanted) if one.key in found}
+
+    # What goes on besides.
+
+    async def watch(self):
+        """Hears of the head as soon as it moves; what isn't heard is seen by `poll`."""
+        def on_value(data):
+            with contextlib.suppress(ValueError, TypeError):
+                self.notice(type(self.head)(*map(int, data.split())))
+        while True:
+            with contextlib.suppress(Away, Wrong):
+                await self.store.etcd.watch(self.store.key("head"), on_value)
+            await asyncio.sleep(POLL)
+
+    async def poll(self):
+        while True:
+            await asyncio.sleep(POLL)
+            if time.monotonic() - self.heard >= POLL:
+                least = self.given
+                try:
+                    self.notice(await self.store.head(), least)
+                except (Away, Wrong) as why:
+                    self.away = str(why)
+
+    async def look(self):
+        """Sees how the nodes stand, and says how this desk stands."""
+        etcd = self.store.etcd
+        while True:
+            self.members = await asyncio.gather(*map(etcd.standing, etcd.endpoints))
+            with contextlib.suppress(Away, Wrong):
+                alarms = (await etcd.post("/v3/maintenance/alarm", {"action": "GET"})).get("alarms", ())
+                named = sorted({one.get("alarm", "") for one in alarms})
+                self.full = f"etcd has an alarm: {', '.join(named)}; `./plan log --trim` makes room" if named else ""
+            await asyncio.sleep(LOOK)
+
+    async def compare(self, on_difference):
+        """Says how this desk stands and what it answered, at once and whenever it has some more entries or some time is
+        over, and compares that with what others say."""
+        while True:
+            with contextlib.suppress(Away, Wrong, KeyError, TypeError, ValueError):
+                await self.report()
+                desks = await self.store.desks()
+                self.known_chains = {told["answered"]: told["chain"] for told in desks.values() if told.get("chain")}
+                others = {name: told.get("digests", {}) for name, told in desks.items() if name != self.desk_id}
+                if why := digests.difference(self.journal.digests(MOST_COMPARED, self.given), others):
+                    on_difference(f"{why}. {digests.WAY_OUT.format(self.path, self.desk_id)}")
+            until, last = time.monotonic() + LOOK, self.given
+            await asyncio.sleep(REPORT)
+            while self.given < last + EVERY and time.monotonic() < until:
+                await asyncio.sleep(POLL)
+
+    def adopts(self):
+        return self.known_chains
+
+    async def report(self):
+        """Says in etcd how far this desk is and what it answered, where that changed."""
+        found = self.journal.digests(digests.MOST, self.given)
+        last = max(found, default=None)
+        told = {"position": self.given, "plan": self.path, "version": self.version,
+                **({"answered": last, "chain": found[last], "digests": digests.short(found)} if found else {})}
+        lease = await self.lease()
+        if (told, lease) == self.reported:
+            return
+        try:
+            await self.store.report(self.desk_id, {**told, "at": entry.moment_now()}, lease)
+            self.reported = told, lease
+        except Wrong as why:
+            if why.code != NOT_FOUND:
+                raise
+            self.lease_id = None  # it is gone; the next report takes a new one
+
+    def standing(self, position):
+        return {"log": str(self.store.where), "head": self.head.last, "behind": max(0, self.head.last - position),
+                "etcd": {**self.sizes(), "why": self.away, "members": self.members}}
+
+    def gauges(self, position):
+        """Those of the log and of etcd, as far as they are known."""
+        known = {"head": self.head.last, "behind": max(0, self.head.last - position),
+                 "etcd_members_up": sum(one["answers"] for one in self.members),
+                 **{f"etcd_{name}": value for name, value in self.sizes().items()}}
+        return {name: value for name, value in known.items() if value is not None}
+
+    def sizes(self):
+        """The bytes of the greatest of etcd's databases, and the least quota."""
+        answer = [one for one in self.members if one["answers"]]
+        return {"bytes": max((one["bytes"] for one in answer), default=None),
+                "quota": min((one["quota"] for one in answer if one["quota"]), default=None)}
+
+
+def name_of(path):
+    """The name of the desk over a plan of this machine."""
+    machine = b""
+    with contextlib.suppress(OSError), open("/etc/machine-id", "rb") as file:
+        machine = file.read()
+    return f"{socket.gethostname()}-{hashlib.sha256(machine + os.path.realpath(path).encode()).hexdigest()[:8]}"
+
+
+def known_entry(wanted, told):
+    """The Entry for which a key stands, by what etcd has of it, or None where it is another statement's."""
+    text = wanted.text(told["job"])
+    if text_sum(text) != told["sum"] or told.get("stream") not in (None, wanted.stream):
+        return None
+    return entry.Entry(told["seq"], told["at"], wanted.who, wanted.key, told["job"], text, None, wanted.stream)

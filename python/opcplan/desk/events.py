@@ -1,0 +1,94 @@
+"""Events as a server sends them: each entry once it is answered, and the state of the plan behind it."""
+
+import asyncio
+import contextlib
+import json
+
+from aiohttp import web
+
+# entries that are told together
+PAGE = 500
+# seconds without an event until the reader is told that the desk is there
+QUIET = 15
+# names no state: entries are lacking here that the reader doesn't have, so it has to look at all anew
+ANEW = "anew-0"
+
+
+class Events:
+    """Those who listen to a desk. Each has the number of the last entry that it was told, and gets what comes then."""
+
+    def __init__(self, desk):
+        self.desk, self.listeners, self.is_closed = desk, set(), False
+
+    def wake(self):
+        """Has all listeners look for what came."""
+        for listener in self.listeners:
+            listener.set()
+
+    def close(self):
+        """Has all listeners end, once they have all that there is."""
+        self.is_closed = True
+        self.wake()
+
+    async def handle(self, request):
+        """GET /events."""
+        since = since_of(request)
+        listener = asyncio.Event()
+        self.listeners.add(listener)
+        response = web.StreamResponse(headers={
+            "Content-Type": "text/event-stream; charset=utf-8", "Cache-Control": "no-store",
+            "X-Content-Type-Options": "nosniff", "X-Accel-Buffering": "no"})
+        try:
+            await response.prepare(request)
+            await self.follow(response, listener, since)
+        except (ConnectionResetError, asyncio.CancelledError):
+            pass  # the reader is gone
+        finally:
+            self.listeners.discard(listener)
+        return response
+
+    async def follow(self, response, listener, since):
+        """Tells what the log has behind a position, and what comes; after each entry behind which none waits, the
+        state."""
+        last = self.desk.position if since is None else since
+        if last < self.desk.log.begins:
+            await response.write(self.state_text(ANEW))
+        is_told = False
+        while True:
+            listener.clear()
+            found = self.desk.after(last, PAGE)
+            if found:
+                last, is_told = found[-1].seq, False
+                await response.write(b"".join(map(entry_text, found)))
+            elif not is_told:
+                is_told = True
+                await response.write(self.state_text())
+            elif self.is_closed:
+                return
+            else:
+                await self.wait(response, listener)
+
+    async def wait(self, response, listener):
+        """Waits for the next entry, and now and then says that the desk is there."""
+        with contextlib.suppress(asyncio.TimeoutError):
+            await asyncio.wait_for(listener.wait(), QUIET)
+            return
+        await response.write(b": the desk is there\n\n")
+
+    def state_text(self, tag=None):
+        told = {"tag": tag or self.desk.tag(), "position": self.desk.position}
+        return f"event: state\ndata: {json.dumps(told)}\n\n".encode()
+
+
+def entry_text(one):
+    return f"id: {one.seq}\nevent: entry\ndata: {json.dumps(one.values())}\n\n".encode()
+
+
+def since_of(request):
+    """The position behind which a reader goes on, or None. Raises HTTPBadRequest."""
+    text = request.headers.get("Last-Event-ID") or request.query.get("since")
+    if text is None:
+        return None
+    if not text.isascii() or not text.isdigit() or len(text) > 15:
+        raise web.HTTPBadRequest(text="Last-Event-ID is the number of an entry\n")
+    return int(text)

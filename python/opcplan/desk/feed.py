@@ -1,0 +1,256 @@
+"""How statements go through one queue into the log, and then to the kept opcplan, with what others appended."""
+
+import asyncio
+import collections
+import time
+
+from opcplan.desk import log
+from opcplan.desk.errors import Refused, used_otherwise
+from opcplan.errors import LogUnwritable
+
+MOST_QUEUED = 5000
+# of changes that are put into the log together
+BATCH_BYTES = 1 << 19
+# seconds in which the log has to take a change
+PATIENCE = 10.0
+# seconds until what can't be taken for now is tried again
+REST = 0.1
+# seconds that a question waits at most for changes
+MOST_HELD = 10.0
+
+
+class Feed:
+    """The queues of a desk, and the two pumps that empty them: that of changes and of questions which wait for changes,
+    and that of other questions."""
+
+    def __init__(self, desk):
+        self.desk, self.log = desk, desk.log
+        self.queue, self.batch = collections.deque(), []
+        self.questions = collections.deque()
+        self.wake, self.question_wake, self.hold = asyncio.Event(), asyncio.Event(), asyncio.Lock()
+        self.is_closing = False
+        self.asking = []  # the question that opcplan has
+        self.over = self.took = 0.0  # when the last question was answered, and how long that took
+        self.pumps = []
+
+    def start(self):
+        self.log.start(self.wake.set, self.desk.planner.halt)
+        self.pumps = [asyncio.create_task(one) for one in (self.pump(), self.pump_questions())]
+
+    async def close(self):
+        """Ends what waits."""
+        self.is_closing = True
+        self.wake.set()
+        self.question_wake.set()
+        while not all(pump.done() for pump in self.pumps):
+            await asyncio.wait(self.pumps, timeout=REST)
+            if self.desk.planner.stopped:
+                for pump in self.pumps:
+                    pump.cancel()  # what it holds stands in the log
+
+    def put(self, ask, is_alone=False):
+        """Puts a statement into the queue of changes, or that of questions alone. Raises Refused."""
+        if self.is_closing:
+            raise Refused(503, "the desk is being ended")
+        if self.desk.planner.stopped:
+            raise Refused(503, f"the desk is stopped: {self.desk.planner.stopped}")
+        if len(self.queue) + len(self.questions) >= MOST_QUEUED:
+            raise Refused(503, "too much is waiting; try again")
+        (self.questions if is_alone else self.queue).append(ask)
+        (self.question_wake if is_alone else self.wake).set()
+
+    # What goes to the log, and then to the planner.
+
+    async def pump(self):
+        while True:
+            self.wake.clear()
+            is_level = await self.take_others()
+            if not is_level and self.log_is_late():
+                self.drop_queue(Refused(503, f"{self.desk.trouble}; nothing was done"))
+            elif not is_level:
+                await asyncio.sleep(REST)
+            elif self.queue:
+                self.batch = await self.next_batch()
+                if await self.enter(self.batch):
+                    await self.give(self.batch)
+                self.batch = []
+                continue
+            if self.is_closing and not self.queue:
+                return
+            if is_level:
+                await self.wake.wait()
+
+    async def pump_questions(self):
+        while not self.is_closing or self.questions:
+            if self.questions:
+                await self.let_changes_go()
+                if self.questions:
+                    await self.answered(self.questions.popleft())
+            else:
+                self.question_wake.clear()
+                await self.question_wake.wait()
+
+    async def let_changes_go(self):
+        """Waits twice as long as the last question took, where changes are under way: questions have a third of the
+        time."""
+        until = self.over + min(2 * self.took, MOST_HELD)
+        while self.desk.is_busy and time.monotonic() < until and not self.is_closing:
+            await asyncio.sleep(REST / 20)
+
+    async def answered(self, ask):
+        """Gives a question over, and waits until it is answered."""
+        begun, future, self.asking = time.monotonic(), ask.wait(), [ask]
+        await self.give([ask])
+        await asyncio.wait([future])
+        if not future.cancelled():
+            future.exception()
+        self.asking = []
+        self.over = time.monotonic()
+        self.took = self.over - begun
+
+    async def give(self, asks):
+        """Gives statements over to the planner."""
+        for ask in asks:
+            await self.desk.planner.room.wait()
+            async with self.hold:
+                await self.desk.planner.give(ask)
+
+    async def take_others(self):
+        """Gives over what others appended; whether all of it was."""
+        try:
+            while entries := await self.log.others():
+                if self.desk.planner.stopped:
+                    return False
+                replies = self.desk.state.unkept()
+                await self.log.keep(entries, self.desk.replies_of(replies))
+                self.desk.state.keeps(replies)
+                await self.give([self.desk.ask_of(one, None) for one in entries])
+        except LogUnwritable:
+            return False
+        return True
+
+    def log_is_late(self):
+        """Whether those who wait have waited long enough for the log."""
+        return bool(self.queue) and self.queue[0].begun + PATIENCE < time.monotonic()
+
+    async def next_batch(self):
+        """The next statements; one with a condition stands alone, and only where its state is that of the plan."""
+        batch, size = [], 0
+        while self.queue and self.queue[0].condition is None and len(batch) < log.MOST_TOGETHER and size < BATCH_BYTES:
+            batch.append(self.queue.popleft())
+            size += batch[-1].size
+        if batch:
+            return batch
+        ask, why = self.queue[0], None
+        try:
+            if await self.log.ask_last(time.monotonic() + PATIENCE) != self.log.given:
+                return []  # what others appended comes first
+            await self.desk.planner.idle_or_stopped()
+            if not (self.desk.state.is_state(ask.condition) or await self.is_done(ask)):
+                why = Refused(412, "the plan has changed since it was looked at; nothing was done")
+        except LogUnwritable as error:
+            why = Refused(503, f"{error}; nothing was done")
+        if not self.queue or self.queue[0] is not ask:  # it was sent away meanwhile
+            return []
+        self.queue.popleft()
+        if why is not None:
+            self.drop_all([ask], why)
+        return [] if why is not None else [ask]
+
+    async def is_done(self, ask):
+        """Whether a change stands in the log under its key, and is answered as it was. Raises Unwritable."""
+        if ask.is_again or ask.wanted.key is None:
+            return ask.is_again
+        known = self.known_since(ask) or (await self.log.used([ask.wanted])).get(0)
+        if known is None or known.text != ask.wanted.text(known.job):
+            return False
+        ask.stands_for(known)
+        return True
+
+    async def enter(self, batch):
+        """Whether the changes of a batch stand in the log; where they don't, those who wait are told."""
+        changes = [ask for ask in batch if ask.is_change]
+        if not changes:
+            return True
+        if self.log.is_shared and (used := {place: None for place, ask in enumerate(changes) if self.is_used(ask)}):
+            await self.not_entered(batch, changes, log.Used(used))
+            return False
+        replies = self.desk.state.unkept()
+        try:
+            entries = await self.log.append([ask.wanted for ask in changes], self.desk.replies_of(replies),
+                                            time.monotonic() + PATIENCE)
+        except (LogUnwritable, log.Behind, log.Used) as why:
+            await self.not_entered(batch, changes, why)
+            return False
+        self.desk.state.keeps(replies)
+        for ask, one in zip(changes, entries):
+            ask.text, ask.entry = one.text, one
+        return True
+
+    async def not_entered(self, batch, changes, why):
+        """Has the statements of a batch, none of which stands in the log, tried again, or sends away who waits."""
+        if isinstance(why, log.Unsure):
+            self.drop_all(batch, Refused(503, str(why)))
+            self.drop_queue(Refused(503, "what was sent before isn't answered; nothing was done"))
+            return
+        if isinstance(why, LogUnwritable):
+            self.drop_all(batch, Refused(503, f"{why}; nothing was done"))
+            return
+        found = why.found if isinstance(why, log.Used) else {}
+        if isinstance(why, log.Behind):
+            await self.take_others()
+            found = {place: known for place, ask in enumerate(changes) if (known := self.known_since(ask)) is not None}
+        self.queue.extendleft(reversed(batch))
+        for place, one in found.items():
+            ask = changes[place]
+            if ask not in self.queue:
+                continue  # it went with one of its stream
+            if one is None or one.text != ask.wanted.text(one.job):
+                self.queue.remove(ask)
+                self.drop_all([ask], used_otherwise(ask.wanted.key))
+            else:
+                ask.stands_for(one)
+
+    def is_used(self, ask):
+        """Whether the key of a change stands for another stream by now, at another desk."""
+        wanted = ask.wanted
+        if wanted.key is None or wanted.stream is None:
+            return False
+        return self.log.stream_of(wanted.who, wanted.key.partition("#")[0]) not in (None, wanted.stream)
+
+    def known_since(self, ask):
+        """The Entry that the key of a change stands for by now, at another desk, or None."""
+        if ask.wanted.key is None:
+            return None
+        other = self.desk.state.known(ask.wanted.who, ask.wanted.key)
+        if other is not None and other is not ask and other.entry is not None:
+            return other.entry
+        return self.log.find(ask.wanted.who, ask.wanted.key)
+
+    # Who is sent away.
+
+    def drop_queue(self, error):
+        """Sends all away who wait in the queue."""
+        queue, self.queue = list(self.queue), collections.deque()
+        self.drop_all(queue, error)
+
+    def drop_questions(self, error):
+        """Sends those away who wait for no change."""
+        while self.questions:
+            self.drop(self.questions.popleft(), error)
+
+    def drop_all(self, asks, error):
+        """Sends those away who wait for statements that aren't in the log, and for what their streams have behind them:
+        nothing of a stream is done before what stands before it."""
+        while asks:
+            for ask in asks:
+                self.drop(ask, error)
+            left, self.queue, asks = self.queue, collections.deque(), []
+            for ask in left:
+                (asks if any(one.is_broken for one in ask.streams) else self.queue).append(ask)
+
+    def drop(self, ask, error):
+        for one in ask.streams:
+            one.is_broken = True
+        self.desk.forget(ask)
+        ask.fail(error)

@@ -1,0 +1,22 @@
+"""Of which parts the live page and the page that asks for a token are put together."""
+
+from opcplan.webpage import page_html
+
+STYLES = [*page_html.STYLES, "live.css"]
+SCRIPTS = [*page_html.SCRIPTS[:-1], "live_model.js", "live_place.js", "live_asks.js", "live_acts.js", "live_trials.js",
+           "live_events.js", page_html.SCRIPTS[-1], "live_start.js"]
+SIGN_STYLES, SIGN_SCRIPTS = ["colours.css", "sign_in.css"], ["sign_in.js"]
+MORE = "connect-src 'self'; "
+
+
+def policy(styles, scripts):
+    """What a browser lets a page of these parts do, as its header says it."""
+    alone = "frame-ancestors 'none'; base-uri 'none'; form-action 'none'"
+    return f"{page_html.policy_of(styles, scripts, MORE)}; {alone}"
+
+
+def sign_in():
+    """The page that asks for a token; it says nothing of the plan."""
+    return page_html.filled("sign_in.html", {
+        "policy": page_html.policy_of(SIGN_STYLES, SIGN_SCRIPTS, MORE),
+        "style": page_html.joined(SIGN_STYLES), "script": page_html.joined(SIGN_SCRIPTS)})

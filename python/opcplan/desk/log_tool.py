@@ -1,0 +1,134 @@
+"""What ./plan log does to a log in etcd, and the lines that it shows."""
+
+import os
+
+from opcplan.desk import bootstrap, log_words
+from opcplan.desk.etcd import Away, Wrong
+from opcplan.desk.versions import Unfit, different, first_line, version_at, version_of
+from opcplan.plans import journal
+
+# seconds that a node may take to give its room back
+LONGEST = 120
+
+
+async def done(given, program):
+    """The lines that say what was done, or what stands there. Raises Unfit and Unreadable."""
+    async with bootstrap.opened(given.log, log_words.access_of(given)) as store:
+        if given.begin:
+            return await begin(store, given, program)
+        state = await store.state()
+        if state is None:
+            raise Unfit(f"{given.log}: there is no such log in etcd")
+        if given.version:
+            return await move_version(store, state, program)
+        if given.trim:
+            return await trim(store, state, given.keep, given.forget)
+        return await shown(store, state)
+
+
+async def shown(store, state):
+    """What stands there."""
+    entries, size = await store.size()
+    lines = [f"log {store.where.name}", f"head {state.head.last}", f"first {state.first}", f"entries {entries}",
+             f"bytes {size}", f"begun behind {state.base}",
+             *(f"version from {since}: {', '.join(version.splitlines())}"
+               for since, version in sorted(state.versions.items()))]
+    for name, told in sorted((await store.desks()).items()):
+        behind = state.head.last - told["position"]
+        lines.append(f"desk {name}: position {told['position']}, {behind} behind, as of {told['at']}")
+    for endpoint in store.etcd.endpoints:
+        one = await store.etcd.standing(endpoint)
+        lines.append(f"member {endpoint}: {of_member(one)}")
+    return lines
+
+
+def of_member(one):
+    if not one["answers"]:
+        return f"doesn't answer: {one['why']}"
+    quota = f" of {one['quota']}" if one["quota"] else ""
+    return f"{one['bytes']} bytes{quota}, {one['in use']} in use{', leads' if one['leads'] else ''}"
+
+
+async def trim(store, state, kept, gone_for_good):
+    """Takes old entries away: none that a desk lacks which said how far it is and isn't gone for good, and never the
+    last one."""
+    told = await store.desks()
+    for name in gone_for_good:
+        if name not in told:
+            raise Unfit(f"no desk {name} said how far it is; `./plan log {store.where}` names those that did")
+    for name in gone_for_good:
+        await store.forget(name)
+    desks = sorted(((name, one) for name, one in told.items() if name not in gone_for_good),
+                   key=lambda one: one[1]["position"])
+    wanted = state.head.last - max(kept, 1) + 1
+    least = min([wanted, *(told["position"] for _, told in desks)])
+    batch = await store.holding(least) if least > state.first else None  # one that has older entries too stays whole
+    before = batch.entries[0].seq if batch else state.first
+    gone, revision = await store.trim(state.first, before)
+    lines = [f"{before - state.first} entries went, in {gone} batches; the first one is {before}"]
+    if least < wanted:
+        lines.append(f"desk {desks[0][0]} has no more than entry {least}, as of {desks[0][1]['at']}; what is behind "
+                     "that stays")
+    return lines + await room(store, revision)
+
+
+async def room(store, revision):
+    """Has etcd forget what was before a revision, and its nodes give the room back."""
+    etcd = store.etcd
+    try:
+        await etcd.at(etcd.endpoint, "/v3/kv/compaction", {"revision": str(revision), "physical": True}, LONGEST)
+    except Wrong as why:
+        if "compacted" not in str(why):
+            raise
+    lines = []
+    for before in sorted([await etcd.standing(one) for one in etcd.endpoints], key=lambda one: one.get("leads", False)):
+        endpoint = before["endpoint"]  # the leader comes last: a node answers nothing meanwhile
+        try:
+            await etcd.at(endpoint, "/v3/maintenance/defragment", {}, LONGEST)
+            after = await etcd.standing(endpoint)
+            lines.append(f"member {endpoint}: {before.get('bytes', 0)} bytes before, {of_member(after)} now")
+        except (Away, Wrong) as why:
+            lines.append(f"member {endpoint}: it isn't defragmented: {why}")
+    alarms = (await etcd.post("/v3/maintenance/alarm", {"action": "GET"})).get("alarms", ())
+    for alarm in alarms:
+        if alarm.get("alarm") == "NOSPACE":
+            await etcd.post("/v3/maintenance/alarm", {**alarm, "action": "DEACTIVATE"})
+            lines.append("etcd takes changes again")
+    return lines
+
+
+async def move_version(store, state, program):
+    """Has a program answer from the next entry on."""
+    version = version_of(program)
+    old = version_at(state.versions, state.head.last + 1)
+    if old == version:
+        return [f"the log is answered by {first_line(version)} already"]
+    while not await store.move_version(state.head, version):
+        state = await store.state()
+    since = state.head.last + 1
+    lines = [f"from entry {since} on the log is answered by {first_line(version)}{different(version, old)}; "
+             f"start each desk with it, once it has entry {since - 1}"]
+    for name, told in sorted((await store.desks()).items()):
+        if told["position"] < since - 1:
+            lines.append(f"desk {name} has no more than entry {told['position']} yet, as of {told['at']}")
+    return lines
+
+
+async def begin(store, given, program):
+    """Makes a log behind a plan."""
+    path = os.path.realpath(given.journal or journal.beside(given.begin))
+    version = version_of(program)
+    if await store.state() is not None:
+        raise Unfit(f"{store.where}: there is such a log already; name another one")
+    record = journal.for_desk(path, given.begin)
+    try:
+        with journal.at_rest(given.begin) as held:
+            position = record.position()
+            if record.unanswered():
+                raise Unfit(f"{path}: it has entries that weren't answered; start the plan's desk once more, end it, "
+                            "and begin then")
+            if not await bootstrap.begun(store, held, position, version):
+                raise Unfit(f"{store.where}: another one made such a log meanwhile")
+    finally:
+        record.close()
+    return [f"{store.where} begins behind entry {position} of {given.begin}"]

@@ -1,0 +1,91 @@
+"""The words that name a log in etcd and how it is reached: `etcd://HOST:PORT,HOST:PORT,HOST:PORT/NAME`."""
+
+import argparse
+import re
+import ssl
+from typing import NamedTuple
+
+from opcplan.cli import words
+from opcplan.errors import Unreadable
+
+SCHEME = "etcd://"
+EXAMPLE = "etcd://10.0.0.1:2379,10.0.0.2:2379,10.0.0.3:2379/NAME"
+HOST = re.compile(r"\[[0-9A-Fa-f:.]+\]|[A-Za-z0-9]([A-Za-z0-9.-]*[A-Za-z0-9])?")
+NAME = re.compile(r"[A-Za-z0-9][A-Za-z0-9._-]{0,99}")
+MOST_ENDPOINTS = 9
+
+
+class Where(NamedTuple):
+    """Where a log stands: its endpoints, HOST:PORT, and its name."""
+
+    endpoints: tuple
+    name: str
+
+    def __str__(self):
+        return f"{SCHEME}{','.join(self.endpoints)}/{self.name}"
+
+
+def address(text):
+    """A log in etcd, for `type=`."""
+    hosts, slash, name = text.removeprefix(SCHEME).partition("/")
+    if not text.startswith(SCHEME) or not slash or not hosts:
+        raise argparse.ArgumentTypeError(f"{text!r} is no log like {EXAMPLE}")
+    if not NAME.fullmatch(name):
+        raise argparse.ArgumentTypeError(f"{name!r} is no name of a log: letters, digits, `.`, `_` and `-`, up to 100")
+    endpoints = tuple(hosts.split(","))
+    for one in endpoints:
+        host, _, port = one.rpartition(":")
+        if not HOST.fullmatch(host) or not re.fullmatch("[0-9]{1,5}", port) or not 0 < int(port) < 65536:
+            raise argparse.ArgumentTypeError(f"{one!r} is no HOST:PORT, as in {EXAMPLE}")
+    if len(set(endpoints)) < len(endpoints) or len(endpoints) > MOST_ENDPOINTS:
+        raise argparse.ArgumentTypeError(f"{text!r} names one to {MOST_ENDPOINTS} nodes of etcd, each once")
+    return Where(endpoints, name)
+
+
+def add_etcd(parser):
+    """The options that say how etcd is reached."""
+    parser.add_argument("--etcd-ca", type=words.file, metavar="FILE",
+                        help="who signed the certificates of etcd's nodes; with it TLS is spoken")
+    parser.add_argument("--etcd-cert", type=words.file, metavar="FILE", help="the own certificate for etcd")
+    parser.add_argument("--etcd-key", type=words.file, metavar="FILE", help="the key of --etcd-cert")
+    parser.add_argument("--etcd-user", type=words.file, metavar="FILE",
+                        help="a file with `USER PASSWORD`, where etcd has users")
+
+
+def wrong_etcd(given):
+    """What is wrong with these options together, or nothing."""
+    if bool(given.etcd_cert) != bool(given.etcd_key):
+        return "--etcd-cert and --etcd-key go together"
+    return ""
+
+
+class Access(NamedTuple):
+    """How etcd is reached: whether by TLS, and as whom."""
+
+    tls: ssl.SSLContext | None
+    user: tuple | None
+
+
+def access_of(given):
+    """The Access that options name. Raises Unreadable."""
+    tls = None
+    if given.etcd_ca or given.etcd_cert:
+        try:
+            tls = ssl.create_default_context(cafile=given.etcd_ca)
+            if given.etcd_cert:
+                tls.load_cert_chain(given.etcd_cert, given.etcd_key, password="")
+        except (OSError, ValueError) as error:
+            raise Unreadable(f"the files of --etcd-ca and --etcd-cert can't be taken: {error}") from None
+    return Access(tls, user_of(given.etcd_user) if given.etcd_user else None)
+
+
+def user_of(path):
+    """User and password of a file. Raises Unreadable."""
+    try:
+        with open(path, encoding="utf-8") as file:
+            found = file.read().split()
+    except (OSError, UnicodeDecodeError) as error:
+        raise Unreadable(f"{path}: it can't be read: {getattr(error, 'strerror', None) or error}") from None
+    if len(found) != 2:
+        raise Unreadable(f"{path}: it is no file of one line, `USER PASSWORD`")
+    return tuple(found)

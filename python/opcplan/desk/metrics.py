@@ -1,0 +1,48 @@
+"""What a desk counts, as Prometheus reads it."""
+
+import collections
+import time
+
+BOUNDS = (0.001, 0.002, 0.005, 0.01, 0.02, 0.05, 0.1, 0.2, 0.5, 1, 2, 5, 10, 30)
+
+
+class Metrics:
+    """Answers by statement and by the first word of the reply, and how long they took."""
+
+    def __init__(self):
+        self.answers, self.took, self.seconds = collections.Counter(), collections.Counter(), 0.0
+
+    def count(self, ask, reply):
+        took = time.monotonic() - ask.begun
+        self.answers[ask.name, reply.partition(" ")[0]] += 1
+        self.took[next((bound for bound in BOUNDS if took <= bound), "+Inf")] += 1
+        self.seconds += took
+
+    def text(self, desk):
+        """All that is counted of a desk."""
+        planner = desk.planner
+        lines = []
+        for name, kind, value in (
+            ("up", "gauge", int(planner.is_open)),
+            ("stopped", "gauge", int(bool(desk.trouble))),
+            ("planner_starts_total", "counter", planner.lives),
+            ("planner_kills_total", "counter", planner.kills),
+            ("position", "gauge", desk.position),
+            ("queued", "gauge", len(desk.feed.queue)),
+            ("in_flight", "gauge", len(desk.state.flight) + len(desk.state.line)),
+            ("listeners", "gauge", len(desk.events.listeners)),
+            *((name, "gauge", value) for name, value in desk.log.gauges(desk.position).items()),
+        ):
+            lines += [f"# TYPE opcplan_desk_{name} {kind}", f"opcplan_desk_{name} {value}"]
+        lines.append("# TYPE opcplan_desk_answers_total counter")
+        for (statement, word), count in sorted(self.answers.items()):
+            lines.append(f'opcplan_desk_answers_total{{statement="{statement}",reply="{word}"}} {count}')
+        return "\n".join([*lines, *self.seconds_lines()]) + "\n"
+
+    def seconds_lines(self):
+        name, total = "opcplan_desk_answer_seconds", 0
+        lines = [f"# TYPE {name} histogram"]
+        for bound in (*BOUNDS, "+Inf"):
+            total += self.took[bound]
+            lines.append(f'{name}_bucket{{le="{bound}"}} {total}')
+        return [*lines, f"{name}_sum {self.seconds:.6f}", f"{name}_count {total}"]

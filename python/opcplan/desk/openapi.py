@@ -1,0 +1,67 @@
+"""The table of routes as an OpenAPI 3.1 document."""
+
+from typing import Any
+
+from opcplan.desk import routes
+
+# by status: what it means; docs/use/DESK.md has the same in more words
+SAID = {
+    "400": "nothing was done, for the request is faulty; the body is a sentence that says why",
+    "401": "nothing was done: a token is wanted",
+    "403": "nothing was done: the caller may not",
+    "503": "not answered for now; send it again",
+}
+OF_STATEMENTS = {
+    "408": "nothing was done, for the body took too long",
+    "409": "nothing was done, for another stream has the key",
+    "412": "nothing was done, for the plan isn't in the state that If-Match names",
+    "413": "nothing was done, for the body is too long",
+}
+OWN = {"name": "X-Opcplan", "in": "header", "required": True, "schema": {"const": "desk"},
+       "description": "no form of another page can send it"}
+
+
+def document(version: str) -> dict[str, Any]:
+    """The document, for a version of ./plan."""
+    paths: dict[str, dict[str, Any]] = {}
+    for route in routes.ROUTES:
+        paths.setdefault(route.path, {})[route.method.lower()] = operation(route)
+    bearer = {"type": "http", "scheme": "bearer"}
+    return {
+        "openapi": "3.1.0",
+        "info": {"title": "opcplan desk", "version": version, "description": "One plan, many callers."},
+        "paths": paths,
+        "components": {"securitySchemes": {"token": bearer}},
+        "security": [{"token": []}, {}],
+    }
+
+
+def operation(route: routes.Route) -> dict[str, Any]:
+    """A route as an operation. Its role is `x-opcplan-role`; statements take their own roles besides."""
+    found: dict[str, Any] = {
+        "operationId": route.name,
+        "description": route.answer,
+        "x-opcplan-role": route.role.name.lower(),
+        "parameters": [*map(parameter, route.parameters), *([OWN] if route.method != "GET" else [])],
+        "responses": responses(route),
+    }
+    if route.body:
+        found["requestBody"] = {"required": True, "content": {route.body: {"schema": {"type": "string"}}}}
+    return found
+
+
+def parameter(one: routes.Parameter) -> dict[str, Any]:
+    """A parameter."""
+    schema = {"type": "string", "pattern": f"^(?:{one.pattern})$"}
+    return {"name": one.name, "in": str(one.place), "description": one.about, "schema": schema}
+
+
+def responses(route: routes.Route) -> dict[str, Any]:
+    """What a route is answered, by status."""
+    said = SAID | (OF_STATEMENTS if route.body else {})
+    found: dict[str, Any] = {status: {"description": text} for status, text in said.items()}
+    kinds = [route.kind, *([routes.LINES] if route.body else [])]
+    if route.kind:
+        done = {"description": route.answer, "content": {kind: {} for kind in kinds}}
+        return {"200": done, **found}
+    return {"204": {"description": route.answer}, **found}

@@ -1,0 +1,32 @@
+"""The process that makes the live page.
+
+Its words are a copy of the plan, the plan's name, and a moment, or `-` for the clock. It prints 1 where the moment
+stands, else 0; then what the page has before the plan's data, the data, what it has behind; a NUL between each two."""
+
+import gc
+import sys
+
+from opcplan.desk import live_parts
+from opcplan.errors import Unreadable
+from opcplan.webpage import page_data, page_html
+
+OUTSIDE = "The clock of this machine is outside this plan, so it is shown as of the end of its current plan."
+
+
+def main(copy, name, moment):
+    gc.disable()
+    try:
+        data = page_data.data_of(copy, None if moment == "-" else int(moment))
+    except Unreadable as error:
+        print(error, file=sys.stderr)
+        return 1
+    stands = moment != "-" or bool(data["note"])
+    data |= {"file": name, "sample": True, "note": OUTSIDE if data["note"] else ""}
+    begin, end = page_html.framed(data, "\0", live_parts.STYLES, live_parts.SCRIPTS, live_parts.MORE).split("\0")
+    parts = "1" if stands else "0", begin, page_html.data_text(data), end
+    sys.stdout.buffer.write("\0".join(parts).encode("utf-8", "replace"))
+    return 0
+
+
+if __name__ == "__main__":
+    sys.exit(main(*sys.argv[1:]))

@@ -1,0 +1,118 @@
+"""The table of routes: what a desk answers by HTTP, to whom, and by which handler.
+
+The middleware of the guard asks for the role, so that no handler can forget it. docs/use/DESK.md has the same table,
+and `GET /openapi.json` describes it for programs."""
+
+import enum
+from typing import TYPE_CHECKING, NamedTuple
+
+from opcplan.rules import columns
+from opcplan.rules.statements import Role
+
+if TYPE_CHECKING:
+    from aiohttp import web
+
+JSON, LINES, HTML = "application/json", "application/x-ndjson", "text/html"
+EVENTS, TEXT, SQLITE = "text/event-stream", "text/plain", "application/vnd.sqlite3"
+
+
+class Place(enum.StrEnum):
+    """Where a request has a parameter."""
+
+    QUERY = "query"
+    HEADER = "header"
+
+
+class Parameter(NamedTuple):
+    """A parameter of a request: where it is, its name, the pattern of its text, and what it means."""
+
+    place: Place
+    name: str
+    pattern: str
+    about: str
+
+
+class Route(NamedTuple):
+    """A route. `handler` names an attribute of the server; `answer` is what docs/use/DESK.md says of it."""
+
+    method: str
+    path: str
+    role: Role
+    handler: str
+    kind: str  # of the answer's body, or nothing where it has none
+    answer: str
+    parameters: tuple[Parameter, ...] = ()
+    lesser: str = ""  # the handler for callers who lack the role, also those without a token
+    is_open: bool = False  # whether callers without a token are refused by their role alone
+    in_pieces: bool = False  # whether the body is sent piece by piece: aiohttp would send it to HEAD too
+    body: str = ""  # the kind of the request's body
+
+    @property
+    def name(self) -> str:
+        """Its name as a program has it."""
+        return f"{self.method.lower()}_{self.path.strip('/').replace('/', '_').replace('.', '_') or 'page'}"
+
+
+DAY = "[0-9]{4}-[0-9]{2}-[0-9]{2}"
+FRESH = Parameter(Place.QUERY, "fresh", "[01]", "1 for all that any desk of the log answered till now")
+NOW = Parameter(Place.QUERY, "now", rf"{DAY}/[0-9]{{2}}\.[0-9]{{2}}", "as of when the page is shown, else the clock's")
+NUMBER = "[0-9]{1,15}"
+KEY = '[!-"$-~]{1,200}'
+OF_ROWS = (
+    Parameter(Place.QUERY, "list", "|".join(columns.LISTS), "the list, `cp` where none is named"),
+    Parameter(Place.QUERY, "app", "[A-Z@#$][A-Z0-9@#$]{0,15}", "of this application alone"),
+    Parameter(Place.QUERY, "from", DAY, "that arrive on this day or later"),
+    Parameter(Place.QUERY, "to", DAY, "that arrive on this day or before"),
+    Parameter(Place.QUERY, "status", "[WSECD]+", "of these statuses"),
+    FRESH,
+    Parameter(Place.HEADER, "If-None-Match", ".*", "the `ETag` of an earlier answer: 304 where it is still the state"),
+)
+OF_STATEMENTS = (
+    Parameter(Place.HEADER, "Accept", ".*", "`application/x-ndjson` for lines of JSON"),
+    Parameter(Place.HEADER, "Idempotency-Key", KEY, "the stream is done once under this key"),
+    Parameter(Place.HEADER, "If-Match", ".*", "of one statement: the state in which it is done"),
+)
+ROUTES = (
+    Route("POST", "/statements", Role.READ, "statements", TEXT,
+          "the body is a job stream (`STREAM.md`). Each statement gets its rows and its reply line, as `opcplan` "
+          "prints them, or with `Accept: application/x-ndjson` a line of JSON: `seq`, `statement`, `job`, `rows`, "
+          "`reply`, `at`, `key`", OF_STATEMENTS, body=TEXT),
+    Route("GET", "/", Role.READ, "page.whole", HTML,
+          "the live page, for a browser (`DESK_PAGE.md`); without a token the page that asks for one", (NOW, FRESH),
+          lesser="page.sign_in", is_open=True),
+    Route("GET", "/page/data", Role.READ, "page.data", JSON,
+          "the plan of the live page alone, at or behind the entry that `since` names",
+          (Parameter(Place.QUERY, "since", NUMBER, "the number of an entry"), NOW, FRESH), is_open=True),
+    Route("GET", "/rows", Role.READ, "rows", LINES,
+          "the rows of a list (`ltp`, `cp`, `history`, `deletions`, `dependencies`, `links`), an object a line; "
+          "`app=`, `from=`, `to=` and `status=` choose among them", OF_ROWS, in_pieces=True),
+    Route("GET", "/events", Role.READ, "desk.events.handle", EVENTS,
+          "server-sent events: `entry` for each change that was answered, once, in order and without a gap; `state` "
+          "for the state of the plan behind the last one. With `Last-Event-ID` it goes on behind that entry",
+          (Parameter(Place.HEADER, "Last-Event-ID", NUMBER, "the number of an entry"),
+           Parameter(Place.QUERY, "since", NUMBER, "the same")), in_pieces=True),
+    Route("GET", "/journal", Role.READ, "journal", LINES,
+          "the answered entries, an object a line. An entry is there as soon as its caller has the reply",
+          (Parameter(Place.QUERY, "from", NUMBER, "the number of the first entry, 1 where none is named"),),
+          in_pieces=True),
+    Route("GET", "/health", Role.READ, "health", JSON,
+          "`ok`, or with status 503 `stopped` and why; without a token no more than that", lesser="health",
+          is_open=True),
+    Route("GET", "/metrics", Role.READ, "metrics", TEXT, "counts for Prometheus"),
+    Route("GET", "/snapshot", Role.READ, "snapshot", SQLITE,
+          "the plan as one file, taken while no statement is in flight, with the digest of all answers up to it in "
+          "`X-Opcplan-Digest`", in_pieces=True),
+    Route("POST", "/session", Role.READ, "guard.begin_session", JSON,
+          "a cookie in place of the token that the request has, for pages"),
+    Route("DELETE", "/session", Role.READ, "guard.end_session", "", "the cookie is worth nothing from now on"),
+    Route("GET", "/openapi.json", Role.READ, "openapi", JSON, "this table as an OpenAPI 3.1 document, for programs"),
+)
+BY_REQUEST = {(route.method, route.path): route for route in ROUTES}
+
+
+def of_request(request: "web.Request") -> Route | None:
+    """The route of a request, None where it is answered 404 or 405; HEAD has that of GET. Raises KeyError for a handler
+    that isn't in the table."""
+    resource = request.match_info.route.resource
+    method = "GET" if request.method == "HEAD" else request.method
+    return None if resource is None else BY_REQUEST[method, resource.canonical]

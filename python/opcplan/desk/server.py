@@ -1,0 +1,302 @@
+"""What a desk answers by HTTP."""
+
+import asyncio
+import collections
+import contextlib
+import json
+import os
+import re
+import signal
+import sys
+import time
+from operator import attrgetter
+
+from aiohttp import web
+
+from opcplan.cli import signals, version
+from opcplan.desk import body, bootstrap, connections, core, guard, local_log, log_words, openapi, page, requests
+from opcplan.desk import routes, rows, snapshot, versions
+from opcplan.desk.errors import Refused
+from opcplan.desk.held_files import HeldFiles
+from opcplan.desk.listeners import Unable, listeners_of
+from opcplan.desk.planner import Stopped
+from opcplan.errors import LogUnwritable
+from opcplan.plans import journal, locks
+
+MOST_BYTES = 32 << 20
+# seconds in which streams that are under way may end, once the desk is to end
+LAST_SECONDS = 20
+PAGE = 500
+# of the time that rows take to be written, what changes have in between
+SHARE = 4
+KEY = re.compile(routes.KEY)
+
+
+class Server:
+    """A desk, and who asks it by HTTP."""
+
+    def __init__(self, given, desk, the_guard):
+        self.given, self.desk, self.guard = given, desk, the_guard
+        self.streams, self.lists = set(), collections.defaultdict(asyncio.Lock)
+        self.connections = connections.Connections()
+        self.page = page.Page(desk, given.plan, the_guard.tokens is not None)
+
+    def application(self):
+        app = web.Application(middlewares=[self.guard.middleware, self.met, told], client_max_size=MOST_BYTES)
+        app.add_routes([
+            web.route(route.method, route.path, attrgetter(route.handler)(self)) if route.method != "GET" else
+            web.get(route.path, attrgetter(route.handler)(self), allow_head=not route.in_pieces)
+            for route in routes.ROUTES])
+        self.guard.lesser = {route: attrgetter(route.lesser)(self) for route in routes.ROUTES if route.lesser}
+        return app
+
+    @web.middleware
+    async def met(self, request, handler):
+        """Knows the connections of those who may look at the plan."""
+        if request["role"] >= guard.READ and request.transport is not None:
+            self.connections.know(request.transport)
+        return await handler(request)
+
+    # Statements.
+
+    async def statements(self, request):
+        """POST /statements."""
+        stream = body.Body(self.desk, await self.asked_of(request), request["who"], key_of(request), None)
+        stream.condition = condition_of(request, stream.asked)
+        await stream.claim()
+        taking = asyncio.create_task(stream.take())
+        self.streams.add(taking)
+        taking.add_done_callback(self.streams.discard)
+        is_json = "application/x-ndjson" in request.headers.get("Accept", "")
+        kind = "application/x-ndjson" if is_json else "text/plain; charset=us-ascii"
+        response = web.StreamResponse(headers={"Content-Type": kind, **SAFE})
+        try:
+            for place in range(len(stream.asked)):
+                one, ask = await stream.next()
+                if place == 0:
+                    response.headers.update(state_of(ask))
+                    await response.prepare(request)
+                for data in (body.as_json if is_json else body.as_text)(one, ask):
+                    await response.write(data)
+        except (Refused, Stopped):
+            if not response.prepared:
+                raise
+            if request.transport is not None:
+                request.transport.abort()  # the answer is cut: its caller sees that it isn't whole
+            return response
+        finally:
+            stream.leave()
+        if not response.prepared:
+            await response.prepare(request)
+        await response.write_eof()
+        return response
+
+    async def asked_of(self, request):
+        """What the body of a request asks, where its caller may. Raises Refused and HTTPForbidden."""
+        data = await connections.body_of(request, MOST_BYTES)
+        try:
+            found = requests.of_stream(data)
+        except requests.Wrong as why:
+            raise Refused(400, f"{why}; nothing was done") from None
+        for one in found:
+            guard.needed(request, one.role, one.name)
+        return found
+
+    # What is looked at.
+
+    async def rows(self, request):
+        """GET /rows."""
+        try:
+            selection = rows.Selection(request.query)
+        except rows.Wrong as why:
+            raise Refused(400, str(why)) from None
+        if selection.is_fresh:
+            await self.desk.catch_up()
+        async with self.lists[request["who"]]:  # one caller has one list made at a time
+            ask = await self.desk.ask_list(selection.text).wait()
+        if ask.wrong is not None:
+            raise Refused(503, ask.wrong)
+        state = state_of(ask)
+        if request.headers.get("If-None-Match") == state["ETag"]:
+            return web.Response(status=304, headers=state)
+        response = web.StreamResponse(headers={"Content-Type": "application/x-ndjson", **SAFE, **state})
+        await response.prepare(request)
+        for data in ask.pieces():
+            for lines in in_parts(data):
+                begun = time.monotonic()
+                await response.write(selection.lines(lines))
+                # as long as changes are under way they have most of the time
+                await asyncio.sleep(SHARE * (time.monotonic() - begun) if self.desk.is_busy else 0)
+        await response.write_eof()
+        return response
+
+    async def journal(self, request):
+        """GET /journal."""
+        begin = request.query.get("from", "1")
+        if not re.fullmatch("[0-9]{1,15}", begin):
+            raise Refused(400, "`from` is the number of an entry")
+        response = web.StreamResponse(headers={"Content-Type": "application/x-ndjson", **SAFE})
+        await response.prepare(request)
+        since = int(begin) - 1
+        while found := self.desk.after(since, PAGE):
+            await response.write("".join(json.dumps(one.values()) + "\n" for one in found).encode())
+            since = found[-1].seq
+        await response.write_eof()
+        return response
+
+    async def snapshot(self, request):
+        return await snapshot.handle(self.desk, self.given.plan, request)
+
+    async def metrics(self, request):
+        """GET /metrics."""
+        return web.Response(body=self.desk.metrics.text(self.desk).encode(),
+                            headers={"Content-Type": "text/plain; version=0.0.4; charset=utf-8"})
+
+    async def openapi(self, request):
+        """GET /openapi.json."""
+        return web.json_response(openapi.document(version.lines()[0].split(" ")[1]))
+
+    async def health(self, request):
+        """GET /health; whoever may not read hears no more than the status."""
+        desk, planner = self.desk, self.desk.planner
+        wrong = [listed.wrong for listed in (self.guard.users, self.guard.tokens) if listed and listed.wrong]
+        why = "; ".join(filter(None, [desk.trouble, *wrong]))
+        told = {"status": "stopped" if desk.trouble else "ok"}
+        if request["role"] >= guard.READ:
+            told |= {
+                "why": why, "position": desk.position, "planner": planner.process.pid if planner.is_open else None,
+                "running since": planner.open_since, "starts": planner.lives,
+                "waiting": len(desk.feed.queue) + len(desk.state.line) + len(desk.state.flight),
+                "journal": self.given.journal,
+                **desk.log.standing(desk.position), "plan": os.path.realpath(self.given.plan), "tag": desk.tag(),
+            }
+        return web.json_response(told, status=503 if desk.trouble else 200)
+
+    async def end(self):
+        """Lets the streams that are under way end, for a while."""
+        if self.streams:
+            await asyncio.wait(self.streams, timeout=LAST_SECONDS)
+        await self.desk.close()
+
+
+SAFE = {"Cache-Control": "no-store", "X-Content-Type-Options": "nosniff"}
+
+
+@web.middleware
+async def told(request, handler):
+    """Tells in a sentence why something isn't done."""
+    try:
+        return await handler(request)
+    except Refused as why:
+        return web.Response(status=why.status, text=f"{why}\n", headers=after(why.status))
+    except (Stopped, LogUnwritable) as why:
+        return web.Response(status=503, text=f"the desk is stopped: {why}\n", headers=after(503))
+    except ConnectionError:  # the caller hung up
+        return web.Response()
+    except web.HTTPRequestEntityTooLarge:
+        return web.Response(status=413, text=f"the stream has more than {MOST_BYTES >> 20} MiB; nothing was done\n")
+
+
+def after(status):
+    return {"Retry-After": "1"} if status == 503 else {}
+
+
+def state_of(ask):
+    """The headers that name the state in which something was answered."""
+    return {"ETag": f'"{ask.tag}"', "X-Opcplan-Position": str(ask.position)} if ask.tag else {}
+
+
+def key_of(request):
+    """The key of a stream, or None. Raises Refused."""
+    key = request.headers.get("Idempotency-Key")
+    if key is not None and not KEY.fullmatch(key):
+        raise Refused(400, "Idempotency-Key has 1 to 200 printable characters, and neither blanks nor #")
+    return key
+
+
+def condition_of(request, found):
+    """The tag of the state that a change asks for, or None. Raises Refused."""
+    text = request.headers.get("If-Match")
+    if text is None:
+        return None
+    if len(found) != 1 or not found[0].changes:
+        raise Refused(400, "If-Match goes with one statement, which changes something; nothing was done")
+    return text.strip().strip('"')
+
+
+def in_parts(data, lines=200):
+    """Whole lines, some at a time."""
+    found = data.splitlines(keepends=True)
+    for begin in range(0, len(found), lines):
+        yield b"".join(found[begin : begin + lines])
+
+
+# The beginning and the end of a desk.
+
+
+def serve(given, program):
+    """Runs a desk until it is to end. Raises Unable, Unreadable, Wrong and Unfit."""
+    the_guard = guard.Guard(given)
+    with contextlib.closing(HeldFiles(given.plan, given.journal)) as files:
+        try:
+            with files.locked():
+                asyncio.run(served(given, program, the_guard, files))
+        except locks.Held as held:
+            path = given.plan if str(held) == files.plan else given.journal
+            raise Unable(f"{path}: another desk has it") from None
+
+
+async def served(given, program, the_guard, files):
+    """A desk over held files. Raises Unable, Unreadable and Unfit."""
+    why_not = files.moved
+    async with contextlib.AsyncExitStack() as left:
+        if given.log is None:
+            the_log = local_log.Alone(journal.for_desk(given.journal, given.plan))
+        else:
+            store = await left.enter_async_context(bootstrap.opened(given.log, log_words.access_of(given)))
+            the_log = await bootstrap.joined(store, given.plan, given.journal, program)
+            why_not = versions.of_version(program, the_log.version, why_not)
+        await run(given, the_guard, core.Desk(program, files, the_log, why_not, given.limit))
+
+
+async def run(given, the_guard, desk):
+    """Has a desk answer until it is to end."""
+    stop = asyncio.Event()
+    for one in signals.SIGNALS:
+        if one != signal.SIGHUP or signal.getsignal(one) is not signal.SIG_IGN:  # as under nohup
+            asyncio.get_running_loop().add_signal_handler(one, stop.set)
+    server = Server(given, desk, the_guard)
+    listeners = listeners_of(given, the_guard)
+    runner = web.AppRunner(server.application(), access_log=None)
+    await runner.setup()
+    meet_all(runner.server, the_guard)
+    server.connections.start(runner.server)
+    desk.start()
+    sites = [web.SockSite(runner, listener, shutdown_timeout=5) for listener, _ in listeners]
+    for site, (_, name) in zip(sites, listeners):
+        await site.start()
+        print(f"desk: listening on {name}", file=sys.stderr, flush=True)
+    over = asyncio.create_task(desk.planner.is_over.wait())
+    await asyncio.wait([over, asyncio.create_task(stop.wait())], return_when=asyncio.FIRST_COMPLETED)
+    for listener, _ in listeners:
+        asyncio.get_running_loop().remove_reader(listener)  # nobody else is taken
+    await server.end()
+    server.connections.close()
+    await runner.cleanup()
+    if given.socket:
+        with contextlib.suppress(FileNotFoundError):
+            os.remove(given.socket)
+    if over.done():
+        raise Unable(desk.planner.halted)
+    over.cancel()
+
+
+def meet_all(server, the_guard):
+    """Has the guard meet each connection when it begins."""
+    begin = server.connection_made
+
+    def connection_made(handler, transport):
+        the_guard.meet(transport)
+        begin(handler, transport)
+
+    server.connection_made = connection_made

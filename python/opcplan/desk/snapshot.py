@@ -1,0 +1,56 @@
+"""The plan as one file, taken while no statement is in flight."""
+
+import asyncio
+import contextlib
+import os
+import sqlite3
+
+from aiohttp import web
+
+from opcplan.desk.held_files import Moved
+from opcplan.errors import Unreadable
+from opcplan.plans import plan_file, tempfiles
+
+PIECE = 1 << 18
+
+
+async def handle(desk, path, request):
+    """GET /snapshot."""
+    with tempfiles.folder("desk-") as folder:
+        copy = os.path.join(folder, "plan.db")
+        try:
+            position, tag, digest = await copied(desk, path, copy)
+            await asyncio.to_thread(in_one_file, copy)
+        except (OSError, sqlite3.Error, Unreadable, Moved) as error:
+            raise web.HTTPServiceUnavailable(text=f"there is no copy: {error}\n") from None
+        response = web.StreamResponse(headers={
+            "Content-Type": "application/vnd.sqlite3", "Content-Disposition": "attachment; filename=plan.db",
+            "Content-Length": str(os.path.getsize(copy)), "X-Opcplan-Position": str(position), "ETag": f'"{tag}"',
+            "Cache-Control": "no-store", "X-Content-Type-Options": "nosniff",
+            **({"X-Opcplan-Digest": digest} if digest else {}),
+            **({"X-Opcplan-Log": desk.log.life} if desk.log.is_shared else {})})
+        await response.prepare(request)
+        with open(copy, "rb") as file:
+            while data := await asyncio.to_thread(file.read, PIECE):
+                await response.write(data)
+        await response.write_eof()
+        return response
+
+
+async def copied(desk, path, copy):
+    """Copies the plan and its log while no statement is in flight: position, tag and digest of what was copied. Where
+    the planner is stopped, the plan may have more than that. Raises Moved, Unreadable and OSError."""
+    async with desk.feed.hold:
+        await desk.planner.idle_or_stopped()
+        if desk.planner.halted:
+            raise Moved(desk.planner.halted)
+        found = desk.position, desk.tag(), desk.state.chain
+        await asyncio.to_thread(plan_file.copied, os.path.realpath(path), copy)
+        desk.files.check()
+    return found
+
+
+def in_one_file(copy):
+    """Puts the log of a copy into it."""
+    with contextlib.closing(sqlite3.connect(copy)) as db:
+        db.execute("PRAGMA wal_checkpoint(TRUNCATE)")

@@ -1,0 +1,58 @@
+"""The plan with which a desk begins that comes late: that of another desk, with its place in the log."""
+
+import contextlib
+import os
+import tempfile
+
+from opcplan.desk import bootstrap, client
+from opcplan.desk.versions import Unfit
+from opcplan.plans import journal, plan_file
+
+
+# a log that opcplan left when it ended has fewer bytes, and nothing of a plan
+LEAST = 64
+
+
+def take(source, plan, path):
+    """Makes a plan of what another desk has, and a journal that goes on behind it. Raises Unfit and Unreadable."""
+    for tail in plan_file.TAILS[1:]:
+        if os.path.exists(plan + tail) and os.path.getsize(plan + tail) > LEAST:  # it would be a part of the new plan
+            raise Unfit(f"{plan}{tail} is left of another plan: move it away too")
+    folder, name = os.path.split(os.path.abspath(plan))
+    with tempfile.NamedTemporaryFile(dir=folder, prefix=f"{name}.", suffix=".part", delete=False) as part:
+        try:
+            heads = client.Client(source, client.token()).download("/snapshot", part)
+            part.flush()
+            os.fsync(part.fileno())
+            log_id, position = heads.get("X-Opcplan-Log"), heads.get("X-Opcplan-Position", "")
+            if not log_id or not position.isdigit():
+                raise Unfit(f"{source}: it is no desk over a log that others share")
+            with plan_file.opened(part.name) as held:
+                (jobs,) = held.db.execute("SELECT count(*) FROM job").fetchone()
+            begin(path, log_id, int(position), jobs, heads.get("X-Opcplan-Digest"))
+            os.link(part.name, plan)
+            sync(folder)
+        except (client.Away, client.Refused, client.Wrong) as why:
+            raise Unfit(f"{source}: there is no plan to begin with: {why}") from None
+        except FileExistsError:
+            raise Unfit(f"{plan}: it is there meanwhile; start the desk again") from None
+        finally:
+            os.remove(part.name)
+
+
+def begin(path, log_id, position, jobs, digest):
+    """Has a journal go on behind an entry of a log: a new one, or one that the same log had before. Raises Unfit."""
+    with contextlib.closing(journal.Journal(path)) as record:
+        known = record.begun()
+        if known[0] != log_id if known else record.position():
+            raise Unfit(f"{path}: {bootstrap.OTHER_JOURNAL}")
+        record.begin(log_id, position, jobs, digest)
+
+
+def sync(folder):
+    """Puts the names of a folder on the disk."""
+    number = os.open(folder, os.O_RDONLY)
+    try:
+        os.fsync(number)
+    finally:
+        os.close(number)

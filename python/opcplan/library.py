@@ -1,0 +1,241 @@
+"""What scripts use: `opcplan.Plan`, the file of a plan that is read, and `opcplan.Desk`, a desk that is asked.
+
+docs/use/PYTHON.md explains both. Moments are `datetime.datetime` values without a zone, as a plan has no zone; where a
+moment is given, a text such as `2026-11-25/06.00` will do too."""
+
+import contextlib
+import dataclasses
+import datetime
+import http.client
+import json
+import secrets
+import time
+import urllib.parse
+import weakref
+from collections.abc import Iterator, Mapping
+from types import TracebackType
+from typing import Any, Self
+
+from opcplan.commands import ready
+from opcplan.desk import client
+from opcplan.errors import Unreadable
+from opcplan.plans import plan_definitions, plan_file, waits
+from opcplan.rules import moments, statuses
+from opcplan.rules.definitions import Definitions
+
+Moment = datetime.datetime | str
+OF_PLACE = {**dict.fromkeys("WSECD", "cp"), "L": "ltp", "H": "history", **dict.fromkeys("owp", "deletions")}
+LISTS = ("ltp", "cp", "history", "deletions")
+# names the state of a desk that lacks entries which a reader doesn't have (desk/events.py)
+ANEW = "anew-0"
+
+
+@dataclasses.dataclass(frozen=True)
+class Row:
+    """An occurrence: its serial, application, input arrival and deadline, and the run cycle that named it (None where
+    it was added by hand); the list that has it, `ltp`, `cp`, `history` or `deletions`; its status (W S E C D) in the
+    current plan and history, and the reason (O W P) in the deletions."""
+
+    serial: int
+    app: str
+    ia: datetime.datetime
+    deadline: datetime.datetime
+    run_cycle: str | None
+    list: str
+    status: str | None = None
+    reason: str | None = None
+
+    @property
+    def key(self) -> str:
+        """Its key as a statement has it: `--app PAY --ia 2026-11-25/06.00`."""
+        return f"--app {self.app} --ia {self.ia:%Y-%m-%d/%H.%M}"
+
+
+@dataclasses.dataclass(frozen=True)
+class Why:
+    """Why an occurrence is where it is: the row (None where no list has it), a state (`planned`, `its time is to come`,
+    `blocked`, `ready`, `started`, `in error`, `complete`, `deleted`, `withdrawn` or `nowhere`), its predecessors that
+    aren't complete, and of these and theirs those that wait for nothing."""
+
+    row: Row | None
+    state: str
+    waits_for: tuple[Row, ...] = ()
+    roots: tuple[Row, ...] = ()
+
+
+@dataclasses.dataclass(frozen=True)
+class Answer:
+    """A statement and what it was answered: its number in the journal and its job (None where it changes nothing), the
+    lines of its rows, its reply, when it was taken, and the key under which it was sent."""
+
+    statement: str
+    reply: str
+    seq: int | None = None
+    job: int | None = None
+    rows: tuple[str, ...] = ()
+    at: str | None = None
+    key: str | None = None
+
+    @property
+    def ok(self) -> bool:
+        """Whether it was accepted."""
+        return self.reply.startswith("ok")
+
+
+class Plan:
+    """The file of a plan, as it was when this was made: a private copy is read, so nothing holds the file. Raises
+    Plan.Unreadable. To be closed by `with` or `close`."""
+
+    Unreadable = Unreadable
+
+    def __init__(self, path: str) -> None:
+        with contextlib.ExitStack() as stack:
+            self._plan = stack.enter_context(plan_file.opened(path))
+            self._end = weakref.finalize(self, stack.pop_all().close)
+
+    def __enter__(self) -> Self:
+        return self
+
+    def __exit__(self, kind: type[BaseException] | None, error: BaseException | None, at: TracebackType | None) -> None:
+        self.close()
+
+    def close(self) -> None:
+        """Takes the private copy away."""
+        self._end()
+
+    def rows(self, name: str = "cp", *, app: str | None = None, first: Moment | None = None,
+             last: Moment | None = None, status: str | None = None) -> list[Row]:
+        """The rows of a list by input arrival, application and serial: of an application, that arrive from a moment to
+        another one, that have one of some statuses (`"WE"`)."""
+        check_list(name)
+        begin, end = (None if one is None else minutes_of(one) for one in (first, last))
+        found = [row_of(one) for one in waits.rows_where(self._plan, "(:v0 IS NULL OR app = :v0)", app)
+                 if (begin is None or one.ia >= begin) and (end is None or one.ia <= end)]
+        return [row for row in found if row.list == name and (status is None or (row.status or "-") in status)]
+
+    def ready(self, now: Moment | None = None, *, app: str | None = None) -> list[Row]:
+        """What may be started at a moment (else by the clock), the earliest deadline first."""
+        at = moments.now() if now is None else minutes_of(now)
+        return [row_of(one) for one in ready.of_plan(self._plan, at, app)]
+
+    def why(self, app: str, ia: Moment, now: Moment | None = None) -> Why:
+        """Why the occurrence of a key is where it is at a moment (else by the clock)."""
+        at = moments.now() if now is None else minutes_of(now)
+        found = waits.rows_of_key(self._plan, app, minutes_of(ia))
+        if not found:
+            return Why(None, "nowhere")
+        if found[0].place not in "WL":
+            return Why(row_of(found[0]), statuses.STATES[found[0].place])
+        chain = waits.chain(self._plan, found[0])
+        before = chain[found[0].serial]
+        return Why(row_of(found[0]), waits.state(found[0], bool(before), at), tuple(map(row_of, before)),
+                   tuple(map(row_of, waits.roots(chain, found[0]))))
+
+    def definitions(self) -> Definitions:
+        """The definitions by name, as opcplan.rules.definitions has them: days are numbers since 1970-01-01."""
+        return plan_definitions.of_plan(self._plan)
+
+
+class Desk:
+    """A desk, by its address (`http://HOST:PORT`), the path of its socket, or several with commas between them; and a
+    token, else that of the environment (OPCPLAN_TOKEN_FILE, OPCPLAN_TOKEN). Raises Desk.Wrong.
+
+    Each method raises Desk.Refused where the desk doesn't do what it is asked (`status` has HTTP's), and Desk.Away
+    where there is no whole answer (`may_be_done` tells whether it may be done all the same)."""
+
+    Away, Refused, Wrong = client.Away, client.Refused, client.Wrong
+
+    def __init__(self, url: str, token: str | None = None) -> None:
+        self._client = client.Client(url, client.token() if token is None else token)
+
+    def statements(self, stream: str, key: str | None = None, *, wait: float = 60) -> list[Answer]:
+        """Sends a job stream, and answers what each of its statements was answered. It is done once under its key
+        (else under one of its own), however often it is sent; while the desk is away it is sent again for so many
+        seconds."""
+        data = stream if stream.endswith("\n") else f"{stream}\n"
+        heads = {"Accept": "application/x-ndjson"}
+        used = key or secrets.token_hex(16)
+        found = self._client.statements(data.encode(), used, time.monotonic() + wait, heads)
+        return [answer_of(json.loads(line)) for line in found.decode().splitlines()]
+
+    def rows(self, name: str = "cp", *, app: str | None = None, first: datetime.date | str | None = None,
+             last: datetime.date | str | None = None, status: str | None = None, fresh: bool = False) -> list[Row]:
+        """The rows of a list, as of Plan, but by the days of their arrival. `fresh` asks of a desk that shares its log
+        that it has all that any desk answered till now."""
+        check_list(name)
+        asked = {"list": name, "app": app, "from": day_text(first), "to": day_text(last), "status": status,
+                 "fresh": "1" if fresh else None}
+        query = urllib.parse.urlencode({word: value for word, value in asked.items() if value is not None})
+        _, found = self._client.request("GET", f"/rows?{query}")
+        return [row_of_object(json.loads(line), name) for line in found.decode().splitlines()]
+
+    def events(self, since: int | None = None) -> Iterator[Answer]:
+        """Each change once it is answered, without an end: those behind an entry of the journal, else those that come.
+        Raises Desk.Refused with status 410 where the desk doesn't have all of these any more."""
+        heads = {} if since is None else {"Last-Event-ID": str(since)}
+        with self._client.answer("GET", "/events", None, heads) as answer:
+            for event, told in events_of(answer):
+                if event == "entry":
+                    yield answer_of(told)
+                elif told.get("tag") == ANEW:
+                    raise client.Refused(410, f"the desk doesn't have all entries behind {since}: look at the rows")
+
+
+def check_list(name: str) -> None:
+    """Asks that a list has rows. Raises ValueError."""
+    if name not in LISTS:
+        raise ValueError(f"there is no list {name!r} of rows, but {', '.join(LISTS)}")
+
+
+def minutes_of(moment: Moment) -> int:
+    """A moment in minutes, as a plan has it. Raises ValueError."""
+    if isinstance(moment, str):
+        found = moments.typed_moment(moment)
+        if found is None:
+            raise ValueError(f"{moment!r} is no moment like 2026-11-25/06.00")
+        return found
+    if moment.tzinfo is not None:
+        raise ValueError(f"{moment} has a time zone, and a plan has none")
+    return int((moment - moments.EPOCH).total_seconds()) // 60
+
+
+def day_text(day: datetime.date | str | None) -> str | None:
+    """A day as a desk takes it."""
+    return f"{day:%Y-%m-%d}" if isinstance(day, datetime.date) else day
+
+
+def moment_of(minutes: int) -> datetime.datetime:
+    """A moment of a plan."""
+    return moments.EPOCH + datetime.timedelta(minutes=minutes)
+
+
+def row_of(row: waits.Row) -> Row:
+    """The row of a plan."""
+    name, is_gone = OF_PLACE[row.place], row.place in "owp"
+    status = None if is_gone or name == "ltp" else "C" if name == "history" else row.place
+    return Row(row.serial, row.app, moment_of(row.ia), moment_of(row.deadline), row.cycle, name, status,
+               row.place.upper() if is_gone else None)
+
+
+def row_of_object(told: Mapping[str, Any], name: str) -> Row:
+    """The row that a desk tells."""
+    ia, deadline = (moment_of(minutes_of(told[word])) for word in ("ia", "deadline"))
+    return Row(told["serial"], told["app"], ia, deadline, told["run_cycle"], name, told.get("status"),
+               told.get("reason"))
+
+
+def answer_of(told: Mapping[str, Any]) -> Answer:
+    """The answer that a desk tells."""
+    return Answer(told["statement"], told["reply"], told["seq"], told["job"], tuple(told["rows"]), told.get("at"),
+                  told.get("key"))
+
+
+def events_of(answer: http.client.HTTPResponse) -> Iterator[tuple[str, Mapping[str, Any]]]:
+    """The events that a server sends: name and data of each."""
+    name = ""
+    for line in answer:
+        word, _, text = line.decode().rstrip("\r\n").partition(": ")
+        if word == "event":
+            name = text
+        elif word == "data":
+            yield name, json.loads(text)

@@ -1,0 +1,1 @@
+"""A plan file, its journal, and what both have: rows, waits, times."""

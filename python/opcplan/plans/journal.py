@@ -1,0 +1,375 @@
+"""The journal of a desk: who asked what, when, and what it was answered; and when what happened, which a plan doesn't
+keep. It is a SQLite file beside the plan."""
+
+import contextlib
+import os
+import re
+import sqlite3
+import time
+from typing import NamedTuple
+
+from opcplan.errors import LogUnwritable, Unreadable
+from opcplan.plans import chain, entry, journal_plan, plan_file, tempfiles
+
+SCHEMA = """
+CREATE TABLE entry (
+    seq INTEGER PRIMARY KEY, at TEXT NOT NULL, who TEXT NOT NULL, key TEXT, job INTEGER NOT NULL, text NOT NULL,
+    reply TEXT, stream TEXT, digest TEXT);
+CREATE UNIQUE INDEX entry_by_key ON entry (who, key) WHERE key IS NOT NULL;
+CREATE INDEX entry_by_job ON entry (job);
+CREATE INDEX entry_unanswered ON entry (seq) WHERE reply IS NULL;
+CREATE TABLE happened (
+    serial INTEGER NOT NULL, app TEXT NOT NULL, ia TEXT NOT NULL, status TEXT NOT NULL, at TEXT NOT NULL,
+    seq INTEGER PRIMARY KEY);
+CREATE INDEX happened_by_serial ON happened (serial);
+PRAGMA user_version = 1;
+"""
+# of a log that is shared: which one it is, from which entry on it is kept here, how many jobs the plan had then, and
+# the digest of the log up to that entry, where it is known
+BEGUN = "CREATE TABLE begun (log TEXT NOT NULL, seq INTEGER NOT NULL, jobs INTEGER NOT NULL, digest TEXT)"
+# columns that journals of earlier programs lack
+LATER = ("stream", "digest")
+COLUMNS = "seq, at, who, key, job, text, reply, stream"
+STATUS = re.compile(r"ok serial ([0-9]+) status ([WSECD])")
+TAIL = ".journal"
+NO_END = 1 << 62
+# a disk with less room is full, in bytes: SQLite's logs take so much at once
+LEAST_ROOM = 1 << 16
+NEW_JOURNAL = ("Where that was meant, begin a new journal: name a file by --journal that isn't there yet; keys and "
+               "times of the old one stay there")
+# how long a plan may be written to before it is opened, in seconds
+PATIENCE = 30
+
+
+class Happened(NamedTuple):
+    """What happened to an occurrence: its serial, application, input arrival, new status, when, by which entry."""
+
+    serial: int
+    app: str
+    ia: str
+    status: str
+    at: str
+    seq: int
+
+
+class OfPlan(NamedTuple):
+    """The plan of a journal: where it was, which file, and the jobs that the journal doesn't have."""
+
+    path: str
+    device: int
+    inode: int
+    jobs: set
+
+
+class Journal:
+    """The journal in a file; `floor` is a position that entries stand behind at least. One thread writes it, by `put`
+    and `keep_replies`. Each entry is on the disk then, but with `is_copy`: what a power cut takes of one whose log
+    stands elsewhere is read there again."""
+
+    def __init__(self, path, floor=0, is_copy=False):
+        self.path, self.floor = path, floor
+        try:
+            self.db = sqlite3.connect(path, isolation_level=None, check_same_thread=False)
+            self.db.execute("PRAGMA journal_mode = WAL")
+            self.db.execute(f"PRAGMA synchronous = {'NORMAL' if is_copy else 'FULL'}")
+            self.make_tables()
+            # another thread may write meanwhile: what is read is what is on the disk
+            self.reader = sqlite3.connect(path, isolation_level=None)
+        except sqlite3.Error as error:
+            raise Unreadable(f"{path}: it can't be opened as a journal: {fault_text(error, path)}") from None
+
+    def make_tables(self):
+        """Makes the tables in a new file. Raises Unreadable where it is another one's."""
+        (version,) = self.db.execute("PRAGMA user_version").fetchone()
+        names = {name for (name,) in self.db.execute("SELECT name FROM sqlite_schema WHERE type = 'table'")}
+        if not names:
+            self.db.executescript(f"BEGIN IMMEDIATE;{SCHEMA}COMMIT;")
+        elif version != 1 or not {"entry", "happened"} <= names:
+            raise Unreadable(f"{self.path}: it is a database, but no journal of a desk")
+        columns = {name for _, name, *_ in self.db.execute("PRAGMA table_info(entry)")}
+        for name in LATER:
+            if name not in columns:
+                self.db.execute(f"ALTER TABLE entry ADD COLUMN {name} TEXT")
+
+    def position(self):
+        """The number of the last entry, at least the floor."""
+        (last,) = self.reader.execute("SELECT max(seq) FROM entry").fetchone()
+        return max(last or 0, self.floor)
+
+    def put(self, entries, replies=()):
+        """Keeps Entries under their numbers, and replies [(seq, reply, digest)], all or nothing. One that stands there
+        stays, and has to be the same. Raises Unwritable."""
+        with self.transaction():
+            for one in entries:
+                if one.key is not None:  # that of an entry which is so old that its key was free
+                    self.db.execute("UPDATE entry SET key = NULL WHERE who = ? AND key = ? AND seq <> ?",
+                                    (one.who, one.key, one.seq))
+                put = self.db.execute("""INSERT INTO entry (seq, at, who, key, job, text, stream)
+                    VALUES (?, ?, ?, ?, ?, ?, ?) ON CONFLICT (seq) DO NOTHING""",
+                                      (one.seq, one.at, one.who, one.key, one.job, stored(one.text), one.stream))
+                if not put.rowcount and not self.has(one):
+                    raise LogUnwritable(f"entry {one.seq} of the journal {self.path} isn't that of the log")
+            self.put_replies(replies)
+
+    def has(self, one):
+        """Whether an Entry's text stands under its number."""
+        return self.db.execute("SELECT text FROM entry WHERE seq = ?", (one.seq,)).fetchone() == (stored(one.text),)
+
+    def begun(self):
+        """Which log a plan shares, behind which entry it is kept here, the jobs of the plan then, and the digest of the
+        log up to that entry or None; or None."""
+        columns = {name for _, name, *_ in self.db.execute("PRAGMA table_info(begun)")}
+        if not columns:
+            return None
+        digest = "digest" if "digest" in columns else "NULL"
+        return self.db.execute(f"SELECT log, seq, jobs, {digest} FROM begun").fetchone()
+
+    def begin(self, log_id, seq, jobs, digest=None):
+        """Keeps which log the plan shares from an entry on, whose digest is that. Raises Unwritable."""
+        with self.transaction():
+            self.db.execute("DROP TABLE IF EXISTS begun")
+            self.db.execute("DROP TABLE IF EXISTS of_plan")
+            self.db.execute(BEGUN)
+            self.db.execute("INSERT INTO begun VALUES (?, ?, ?, ?)", (log_id, seq, jobs, digest))
+        self.floor = seq
+
+    def keep_replies(self, replies):
+        """Keeps what entries were answered, [(seq, reply, digest)]. Raises Unwritable."""
+        with self.transaction():
+            self.put_replies(replies)
+
+    def put_replies(self, replies):
+        for seq, reply, digest in replies:
+            self.db.execute("UPDATE entry SET reply = ?, digest = ? WHERE seq = ?", (reply, digest, seq))
+            if found := STATUS.fullmatch(reply):
+                self.keep_status(seq, int(found.group(1)), found.group(2))
+
+    def keep_status(self, seq, serial, status):
+        """Keeps when an occurrence got a status, where that isn't a job which was answered before."""
+        at, job, text = self.db.execute("SELECT at, job, text FROM entry WHERE seq = ?", (seq,)).fetchone()
+        if self.db.execute("SELECT 1 FROM entry WHERE job = ? AND seq < ?", (job, seq)).fetchone():
+            return
+        named = options(text)
+        self.db.execute("INSERT OR REPLACE INTO happened VALUES (?, ?, ?, ?, ?, ?)",
+                        (serial, named["app"], named["ia"], status, at, seq))
+
+    @contextlib.contextmanager
+    def transaction(self):
+        """A context that is done whole and synced, or not at all. Raises Unwritable."""
+        try:
+            self.db.execute("BEGIN IMMEDIATE")
+            yield
+            self.db.execute("COMMIT")
+        except (sqlite3.Error, LogUnwritable) as error:
+            with contextlib.suppress(sqlite3.Error):
+                self.db.execute("ROLLBACK")
+            if isinstance(error, LogUnwritable):
+                raise
+            raise LogUnwritable(f"the journal {self.path} can't be written: {fault_text(error, self.path)}") from None
+
+    def entries(self, since=0, most=-1, upto=NO_END):
+        """At most so many Entries behind a position, and up to another one, in their order, that are answered."""
+        asked = f"SELECT {COLUMNS} FROM entry WHERE seq > ? AND seq <= ? AND reply IS NOT NULL ORDER BY seq LIMIT ?"
+        return [entry_of(row) for row in self.reader.execute(asked, (since, upto, most)).fetchall()]
+
+    def every(self):
+        """All Entries, by and by, those without a reply too."""
+        since = -1
+        while found := self.reader.execute(f"SELECT {COLUMNS} FROM entry WHERE seq > ? ORDER BY seq LIMIT 1000",
+                                           (since,)).fetchall():
+            since = found[-1][0]
+            yield from map(entry_of, found)
+
+    def unanswered(self):
+        """The Entries from the first one on whose reply isn't kept, in their order."""
+        asked = f"""SELECT {COLUMNS} FROM entry WHERE seq >= (SELECT min(seq) FROM entry WHERE reply IS NULL)
+            ORDER BY seq"""
+        return [entry_of(row) for row in self.reader.execute(asked).fetchall()]
+
+    def stream_of(self, who, key):
+        """The digest of the stream that a caller's key stands for, or None where it stands for none that is known."""
+        row = self.reader.execute("""SELECT stream FROM entry WHERE who = ? AND (key = ? OR key > ? AND key < ?)
+            AND stream IS NOT NULL LIMIT 1""", (who, key, f"{key}#", f"{key}$")).fetchone()
+        return row and row[0]
+
+    def first(self):
+        """The number of the first entry, one behind the position where there is none."""
+        (first,) = self.reader.execute("SELECT min(seq) FROM entry").fetchone()
+        return self.position() + 1 if first is None else first
+
+    def digest_at(self, seq, base, begin):
+        """The digest of the log up to an entry, where that of the entry `base` is `begin`; None where it isn't known.
+        Entries get theirs which an earlier program kept without. Raises Unwritable."""
+        if seq == base:
+            return begin
+        row = self.reader.execute("""SELECT seq, digest FROM entry WHERE seq <= ? AND seq > ? AND digest IS NOT NULL
+            ORDER BY seq DESC LIMIT 1""", (seq, base)).fetchone()
+        last, digest = row or (base, begin)
+        found = []
+        for one in self.entries(last, -1, seq):
+            if digest is None or one.seq != last + 1:
+                return None
+            last, digest = one.seq, chain.chained(digest, one)
+            found.append((digest, one.seq))
+        if found:
+            with self.transaction():
+                self.db.executemany("UPDATE entry SET digest = ? WHERE seq = ?", found)
+        return digest if last == seq else None
+
+    def digests(self, most, upto=NO_END):
+        """The last digests that are kept, up to an entry, by the numbers of their entries."""
+        asked = "SELECT seq, digest FROM entry WHERE digest IS NOT NULL AND seq <= ? ORDER BY seq DESC LIMIT ?"
+        return dict(self.reader.execute(asked, (upto, most)).fetchall())
+
+    def find(self, who, key):
+        """The Entry of a caller's key, or None."""
+        row = self.reader.execute(f"SELECT {COLUMNS} FROM entry WHERE who = ? AND key = ?", (who, key)).fetchone()
+        return row and entry_of(row)
+
+    def last_kept(self, most=1, upto=NO_END):
+        """The last Entries whose job the plan keeps with its reply, up to a position, the last one first."""
+        asked = f"""SELECT {COLUMNS} FROM entry WHERE reply IS NOT NULL AND reply NOT LIKE 'refused 10%'
+            AND reply NOT LIKE 'refused 11%' AND reply NOT LIKE 'refused 12%' AND seq <= ?
+            ORDER BY seq DESC LIMIT ?"""
+        return [entry_of(row) for row in self.reader.execute(asked, (upto, most)).fetchall()]
+
+    def jobs(self):
+        """The job numbers of all entries."""
+        return {number for (number,) in self.reader.execute("SELECT job FROM entry")}
+
+    def of_plan(self):
+        """The OfPlan that is noted, or None."""
+        if self.db.execute("SELECT 1 FROM sqlite_schema WHERE name = 'of_plan'").fetchone() is None:
+            return None
+        row = self.db.execute("SELECT path, device, inode, jobs FROM of_plan").fetchone()
+        return row and OfPlan(*row[:3], journal_plan.numbers_of(row[3]))
+
+    def note_plan(self, path, device, inode, jobs):
+        """Notes whose journal it is. Raises Unwritable."""
+        with self.transaction():
+            self.db.execute(journal_plan.TABLE)
+            self.db.execute("DELETE FROM of_plan")
+            self.db.execute("INSERT INTO of_plan VALUES (?, ?, ?, ?)", (path, device, inode, jobs))
+
+    def happened(self):
+        """What happened, in its order: serial, application, input arrival, status, when, and the entry's seq."""
+        found = self.reader.execute("SELECT serial, app, ia, status, at, seq FROM happened ORDER BY seq").fetchall()
+        for serial, app, ia, status, at, seq in found:
+            texts = (app, ia, status, at)
+            if not (isinstance(serial, int) and all(isinstance(one, str) for one in texts) and entry.is_moment(at)):
+                raise sqlite3.DatabaseError(f"what happened by entry {seq} is nothing that a desk writes")
+        return [Happened(*row) for row in found]
+
+    def close(self):
+        """Leaves all in one file."""
+        self.reader.close()
+        with contextlib.suppress(sqlite3.Error):
+            self.db.execute("PRAGMA wal_checkpoint(TRUNCATE)")
+        self.db.close()
+
+
+def fault_text(error, path):
+    """What a fault of SQLite over a file means: of a full disk it says `disk I/O error` too."""
+    with contextlib.suppress(OSError):
+        room = os.statvfs(os.path.dirname(os.path.abspath(path)))
+        if room.f_bavail * room.f_frsize < LEAST_ROOM:
+            return "its disk is full"
+    return str(error)
+
+
+def entry_of(row):
+    """The Entry of a row. Raises DatabaseError where no desk wrote it."""
+    seq, at, who, key, job, text, reply, stream = row
+    texts = [at, who, *(one for one in (key, reply, stream) if one is not None)]
+    if not (all(isinstance(one, str) for one in texts) and entry.is_moment(at) and isinstance(job, int)
+            and isinstance(text, (str, bytes))):
+        raise sqlite3.DatabaseError(f"entry {seq} is none of a desk")
+    return entry.Entry(seq, at, who, key, job, text.encode() if isinstance(text, str) else text, reply, stream)
+
+
+def stored(text):
+    """A text as it is kept: as text where it is one."""
+    try:
+        return text if b"\0" in text else text.decode("utf-8")
+    except UnicodeDecodeError:
+        return text
+
+
+def options(text):
+    """The options of a statement's line by name."""
+    line = text.encode() if isinstance(text, str) else text
+    given = line.split(b"\n", 1)[0].decode("ascii").replace("=", " ").split()
+    return {name[2:]: value for name, value in zip(given, given[1:]) if name.startswith("--")}
+
+
+@contextlib.contextmanager
+def opened(path):
+    """A Journal to read: a private copy, which goes when the context ends. Raises Unreadable."""
+    if os.path.exists(path) and not os.path.isfile(path):
+        raise Unreadable(f"{path}: it is no file")
+    if not os.path.exists(path) or not os.path.getsize(path):
+        raise Unreadable(f"{path}: there is no such journal")
+    with tempfiles.folder("journal-") as folder:
+        copy = os.path.join(folder, "journal")
+        try:
+            plan_file.check_room(os.path.realpath(path), folder)
+            plan_file.copied(os.path.realpath(path), copy)
+        except (OSError, Unreadable) as error:
+            raise Unreadable(f"{path}: it can't be read: {error}") from None
+        try:
+            journal = Journal(copy)
+        except Unreadable as error:
+            raise Unreadable(str(error).replace(copy, path)) from None
+        with contextlib.closing(journal):
+            try:
+                yield journal
+            except sqlite3.Error as error:
+                raise Unreadable(f"{path}: it can't be read as a journal: {error}") from None
+
+
+def beside(plan):
+    """The path of the usual journal of a plan."""
+    return os.path.realpath(plan) + TAIL
+
+
+def for_desk(path, plan):
+    """The Journal of a desk over a plan: it goes on behind what either has. Raises Unreadable where the plan is older
+    than the journal."""
+    with at_rest(plan) as held:
+        journal = Journal(path, position_of(held))
+        with contextlib.ExitStack() as left:
+            left.callback(journal.close)
+            last = next(iter(journal.last_kept()), None)
+            if last and held.db.execute("SELECT 1 FROM job WHERE number = ?", (last.job,)).fetchone() is None:
+                raise Unreadable(
+                    f"{path}: it was answered by a later plan than {plan}, which lacks job {last.job}. Run the journal "
+                    f"over the plan, by `./plan journal {plan} --journal {path} --stream | ./opcplan --db {plan}`, or "
+                    "name a new one by --journal")
+            try:
+                journal_plan.check(journal, held)
+            except journal_plan.Strange as why:
+                raise Unreadable(f"{why}. {NEW_JOURNAL}" if str(why).startswith(plan) else str(why)) from None
+            left.pop_all()
+    return journal
+
+
+def position_of(held):
+    """How far a plan has a log by itself: the entry of the greatest number that a desk gave."""
+    asked = "SELECT max(number) FROM job WHERE number BETWEEN ? AND ?"
+    (greatest,) = held.db.execute(asked, (entry.FIRST_JOB, entry.LAST_JOB)).fetchone()
+    return greatest - entry.FIRST_JOB + 1 if greatest else 0
+
+
+@contextlib.contextmanager
+def at_rest(plan):
+    """A Plan of the file; where the opcplan of a killed desk still writes, it is waited for. Raises Unreadable."""
+    with contextlib.ExitStack() as files:
+        until = time.monotonic() + PATIENCE
+        while True:
+            try:
+                held = files.enter_context(plan_file.opened(plan))
+                break
+            except Unreadable as error:
+                if not str(error).endswith("try again") or time.monotonic() > until:
+                    raise
+        yield held

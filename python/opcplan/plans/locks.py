@@ -1,0 +1,54 @@
+"""Locks on a plan's file: the one that a run of opcplan holds, the turn of those who send to it, and that of a desk.
+
+They belong to the open file, so they last until it is closed, whatever else this process opens, and go with it."""
+
+import contextlib
+import fcntl
+import os
+import struct
+import time
+from collections.abc import Iterator
+
+# SQLite's pending, reserved and shared bytes: a run holds them all, a reader one
+OF_A_RUN = (1 << 30, 512)
+# bytes behind them, which SQLite never locks
+OF_A_SENDER = ((1 << 30) + 512, 1)
+OF_A_DESK = ((1 << 30) + 513, 1)
+REST = 0.05
+
+
+class Held(Exception):
+    """Another program has the lock."""
+
+
+@contextlib.contextmanager
+def locked(number: int, span: tuple[int, int], until: float = 0.0) -> Iterator[None]:
+    """A context in which an open file has the lock of a span; it is waited for until a moment of the steady clock.
+    Raises Held."""
+    begin, length = span
+    while not set_lock(number, fcntl.F_WRLCK, begin, length):
+        if time.monotonic() >= until:
+            raise Held
+        time.sleep(REST)
+    try:
+        yield
+    finally:
+        set_lock(number, fcntl.F_UNLCK, begin, length)
+
+
+@contextlib.contextmanager
+def of_a_run(number: int, path: str) -> Iterator[None]:
+    """A context in which an open file has the lock of a run, and is still the file at a path. Raises Held."""
+    with locked(number, OF_A_RUN):
+        if not os.path.samestat(os.fstat(number), os.stat(path)):
+            raise Held
+        yield
+
+
+def set_lock(number: int, kind: int, begin: int, length: int) -> bool:
+    """Whether the lock was set, or let go."""
+    try:
+        fcntl.fcntl(number, fcntl.F_OFD_SETLK, struct.pack("hhqqi", kind, os.SEEK_SET, begin, length, 0))
+    except (BlockingIOError, PermissionError):  # EAGAIN or EACCES: another one has it
+        return False
+    return True

@@ -1,0 +1,105 @@
+"""The rules of a plan that speak of several rows: keys, the lists in force, and which pairs there have to be
+(docs/rules/PLANS.md, rules 4, 5, 7 and 8). They are asked behind those of sound_rows, which they rest on."""
+
+import collections
+import sqlite3
+from collections.abc import Iterable
+
+from opcplan.plans.sound_rows import Unsound
+from opcplan.rules import loops
+
+LIVE = ("CREATE TEMP TABLE cp_live (app TEXT, ia INTEGER, serial INTEGER, PRIMARY KEY (app, ia)) WITHOUT ROWID",
+        "INSERT INTO cp_live SELECT app, ia, serial FROM cp_row WHERE status <> 'D' ORDER BY app, ia")
+LATEST = ("SELECT serial, ia FROM {0} WHERE app = link.pred AND ia < open.ia + (link.pred <> open.app) "
+          "ORDER BY ia DESC LIMIT 1")
+# of the latest that arrives in time whether there is that pair, 2 where the limit leaves it out
+IS_THERE = ("SELECT CASE WHEN open.ia > near.ia + {within} * 60 THEN 2 ELSE EXISTS (SELECT 1 FROM dependency AS pair "
+            "WHERE pair.successor = open.serial AND pair.predecessor = near.serial) END")
+OF_PAST = f"SELECT * FROM ({LATEST.format('cp_live')}) UNION ALL SELECT * FROM ({LATEST.format('history_row')})"
+PAST = f"({IS_THERE} FROM ({OF_PAST}) AS near ORDER BY near.ia DESC LIMIT 1)"
+COUNTED = ("SELECT coalesce(sum(is_there = 0), 0), coalesce(sum(is_there = 1), 0) FROM (SELECT {0} AS is_there "
+           "FROM {1} AS open CROSS JOIN link_in_force AS link ON link.app = open.app LIMIT -1)")
+# rows of the long-term plan arrive after all others
+EXPECTED = (
+    COUNTED.format(f"coalesce(({IS_THERE} FROM ({LATEST.format('ltp_row')}) AS near), {PAST})", "ltp_row"),
+    COUNTED.format(PAST, "(SELECT serial, app, ia FROM cp_row WHERE status = 'W')"),
+)
+# of what is no longer open
+CLOSED = ("history_row", "(SELECT serial, app, ia FROM cp_row WHERE status IN ('S', 'E', 'C'))")
+OF_CLOSED = (
+    "FROM {0} AS row CROSS JOIN dependency AS pair ON pair.successor = row.serial "
+    "LEFT JOIN history_row AS past ON past.serial = pair.predecessor "
+    "LEFT JOIN cp_row AS done ON done.serial = pair.predecessor AND done.status = 'C'"
+)
+APP, ARRIVES = "coalesce(past.app, done.app)", "coalesce(past.ia, done.ia)"
+# how many pairs each has, of how many applications, and how many are complete and arrive in time
+FITTING = (
+    "SELECT coalesce(sum(pairs), 0), coalesce(sum(pairs <> apps OR pairs <> fit), 0) FROM (SELECT count(*) AS pairs, "
+    f"count(DISTINCT {APP}) AS apps, coalesce(sum({ARRIVES} <= row.ia - ({APP} = row.app)), 0) AS fit "
+    f"{OF_CLOSED} GROUP BY row.serial)"
+)
+TOGETHER = f"{OF_CLOSED} WHERE {ARRIVES} = row.ia"
+
+
+def ask(db: sqlite3.Connection, version: int) -> None:
+    """Asks the rules of a database whose rows keep those of sound_rows. Raises Unsound."""
+    try:
+        ask_keys(db)
+        ask_pairs(db, version)
+    finally:
+        db.execute("DROP TABLE IF EXISTS temp.cp_live")
+    ask_rings(db)
+
+
+def ask_pairs(db: sqlite3.Connection, version: int) -> None:
+    """Asks that the lists in force have no loop, and that there are the pairs that there have to be. Raises Unsound."""
+    if loops.all_of(grouped(db.execute("SELECT app, pred FROM link_in_force"))):
+        raise Unsound("its rows are no sound plan: the lists of predecessors in force have a loop")
+    found = 0
+    for asked in EXPECTED:
+        lacking, pairs = db.execute(asked.format(within="link.within" if version > 1 else "NULL")).fetchone()
+        if lacking:
+            raise Unsound("its rows are no sound plan: an open row lacks the pair with its nearest predecessor")
+        found += pairs
+    for table in CLOSED:
+        pairs, wrong = db.execute(FITTING.format(table)).fetchone()
+        if wrong:
+            raise Unsound("its rows are no sound plan: a row that is no longer open has a pair that it can't have")
+        found += pairs
+    if db.execute("SELECT count(*) FROM dependency").fetchone()[0] != found:
+        raise Unsound("its rows are no sound plan: dependency has a pair that is none with a nearest predecessor")
+
+
+def ask_keys(db: sqlite3.Connection) -> None:
+    """Asks that no key is live twice, and none of a generated row was deleted by an operator. Raises Unsound."""
+    try:
+        for text in LIVE:
+            db.execute(text)
+        twice = db.execute("SELECT 1 FROM cp_live JOIN history_row USING (app, ia) LIMIT 1").fetchone()
+    except sqlite3.IntegrityError:
+        twice = (1,)
+    if twice:
+        raise Unsound("its rows are no sound plan: two live rows have one application and one arrival")
+    asked = ("SELECT 1 FROM deletion_row AS gone JOIN ltp_row AS row USING (app, ia) "
+             "WHERE gone.reason = 'O' AND row.run_cycle IS NOT NULL LIMIT 1")
+    if db.execute(asked).fetchone():
+        raise Unsound("its rows are no sound plan: a generated row of ltp_row has a key that an operator deleted")
+
+
+def ask_rings(db: sqlite3.Connection) -> None:
+    """Asks that what is no longer open has no ring of pairs. A ring is of rows that arrive together, so there is none
+    where their applications have none. Raises Unsound."""
+    apps = [edge for table in CLOSED for edge in db.execute(f"SELECT DISTINCT row.app, {APP} {TOGETHER.format(table)}")]
+    if not loops.all_of(grouped(apps)):
+        return
+    asked = f"SELECT CAST(row.serial AS TEXT), CAST(pair.predecessor AS TEXT) {TOGETHER}"
+    if loops.all_of(grouped(pair for table in CLOSED for pair in db.execute(asked.format(table)))):
+        raise Unsound("its rows are no sound plan: rows that are no longer open wait for each other in a ring")
+
+
+def grouped(edges: Iterable[sqlite3.Row]) -> dict[str, list[str]]:
+    """By each first of some pairs its seconds."""
+    found: dict[str, list[str]] = collections.defaultdict(list)
+    for first, second in edges:
+        found[first].append(second)
+    return dict(found)

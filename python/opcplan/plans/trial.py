@@ -1,0 +1,148 @@
+"""A trial: a stream is run by opcplan over a private copy of a plan, which stays as it is."""
+
+import contextlib
+import dataclasses
+import os
+import sqlite3
+import subprocess
+from collections.abc import Callable, Iterator
+from typing import Any, Generic, TypeVar
+
+from opcplan.errors import Unreadable
+from opcplan.plans import plan_file, stream_file, stream_state, tempfiles, waits
+from opcplan.plans.plan_file import Plan
+from opcplan.plans.program import built_program
+from opcplan.plans.stream_state import Known
+from opcplan.rules import explanations, stream
+from opcplan.rules.stream import Item, Source
+
+F = TypeVar("F")  # what is made of the answers
+
+# of what the planner tells on standard error, and of its answers
+MOST_SAID, OF_ANSWERS = 10_000, stream.Bounds(1 << 40, 1 << 40)
+SOUND = (0, 4)  # the statuses of a run that did all of a stream
+
+
+@dataclasses.dataclass
+class Trial(Generic[F]):
+    """What came of a stream over a copy of a plan."""
+
+    plan: plan_file.Plan  # before it
+    after: plan_file.Plan
+    found: F  # what was made of the answers
+    status: int  # of the planner; below 0 the signal that ended it
+    said: str  # by the planner on standard error
+    stream: str  # the path of a copy of the stream
+    program: str
+
+
+@contextlib.contextmanager
+def tried(
+    path: str | None, name: str, take: Callable[[Iterator[Item], Source, Known], F], program: str | None = None
+) -> Iterator[Trial[F]]:
+    """A Trial of a stream over the plan of a file, or over a new plan where there is no path. What is `found` is what
+    `take` makes of the items of the stream, of the output, and of what is known before. Raises Unreadable."""
+    program = os.path.abspath(program or built_program())
+    if path is not None and plan_file.is_database(name) and not plan_file.is_database(path):
+        raise Unreadable(f"{path}: it is no plan, and {name} may be one: are they exchanged?")
+    with tempfiles.folder("trial-") as folder:
+        text, copy, said = (os.path.join(folder, name) for name in ("stream.in", "plan.db", "said"))
+        with plan_file.opened(new_plan(program, folder) if path is None else path) as plan:
+            copy_stream(name, text)
+            copy_plan(plan, copy)
+            before = stream_state.of_plan(plan)
+            with contextlib.ExitStack() as held:
+                before.made = MadeRows(copy, held).key_of
+                found, status = answered(program, copy, text, said, lambda items, output: take(items, output, before))
+            with plan_file.opened(copy) as after, open(said, "rb") as file:
+                yield Trial(plan, after, found, status, file.read(MOST_SAID).decode(errors="replace"), text, program)
+
+
+class MadeRows:
+    """The rows that a stream has made up to here, read from a copy of the file that its run goes on with."""
+
+    MOST_COPIES = 5
+
+    def __init__(self, path: str, held: contextlib.ExitStack) -> None:
+        """`path`: the file; `held` closes the copies."""
+        self.path, self.held = path, held
+        self.plan: Plan | None = None
+        self.left = self.MOST_COPIES
+
+    def key_of(self, serial: int) -> str | None:
+        """Application and arrival of a serial, in words, or None where it isn't found, or too many were copied."""
+        found = self.found(serial)
+        if found is None and self.left:
+            self.left -= 1
+            with contextlib.suppress(Unreadable):
+                self.plan = self.held.enter_context(plan_file.opened(self.path))
+            found = self.found(serial)
+        return found
+
+    def found(self, serial: int) -> str | None:
+        """The same, of the copy that is there."""
+        rows = [] if self.plan is None else waits.rows_where(self.plan, "serial = :v0", serial)
+        return rows[0].key if rows else None
+
+
+def new_plan(program: str, folder: str) -> str:
+    """The path of a new plan in a folder. Raises Unreadable."""
+    path = os.path.join(folder, "new.db")
+    with running(program, path, stdin=subprocess.DEVNULL, stdout=subprocess.DEVNULL, stderr=subprocess.DEVNULL) as ran:
+        ran.wait()
+    if ran.returncode or not os.path.exists(path):
+        raise Unreadable(f"{program}: it makes no new plan; it ended with status {ran.returncode}")
+    return path
+
+
+def copy_stream(name: str, copy: str) -> None:
+    """Copies a stream up to its bound. Raises Unreadable."""
+    with stream_file.opened(name) as source, open(copy, "wb") as target:
+        target.writelines(source.pieces())
+
+
+def copy_plan(plan: Plan, copy: str) -> None:
+    """Makes the file of a copy. Raises Unreadable."""
+    try:
+        with contextlib.closing(sqlite3.connect(copy)) as other:
+            plan.db.backup(other)
+    except sqlite3.Error as error:
+        raise Unreadable(f"{plan.path}: a private copy can't be made: {error}") from None
+
+
+def answered(
+    program: str, copy: str, text: str, said: str, take: Callable[[Iterator[Item], Source], F]
+) -> tuple[F, int]:
+    """Runs a stream over the file of a plan: what `take` makes of its items and the output, and the status; what is
+    told on standard error goes to `said`. Raises Unreadable."""
+    with open(text, "rb") as asked, open(said, "wb") as errors, stream_file.opened(text) as source:
+        with running(program, copy, stdin=asked, stdout=subprocess.PIPE, stderr=errors) as ran:
+            assert ran.stdout is not None, "its output goes to a pipe"
+            try:
+                found = take(stream.items(source), stream.Source(ran.stdout, program, OF_ANSWERS))
+            except explanations.Unlike as why:
+                raise Unreadable(f"{program}: it doesn't answer as opcplan does: {why}") from None
+    return found, ran.returncode
+
+
+def done(trial: Trial[F], path: str, output: str) -> int:
+    """The status of opcplan once it has run the stream of a trial over the plan itself; its output goes to a file."""
+    with open(trial.stream, "rb") as asked, open(output, "wb") as target:
+        with running(trial.program, path, stdin=asked, stdout=target) as ran:
+            return ran.wait()
+
+
+@contextlib.contextmanager
+def running(program: str, path: str, **how: Any) -> Iterator[subprocess.Popen[bytes]]:
+    """A run of the planner over a file, which has ended when the context ends. Raises Unreadable where there is no such
+    program."""
+    try:
+        ran = subprocess.Popen([program, "--db", path], **how)
+    except OSError as error:
+        raise Unreadable(f"{program}: it can't be run: {error.strerror}") from None
+    with ran:
+        try:
+            yield ran
+        except BaseException:
+            ran.kill()
+            raise

@@ -1,0 +1,149 @@
+"""Occurrences of a plan, where they stand, and what they wait for. why, why-day and late stand on it."""
+
+from typing import NamedTuple
+
+from opcplan.plans.plan_file import Plan
+from opcplan.rules import moments, statuses
+
+DAY = moments.DAY
+
+
+class Row(NamedTuple):
+    """An occurrence and where it stands: its status in the current plan (W S E C D), L in the long-term plan, H in
+    history, and of the deletions o (by an operator), w (withdrawn) or p (in the current plan)."""
+
+    serial: int
+    app: str
+    ia: int
+    deadline: int
+    cycle: str | None
+    place: str
+
+    @property
+    def key(self) -> str:
+        """`APP 2024-01-01 08.00`."""
+        return f"{self.app} {moments.moment_text(self.ia)}"
+
+
+class Job(NamedTuple):
+    """A kept job: its number, the name of its statement, and its reply."""
+
+    number: int
+    name: str
+    reply: str
+
+
+Waits = dict[int, list[Row]]  # by serial: what it waits for
+COLUMNS = "serial, app, ia, deadline, run_cycle"
+SETS = (
+    f"SELECT {COLUMNS}, status AS place FROM cp_row",
+    f"SELECT {COLUMNS}, 'L' AS place FROM ltp_row",
+    f"SELECT {COLUMNS}, 'H' AS place FROM history_row",
+    f"SELECT {COLUMNS}, lower(reason) AS place FROM deletion_row",
+)
+
+
+def rows_where(plan: Plan, condition: str, *values: int | str | None) -> list[Row]:
+    """The rows of all four sets that meet a condition, by input arrival, application and serial."""
+    asked = " UNION ALL ".join(f"{text} WHERE {condition}" for text in SETS)
+    names = {f"v{number}": value for number, value in enumerate(values)}
+    found = plan.db.execute(f"SELECT * FROM ({asked}) ORDER BY ia, app, serial", names).fetchall()
+    return [Row(*row) for row in found]
+
+
+def rows_of_current(plan: Plan, statuses: str) -> list[Row]:
+    """The rows of the current plan that have one of the statuses, by input arrival, application and serial."""
+    asked = f"{SETS[0]} WHERE instr(?, status) ORDER BY ia, app, serial"
+    return [Row(*row) for row in plan.db.execute(asked, (statuses,))]
+
+
+def rows_of_key(plan: Plan, app: str, ia: int) -> list[Row]:
+    """The rows of a key: the live one first, then the others, the latest serial first."""
+    rows = rows_where(plan, "app = :v0 AND ia = :v1", app, ia)
+    return sorted(rows, key=lambda row: (row.place in "Dowp", -row.serial))
+
+
+def rows_of_day(plan: Plan, app: str, day: int) -> list[Row]:
+    """The rows of an application that arrive on a day."""
+    return rows_where(plan, "app = :v0 AND ia >= :v1 AND ia < :v2", app, day * DAY, (day + 1) * DAY)
+
+
+def predecessors(plan: Plan, serial: int) -> list[Row]:
+    """The rows that an occurrence has pairs with, by input arrival and application."""
+    return rows_where(plan, "serial IN (SELECT predecessor FROM dependency WHERE successor = :v0)", serial)
+
+
+def open_predecessors(plan: Plan, serial: int) -> list[Row]:
+    """Those of its predecessors that aren't complete."""
+    return [row for row in predecessors(plan, serial) if row.place not in statuses.COMPLETE]
+
+
+OPEN_PAIRS = """reached JOIN dependency ON successor = reached.serial
+    WHERE EXISTS (SELECT 1 FROM ltp_row WHERE serial = predecessor)
+    OR EXISTS (SELECT 1 FROM cp_row WHERE serial = predecessor AND status IN ('W', 'S', 'E'))"""
+
+
+def chain(plan: Plan, row: Row) -> Waits:
+    """All that a row waits for: by serial the predecessors that aren't complete, down to rows that wait for none."""
+    ask = plan.db.execute
+    ask("DROP TABLE IF EXISTS temp.reached")
+    ask("CREATE TEMP TABLE reached (serial INTEGER PRIMARY KEY)")
+    ask(
+        "INSERT INTO temp.reached WITH RECURSIVE reached (serial) AS "
+        f"(VALUES (?) UNION SELECT predecessor FROM {OPEN_PAIRS}) SELECT serial FROM reached",
+        (row.serial,),
+    )
+    rows = {other.serial: other for other in rows_where(plan, "serial IN (SELECT serial FROM temp.reached)")}
+    waits: Waits = {serial: [] for serial in rows}
+    for successor, predecessor in ask(f"SELECT successor, predecessor FROM temp.{OPEN_PAIRS}"):
+        waits[successor].append(rows[predecessor])
+    for others in waits.values():
+        others.sort(key=lambda other: (other.ia, other.app, other.serial))
+    return waits
+
+
+def roots(waits: Waits, row: Row) -> list[Row]:
+    """The rows at the end of a chain: they wait for nothing that isn't complete, and the others wait for them."""
+    found = {other.serial: other for others in waits.values() for other in others if not waits[other.serial]}
+    found.pop(row.serial, None)
+    return sorted(found.values(), key=lambda other: (other.ia, other.app, other.serial))
+
+
+def is_late(row: Row, now: int) -> bool:
+    """Late: in the current plan, neither complete nor deleted, and past its deadline."""
+    return row.place in statuses.UNFINISHED and row.deadline < now
+
+
+def state(row: Row, is_blocked: bool, now: int) -> str:
+    """How far a row is, as a word of STATES; one that waits is ready, blocked, or its time is to come."""
+    if row.place != "W":
+        return statuses.STATES[row.place]
+    return statuses.STATES["F" if row.ia > now else "B" if is_blocked else "R"]
+
+
+def length_text(minutes: int) -> str:
+    """`45 min`, `2 h`, `2 h 05 min`, `3 days 4 h`."""
+    days, hours, rest = minutes // DAY, minutes % DAY // 60, minutes % 60
+    if days:
+        return f"{days} day{'s' if days > 1 else ''}" + (f" {hours} h" if hours else "")
+    if hours:
+        return f"{hours} h" + (f" {rest:02} min" if rest else "")
+    return f"{rest} min"
+
+
+def late_text(row: Row, now: int) -> str:
+    """`late by 2 h`, or nothing."""
+    return f"late by {length_text(now - row.deadline)}" if is_late(row, now) else ""
+
+
+def jobs_of_key(plan: Plan, app: str, ia: int) -> list[Job]:
+    """The jobs that asked something of one key, by number, refused ones too: (number, statement's name, reply)."""
+    arrival = moments.moment_word(ia)
+    asked = "SELECT number, body, reply FROM job WHERE instr(body, ?1) AND instr(body, ?2) ORDER BY number"
+    found = []
+    for number, body, reply in plan.db.execute(asked, (app.encode(), arrival.encode())):
+        name, *rest = bytes(body).decode("latin-1").replace("=", " ").split(" ")
+        options = {option: value for option, value in zip(rest, rest[1:]) if option.startswith("--")}
+        if name != "define" and (options.get("--app"), options.get("--ia")) == (app, arrival):
+            found.append(Job(number, name, reply))
+    return found

@@ -1,0 +1,1 @@
+"""Forms, statements, definitions, refusals: what is known without any file."""

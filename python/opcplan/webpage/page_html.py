@@ -1,0 +1,99 @@
+"""The page as text: its parts are put together with the plan's data, and nothing is asked of any other place."""
+
+import base64
+import hashlib
+import html
+import itertools
+import json
+import re
+from collections.abc import Iterable, Mapping, Sequence
+from pathlib import Path
+
+from opcplan.rules import moments
+from opcplan.webpage.page_values import Data
+
+PARTS = Path(__file__).resolve().parent / "page_parts"
+STYLES = ["colours.css", "frame.css", "day.css", "graph.css", "month.css", "card.css", "small.css", "print.css"]
+SCRIPTS = ["model.js", "words.js", "now.js", "actual.js", "groups.js", "day.js", "arrows.js", "layout.js",
+           "graph.js", "month.js", "card.js", "apps.js", "changes.js", "keys.js"]
+MOST_WITHOUT_SCRIPT = 500
+STATES = {"E": "in error", "S": "started", "R": "ready", "B": "blocked", "F": "to come"}
+
+
+def joined(names: Iterable[str]) -> str:
+    """The text of some parts."""
+    return "".join((PARTS / name).read_text(encoding="utf-8") for name in names)
+
+
+def digest(text: str) -> str:
+    """A text's sum, as the page's policy names it."""
+    return base64.b64encode(hashlib.sha256(text.encode("utf-8", "replace")).digest()).decode()
+
+
+def page_of(data: Data) -> str:
+    """The page of what page_data.data_of gives."""
+    return framed(data, data_text(data))
+
+
+def data_text(data: object) -> str:
+    """A value as a page has it within."""
+    return json.dumps(data, separators=(",", ":")).replace("<", "\\u003c")
+
+
+def policy_of(styles: Sequence[str] = STYLES, scripts: Sequence[str] = SCRIPTS, more: str = "") -> str:
+    """What a page of these parts may: its own style and script, and more where that is named."""
+    return (f"default-src 'none'; img-src data:; {more}style-src 'sha256-{digest(joined(styles))}'; "
+            f"script-src 'sha256-{digest(joined(scripts))}'")
+
+
+def framed(
+    data: Data, text: str, styles: Sequence[str] = STYLES, scripts: Sequence[str] = SCRIPTS, more: str = ""
+) -> str:
+    """The page of some parts, with a text in the place of its data; `more` is what it may besides."""
+    return filled("page.html", {
+        "title": html.escape(title(data)),
+        "policy": policy_of(styles, scripts, more),
+        "style": joined(styles),
+        "plain": without_script(data),
+        "data": text,
+        "script": joined(scripts),
+    })
+
+
+def filled(name: str, texts: Mapping[str, str]) -> str:
+    """A part with texts in the places that it names."""
+    return re.sub(r"\{\{(\w+)\}\}", lambda found: texts[found[1]], joined([name]))
+
+
+def title(data: Data) -> str:
+    """How bad it is."""
+    errors, late = data["state"].count("E"), data["marks"].count("l")
+    return f"{errors} in error, {late} late: {data['file']} {moments.moment_text(data['now'])}"
+
+
+def row_of(data: Data, arrivals: list[int], place: int) -> tuple[str, int, int]:
+    """A row's application, input arrival and deadline."""
+    rows = data["rows"]
+    return data["apps"][rows["app"][place]][0], arrivals[place], arrivals[place] + rows["due"][place]
+
+
+def without_script(data: Data) -> str:
+    """What a reader without scripts gets: how many rows stand in each status, and those in error or late."""
+    arrivals = list(itertools.accumulate(data["rows"]["arrival"]))
+    late = {place for place, mark in enumerate(data["marks"]) if mark == "l"}
+    places = late | {place for place, state in enumerate(data["state"]) if state == "E"}
+    told = sorted(((row_of(data, arrivals, place), data["state"][place], place in late) for place in places),
+                  key=lambda one: (one[0][2], one[0]))
+    counts = ", ".join(f"{data['state'].count(state)} {words}" for state, words in STATES.items())
+    lines = [f"<p>{html.escape(title(data))}. Of the current plan: {counts}.</p>"]
+    lines += [f"<p>{html.escape(text)}</p>" for text in data["short"]]
+    if told:
+        lines.append("<table><tr><th>Application<th>Arrived<th>Due<th>Status</tr>")
+        for (app, arrival, due), state, is_late in told[:MOST_WITHOUT_SCRIPT]:
+            status = STATES[state] + (", late" if is_late else "")
+            times = f"<td>{moments.moment_text(arrival)}<td>{moments.moment_text(due)}"
+            lines.append(f"<tr><td>{html.escape(app)}{times}<td>{status}</tr>")
+        lines.append("</table>")
+    if len(told) > MOST_WITHOUT_SCRIPT:
+        lines.append(f"<p>These are {MOST_WITHOUT_SCRIPT} of {len(told)}.</p>")
+    return "\n".join(lines)

@@ -1,0 +1,200 @@
+// The top of the page, the search, the keys, and the start.
+
+function drawTop() {
+  const { first, last, created } = D.plan;
+  const date = day => dateOf(day * DAY).getUTCDate() + ' ' + monthName(day * DAY);
+  $('#file').textContent = D.file;
+  fill('#asof', 'as of ', h('b', {}, dayName(D.now) + ' ' + year(D.now) + ' ' + clock(D.now)),
+    created ? ' · planned ' + date(first) + ' to ' + date(last) : '');
+  const isPast = created && !D.note && D.plan.end <= D.now;
+  const notes = [D.note, isPast ? 'The current plan ended ' + at(D.plan.end) +
+    ': what arrives since then isn’t in it until dp-extend.' : ''].filter(Boolean);
+  $('#note').hidden = !notes.length;
+  $('#note').textContent = notes.join(' ');
+  $('#short').hidden = !D.short.length;
+  $('#short').append(...D.short.map(text => h('li', {}, text)));
+  if (D.apps.length <= 2000) $('#names').append(...D.apps.map(one => h('option', { value: one[0] })));
+  if (!created) for (const part of ['#due', '#mend', '#holds', '#next', '#day']) $(part).hidden = true;
+}
+
+/** Says how old the page is, by the viewer's clock; it stands at its moment and doesn't go on. */
+function tellAge() {
+  const t = new Date();
+  const here = Date.UTC(t.getFullYear(), t.getMonth(), t.getDate(), t.getHours(), t.getMinutes()) / 60000;
+  const age = Math.round(here - D.made);
+  $('#stale').hidden = D.sample || age < 5;
+  $('#stale').textContent = 'This page is ' + length(Math.max(age, 0)) + ' old: make it anew.';
+}
+
+let waiting_ = 0;
+function find() {
+  clearTimeout(waiting_);
+  waiting_ = setTimeout(() => {
+    const was = isFiltered();
+    view.find = $('#find').value.toUpperCase().split(/[\s,]+/).filter(Boolean);
+    if (isFiltered() && !was) Object.assign(view, { kept: view.kind, kind: 'all' });
+    else if (!isFiltered() && was) view.kind = view.kept;
+    view.most = 400;
+    tellFilter();
+    drawNow();
+    drawDay();
+    drawMonth();
+    drawChanges();
+  }, 120);
+}
+
+/** Says what is filtered, on the page, on paper and in the title of the tab. */
+function tellFilter() {
+  const number = D.apps.filter(one => matches(one[0])).length;
+  nameTab();
+  $('#filtered').hidden = !isFiltered();
+  fill('#filtered', 'only applications with ', h('b', {}, findText()), ': ' + number + ' of ' + D.apps.length + ' ',
+    h('button', { class: 'in', on: () => {
+      $('#find').value = '';
+      $('#find').focus();
+      find();
+    } }, 'Show all'));
+  fit();
+  say(many(number, 'application'));
+}
+let titleOfAll = document.title;
+
+/** Says in the title of the tab how bad it is, of what is filtered too. */
+function nameTab() {
+  const errors = countStates(i => isWanted(i) && KINDS.error(i)).E, lates = [...late].filter(isWanted).length;
+  document.title = isFiltered() ? errors + ' in error, ' + lates + ' late of ' + findText() + ': ' + titleOfAll
+    : titleOfAll;
+}
+
+const SERIAL = /^#?0*([1-9]\d{0,8})$/, KEY = /^(\S+)\s+(\d{4}-\d\d-\d\d)(?:[/T]|\s+)(\d\d)[.:](\d\d)$/;
+
+/** The row that a text names by its serial, or by application and arrival as they are printed; else none. */
+function typedRow(text) {
+  const number = text.match(SERIAL), key = text.match(KEY);
+  if (number && !D.apps.some(one => one[0] === text)) return rowOfSerial(+number[1]);
+  if (!key) return undefined;
+  const k = D.apps.findIndex(one => one[0] === key[1]);
+  const arrival = Date.parse(key[2] + 'T00:00Z') / 60000 + 60 * key[3] + +key[4];
+  return (perApp.get(k) || []).find(i => ia[i] === arrival);
+}
+
+/** Opens the row that the search names, or the application that it names or begins. */
+function openFound() {
+  const text = $('#find').value.trim().toUpperCase(), row = typedRow(text);
+  if (row !== undefined) {
+    $('#find').value = '';
+    find();
+    choose(row);
+    $('#card').focus();
+    return;
+  }
+  const of = test => text ? D.apps.findIndex(test) : -1;
+  const found = [of(one => one[0] === text), of(one => one[0].startsWith(text)), of(one => one[0].includes(text))]
+    .find(k => k >= 0);
+  if (found === undefined) return;
+  showApp(found);
+  $('#card').focus();
+}
+
+function nextTrouble() {
+  const rows = Array.from({ length: rowCount }, (_, i) => i).filter(i => isTrouble(i) && isWanted(i));
+  if (!rows.length) return say(isFiltered() ? 'None of these is in trouble.' : 'Nothing is in trouble.');
+  view.kind = 'trouble';
+  choose(rows[(rows.indexOf(view.pick) + 1) % rows.length]);
+  laid.buttons.get(view.pick)?.focus();
+}
+
+function inField(event) {
+  if (event.key === 'Enter' && event.target.id === 'find') openFound();
+  if (event.key === 'Escape' && event.target.value && event.target.id === 'find') {
+    event.target.value = '';
+    find();
+  } else if (event.key === 'Escape') event.target.blur();
+}
+
+const STEPS = { ArrowDown: [0, 1], ArrowUp: [0, -1], ArrowRight: [1, 0], ArrowLeft: [-1, 0], Home: [-99, 0],
+  End: [99, 0] };
+
+/** Moves the one tab stop of a list or a table. */
+function moveStop(from, to) {
+  if (!to?.matches('.row, .node, ' + CELLS)) return;
+  from.setAttribute('tabindex', '-1');
+  to.setAttribute('tabindex', '0');
+  to.focus();
+}
+
+function onKey(event) {
+  if (event.ctrlKey || event.metaKey || event.altKey) return;
+  if (event.target.matches('input, select')) return inField(event);
+  const cell = event.target.closest?.(CELLS), row = event.target.closest?.('.row'), step = STEPS[event.key];
+  const node = event.target.closest?.('.node');
+  const done = act => { event.preventDefault(); act(); };
+  if (event.key === 'Escape') return choose(-1);
+  if (cell && step) return done(() => moveStop(cell, nextCell(cell, step)));
+  if (cell?.matches('td') && (event.key === 'Enter' || event.key === ' ')) return done(() => chooseCell(cell));
+  if (row && step?.[1]) {
+    const rows = [...document.querySelectorAll('.row')];
+    return done(() => moveStop(row, rows[rows.indexOf(row) + step[1]]));
+  }
+  if (node && step) return done(() => moveStop(node, nextNode(node, step)));
+  if (node && (event.key === 'Enter' || event.key === ' ')) {
+    const i = +node.dataset.i;
+    return done(() => i === view.pick ? $('#card').focus() : choose(i));
+  }
+  if (row && event.key === 'Enter' && +row.dataset.i === view.pick) return done(() => $('#card').focus());
+  if (Math.abs(step?.[0]) === 1) return done(() => showFrom(view.from + step[0] * DAY / 2));
+  if (event.key === '/') return done(() => { $('#find').focus(); $('#find').select(); });
+  if (event.key === 'n') showNow();
+  if (event.key === 't') nextTrouble();
+  if (event.key === 'g') showAsGraph(!view.graph);
+}
+
+/** The row that the address names by its serial, as #o970. */
+function addressed() {
+  const found = location.hash.match(/^#o(\d+)$/);
+  return found ? rowOfSerial(+found[1]) ?? -1 : -1;
+}
+
+/** The pointer and the focus show a row's arrows, a click chooses it. */
+function listen() {
+  const rowOf = event => event.target.closest?.('.row[data-i], .node');
+  const look = event => { const row = rowOf(event); showArrows(row ? +row.dataset.i : view.pick); };
+  $('#lines').addEventListener('click', event => {
+    const row = rowOf(event);
+    if (row) choose(+row.dataset.i);
+  });
+  $('#lines').addEventListener('mouseover', look);
+  $('#lines').addEventListener('mouseleave', () => showArrows(view.pick));
+  $('#lines').addEventListener('focusin', event => { if (rowOf(event)?.matches(':focus-visible')) look(event); });
+  $('#grid').addEventListener('click', event => {
+    const cell = event.target.closest('td[data-d]');
+    if (cell) chooseCell(cell);
+  });
+  $('#find').addEventListener('input', find);
+  addEventListener('keydown', onKey);
+  addEventListener('resize', fit);
+  addEventListener('hashchange', () => { if (addressed() >= 0) choose(addressed(), true); });
+  addEventListener('beforeprint', () => {
+    document.querySelectorAll('#due .more, #mend .more, #holds .more').forEach(button => button.click());
+    document.querySelectorAll('#due details').forEach(group => {
+      group.drawLines();
+      group.open = true;
+    });
+  });
+}
+
+function fit() {
+  const height = innerWidth > 760 ? $('header').offsetHeight : 0;
+  document.documentElement.style.setProperty('--top', height + 'px');
+}
+
+document.querySelectorAll('nav, #shell').forEach(part => { part.hidden = false; });
+drawTop();
+tellAge();
+setInterval(tellAge, 30000);
+drawNow();
+drawMonth();
+drawChanges();
+listen();
+fit();
+choose(addressed(), true);

@@ -1,0 +1,127 @@
+"""The forms of what the page is given: one value of JSON, whose parts its scripts know by these names and places."""
+
+from typing import NamedTuple, NotRequired, TypedDict
+
+Limits = list[int | None]  # hours
+
+
+class Hold(NamedTuple):
+    """A row that holds others up, by its place: how many, how many of these are late, and the first of them to be
+    due."""
+
+    place: int
+    held: int
+    late: int
+    first: int
+
+
+class Job(NamedTuple):
+    """A job: its number, its statement, and what it was answered."""
+
+    number: int
+    statement: str
+    reply: str
+
+
+class Difference(NamedTuple):
+    """An occurrence that is new, stands elsewhere or is due otherwise than before; `was` is '' where it is new."""
+
+    serial: int
+    was: str
+    place: str
+    app: str
+    ia: int
+    was_due: int
+    due: int
+
+
+class Redefinition(NamedTuple):
+    """What is defined otherwise: its kind, its name, and whether it is new, gone or changed."""
+
+    what: str
+    name: str
+    how: str
+
+
+class App(NamedTuple):
+    """An application: 1 for active, 0 for pending, -1 where it isn't defined; its calendar's place, its run cycles."""
+
+    name: str
+    status: int
+    calendar: int
+    cycles: list[list[object]]
+
+
+class Calendar(NamedTuple):
+    """A calendar: whether it is defined, and of each day from the first to the last 1 for a work day, else 0."""
+
+    name: str
+    is_defined: bool
+    days: str
+
+
+class Definitions(TypedDict):
+    """The definitions: lists of predecessors by the applications' places, with their limits."""
+
+    apps: list[App]
+    calendars: list[Calendar]
+    lists: list[list[int | str]]
+    limits: list[Limits]
+
+
+class Rows(TypedDict):
+    """The rows as columns of small numbers."""
+
+    serial: list[int]
+    app: list[int]
+    arrival: list[int]
+    due: list[int]
+    cycle: list[int]
+    pairs: list[int]
+    roots: list[int]
+
+
+class Since(TypedDict):
+    """What changed since an older copy: of the differences the first ones, and how many there are."""
+
+    file: str
+    kept: str
+    rows: list[Difference]
+    count: int
+    definitions: list[Redefinition]
+
+
+class Ran(TypedDict):
+    """What the journal of a desk says of the rows, by place, and of what applications take, by number."""
+
+    runs: dict[int, list[list[object]]]
+    usual: dict[int, list[float]]
+    expected: dict[int, list[int]]
+    going: list[int]
+    ended: list[list[float]]
+    hours: int
+    chain: list[int]
+
+
+class Data(Definitions):
+    """All of it. The last four stand there where the value is whole."""
+
+    file: str
+    now: int
+    first: int
+    last: int
+    plan: dict[str, int | str | bool]
+    cycles: list[str]
+    rows: Rows
+    state: str
+    marks: str
+    holds: list[Hold]
+    holdCount: int
+    short: list[str]
+    jobs: list[Job]
+    jobCount: int
+    since: Since | None
+    actual: NotRequired[Ran | None]
+    made: NotRequired[int]
+    sample: NotRequired[bool]
+    note: NotRequired[str]

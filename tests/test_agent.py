@@ -1,0 +1,557 @@
+"""./plan agent: each job is run once and its end told, whatever is killed; the desk is the plain planner here, and a
+real one where a day is worked off."""
+
+import argparse
+import contextlib
+import datetime
+import hashlib
+import io
+import json
+import os
+import re
+import signal
+import subprocess
+import sys
+import tempfile
+import time
+import unittest
+import unittest.mock
+from pathlib import Path
+
+from support import plans
+from support.plans import plain
+
+from opcplan.agent import record, watch, work
+from opcplan.desk import client
+
+
+FIRST_JOB = 500_000_001
+DEBIAN = "/usr/bin/python3"
+# in seconds: what a busy machine may take
+PATIENCE = 300
+DAY = {"AA": "", "AB": "AA", "AC": "AA", "AD": "AB AC", "BA": "", "BB": "BA", "CA": "", "CB": "CA BB", "DA": "AD",
+       "DB": "CB"}
+
+
+def day_stream(apps):
+    """A stream that plans one day of applications, each with the others that it waits for."""
+    lines = {"calendars": ["DEFAULT,2024-01-01,WORK"], "periods": ["DAY,A,2024-01-01,1"],
+             "applications": [f"{app},A," for app in apps],
+             "run-cycles": [f"{app},DAILY,N,DAY,3,1,2024-01-01,,08.{at:02},0,10.00" for at, app in enumerate(apps)],
+             "predecessors": [f"{app},{other}" for app, others in apps.items() for other in others.split()]}
+    blocks = [f"define {kind} --job {job}\n" + "".join(f"{line}\n" for line in found) + "/*\n"
+              for job, (kind, found) in enumerate(lines.items(), 1) if found]
+    planned = "ltp-create --from 2024-01-01 --to 2024-01-05 --job 8\ndp-extend --to 2024-01-02/00.00 --job 9\n"
+    return "".join(blocks) + planned
+
+
+class PlainDesk:
+    """A desk that is a plain planner, as an agent asks it. `faults` are done in turn at the next statements."""
+
+    name, life = "plain", "log"
+
+    def __init__(self, text):
+        self.planner, self.log, self.keys, self.faults = plain.Planner(), [], {}, []
+        plain.run(text.encode(), self.planner)
+
+    def request(self, method, path, body=None, heads=()):
+        if method == "POST":
+            return {}, self.statement(body.decode(), dict(heads)["Idempotency-Key"])
+        word, _, query = path.partition("?")
+        position = len(self.log)
+        if word == "/health":
+            return {}, json.dumps({"position": position, "tag": f"{self.life}-{position}"}).encode()
+        if word == "/journal":
+            found = self.log[int(query.removeprefix("from=")) - 1:]
+        else:
+            found = self.rows() if query == "list=cp" else [
+                {"successor": first, "predecessor": last} for first, last in self.planner.pairs]
+        return {"X-Opcplan-Position": str(position)}, "".join(json.dumps(one) + "\n" for one in found).encode()
+
+    def rows(self):
+        return [{"serial": row[0], "app": row[1], "ia": plain.moment_text(row[2], "/"), "status": status,
+                 "deadline": plain.moment_text(row[3], "/")} for row, status in self.planner.current.values()]
+
+    def statement(self, text, key):
+        fault = self.faults.pop(0) if self.faults else None
+        if fault == "before":
+            raise client.Away("it is away", False)
+        if key not in self.keys:
+            self.keys[key] = self.put(text.strip(), key)
+        if fault == "after":
+            raise client.Away("the answer broke off", True)
+        if fault == "killed":
+            raise SystemExit
+        return json.dumps(self.keys[key]).encode() + b"\n"
+
+    def put(self, text, key=None, job=None):
+        """An entry of the log, with what the planner replies."""
+        job = job or FIRST_JOB + len(self.log)
+        reply = plain.run(f"{text} --job {job}\n".encode(), self.planner)[-1]
+        self.log.append({"seq": len(self.log) + 1, "statement": f"{text} --job {job}", "job": job, "reply": reply,
+                         "key": key})
+        return self.log[-1]
+
+    def status(self, app):
+        return next(status for row, status in self.planner.current.values() if row[1] == app)
+
+    def asked(self):
+        """The statements that were asked, without their numbers, each once."""
+        return [one["statement"].partition(" --job")[0] for one in self.log]
+
+
+class Room(unittest.TestCase):
+    """A folder with jobs, and agents over them."""
+
+    def setUp(self):
+        room = tempfile.TemporaryDirectory(prefix="agent-")
+        self.addCleanup(room.cleanup)
+        self.room = Path(room.name)
+        self.jobs, self.logs = self.room / "jobs", self.room / "logs"
+        self.jobs.mkdir(mode=0o755)
+        self.logs.mkdir()
+
+    def job(self, name, text="true"):
+        path = self.jobs / name
+        path.write_text(f"#!/bin/sh\n{text}\n", encoding="utf-8")
+        path.chmod(0o755)
+
+    def agent(self, desk):
+        given = argparse.Namespace(jobs=str(self.jobs), logs=str(self.logs), most=4, limit=None,
+                                   now=plain.read_moment("2024-01-01/12.00"))
+        found = work.Agent(given, desk)
+        found.load()
+        return found
+
+    def until(self, is_so, agent=None):
+        """Has an agent look until something is so; what it tells."""
+        end = time.monotonic() + PATIENCE
+        with contextlib.redirect_stderr(io.StringIO()) as told:
+            while True:
+                if agent:
+                    agent.step()
+                if is_so():
+                    return told.getvalue()
+                self.assertLess(time.monotonic(), end, told.getvalue() + self.told())
+                time.sleep(0.05)
+
+    def told(self):
+        """What the commands told."""
+        return "".join(path.read_text(encoding="utf-8") for path in sorted(self.room.glob("told-*")))
+
+    @property
+    def wait(self):
+        """What a job does until `go`."""
+        return f"until [ -e {self.room}/go ]; do sleep 0.05; done"
+
+    def go(self):
+        (self.room / "go").touch()
+
+    def runs(self):
+        """The words of each line that the jobs wrote into the file `runs`."""
+        path = self.room / "runs"
+        return [line.split() for line in path.read_text(encoding="utf-8").splitlines()] if path.exists() else []
+
+
+class Step(Room):
+    def test_started_is_said_then_it_runs_then_its_end_is_told(self):
+        desk = PlainDesk(day_stream({"GOOD": "", "BAD": "", "NEXT": "GOOD"}))
+        for name, end in (("GOOD", "exit 0"), ("BAD", "exit 3"), ("NEXT", "kill -9 $$")):
+            self.job(name, f'echo "$@" $# >> {self.room}/runs; cat; pwd; echo "token [$OPCPLAN_TOKEN]" >&2; {end}')
+        os.environ["OPCPLAN_TOKEN"] = "secret"
+        self.addCleanup(os.environ.pop, "OPCPLAN_TOKEN")
+        agent = self.agent(desk)
+        told = self.until(lambda: len(desk.log) == 6, agent)
+        self.assertEqual({app: desk.status(app) for app in ("GOOD", "BAD", "NEXT")},
+                         {"GOOD": "C", "BAD": "E", "NEXT": "E"})
+        self.assertEqual(sorted(self.runs()), [["BAD", "2024-01-01/08.01", "2", "3"],
+                                               ["GOOD", "2024-01-01/08.00", "1", "3"],
+                                               ["NEXT", "2024-01-01/08.02", "3", "3"]])
+        log = (self.logs / "000000001.log").read_text(encoding="utf-8")
+        self.assertRegex(log, r"^== agent: begins GOOD 2024-01-01/08\.00 1 at \S+ \S+\n(?s:.*)"
+                              r"\n== agent: ended at \S+ \S+: status 0\n$")
+        self.assertIn(f"\n{self.jobs}\ntoken []\n", log)
+        self.assertIn("status 3; it is in error", told)
+        self.assertIn("by signal 9; it is in error", told)
+        self.assertEqual(record.serials(self.logs), [])
+
+    def test_no_more_than_so_many_at_once_and_the_earliest_deadline_first(self):
+        desk = PlainDesk(day_stream(dict.fromkeys(("AA", "BB", "CC", "DD", "EE"), "")))
+        for name in ("AA", "BB", "CC", "DD", "EE"):
+            self.job(name, f"echo b >> {self.room}/runs; sleep 0.2; echo e >> {self.room}/runs")
+        agent = self.agent(desk)
+        agent.given.most = 2
+        self.until(lambda: len(desk.log) == 10, agent)
+        running = greatest = 0
+        for (sign,) in self.runs():
+            running += 1 if sign == "b" else -1
+            greatest = max(greatest, running)
+        self.assertEqual((running, greatest), (0, 2))
+        starts = [line for line in desk.asked() if line.startswith("cp-start")]
+        self.assertEqual(starts, sorted(starts))
+
+    def test_what_has_not_arrived_or_is_blocked_is_not_begun(self):
+        desk = PlainDesk(day_stream({"AA": "", "BB": "AA", "CC": ""}))
+        for name in ("BB", "CC"):
+            self.job(name, f"echo >> {self.room}/runs")
+        agent = self.agent(desk)
+        agent.given.now = plain.read_moment("2024-01-01/08.01")
+        self.until(lambda: True, agent)
+        self.assertEqual((desk.log, record.serials(self.logs)), ([], []))
+        for statement in ("cp-start", "cp-complete"):
+            desk.put(f"{statement} --app AA --ia 2024-01-01/08.00")
+        self.until(lambda: desk.status("BB") == "C", agent)
+        self.assertEqual(desk.status("CC"), "W")
+
+    def test_what_waits_again_waits_for_what_was_added_meanwhile(self):
+        desk = PlainDesk(day_stream({"AA": "", "BB": "AA"}))
+        self.job("BB", f"echo >> {self.room}/runs")
+        for word, app in (("start", "AA"), ("complete", "AA"), ("start", "BB"), ("fail", "BB")):
+            desk.put(f"cp-{word} --app {app} --ia 2024-01-01/08.0{'AB'.index(app[0])}")
+        desk.put("cp-add --app AA --ia 2024-01-01/08.01")
+        agent = self.agent(desk)
+        self.until(lambda: True, agent)
+        desk.put("cp-reset --app BB --ia 2024-01-01/08.01")
+        known = len(desk.log)
+        self.until(lambda: agent.watched.position == known, agent)
+        self.assertEqual(len(desk.log), known)  # the agent asks for nothing that is refused
+        for word in ("start", "complete"):
+            desk.put(f"cp-{word} --app AA --ia 2024-01-01/08.01")
+        self.until(lambda: desk.status("BB") == "C", agent)
+        self.assertEqual(len(self.runs()), 1)
+
+    def test_an_answer_that_breaks_off_begins_nothing_twice(self):
+        for faults in (["before", "before"], ["after"], ["before", "after", None, "after"], [None, "before"]):
+            with self.subTest(faults=faults):
+                desk = PlainDesk(day_stream({"AA": ""}))
+                desk.faults = list(faults)
+                (self.room / "runs").unlink(missing_ok=True)
+                self.job("AA", f"echo x >> {self.room}/runs")
+                agent = self.agent(desk)
+                end = time.monotonic() + PATIENCE
+                with contextlib.redirect_stderr(io.StringIO()):
+                    while agent.records or desk.status("AA") != "C":
+                        with contextlib.suppress(client.Away):
+                            agent.step()
+                        self.assertLess(time.monotonic(), end)
+                        time.sleep(0.05)
+                self.assertEqual(desk.asked(), [f"cp-{word} --app AA --ia 2024-01-01/08.00"
+                                                for word in ("start", "complete")])
+                self.assertEqual(len(self.runs()), 1)
+
+    def test_killed_between_the_answer_and_the_run_it_is_begun_by_the_next_agent(self):
+        desk = PlainDesk(day_stream({"AA": ""}))
+        desk.faults = ["killed"]
+        self.job("AA", f"echo x >> {self.room}/runs")
+        with self.assertRaises(SystemExit), contextlib.redirect_stderr(io.StringIO()):
+            self.agent(desk).step()
+        self.assertEqual((desk.status("AA"), len(desk.log), self.runs()), ("S", 1, []))
+        told = self.until(lambda: desk.status("AA") == "C", self.agent(desk))
+        self.assertNotIn("nothing is touched", told)
+        self.assertEqual((len(desk.log), len(self.runs())), (2, 1))
+
+    def test_a_runner_that_was_killed_before_it_began_the_job_is_begun_again(self):
+        desk = PlainDesk(day_stream({"AA": ""}))
+        self.job("AA", f"echo x >> {self.room}/runs")
+        agent = self.agent(desk)
+        with unittest.mock.patch.object(work.subprocess, "Popen"):  # a runner that ends at once
+            self.until(lambda: desk.status("AA") == "S", agent)
+        self.assertIsNone(record.read(self.logs, 1).began)
+        self.until(lambda: desk.status("AA") == "C", self.agent(desk))
+        self.assertEqual((len(desk.log), len(self.runs())), (2, 1))
+
+    def test_an_agent_that_goes_over_to_another_desk_of_its_log_waits_for_it(self):
+        first, behind = (PlainDesk(day_stream({"AA": "", "BB": ""})) for _ in range(2))
+        watched = watch.Watched(first)
+        first.put("cp-start --app AA --ia 2024-01-01/08.00")
+        watched.refresh()
+        watched.desk = behind
+        with self.assertRaisesRegex(client.Away, "behind entry 1"):
+            watched.refresh()
+        self.assertEqual((watched.position, watched.rows[1].status), (1, "S"))
+        behind.put("cp-start --app AA --ia 2024-01-01/08.00")
+        watched.refresh()
+        behind.life = "another"
+        behind.log.pop()
+        watched.refresh()
+        self.assertEqual(watched.position, 0)
+
+    def test_killed_before_the_statement_it_is_begun_by_the_next_agent(self):
+        desk = PlainDesk(day_stream({"AA": ""}))
+        self.job("AA", f"echo x >> {self.room}/runs")
+        record.write(self.logs, record.Record(1, "AA", "2024-01-01/08.00", "agent-before", 0, None))
+        self.until(lambda: desk.status("AA") == "C", self.agent(desk))
+        self.assertEqual((desk.log[0]["key"], len(desk.log), len(self.runs())), ("agent-before", 2, 1))
+
+    def test_an_old_answer_begins_nothing(self):
+        desk = PlainDesk(day_stream({"AA": ""}))
+        self.job("AA", f"echo x >> {self.room}/runs")
+        desk.keys["agent-before"] = desk.put("cp-start --app AA --ia 2024-01-01/08.00", "agent-before")
+        for statement in ("cp-fail", "cp-reset"):
+            desk.put(f"{statement} --app AA --ia 2024-01-01/08.00")
+        record.write(self.logs, record.Record(1, "AA", "2024-01-01/08.00", "agent-before", 0, None))
+        self.until(lambda: desk.status("AA") == "C", self.agent(desk))
+        self.assertNotEqual(desk.log[3]["key"], "agent-before")
+        self.assertEqual((len(desk.log), len(self.runs())), (5, 1))
+
+    def test_a_runner_that_was_killed_leaves_its_row_alone(self):
+        desk = PlainDesk(day_stream({"AA": ""}))
+        self.job("AA", f"echo $PPID >> {self.room}/runs; sleep 60 & echo $! >> {self.room}/runs; wait")
+        agent = self.agent(desk)
+        self.until(lambda: len(self.runs()) == 2, agent)
+        (runner,), (job,) = self.runs()
+        os.kill(int(runner), signal.SIGKILL)
+        self.addCleanup(os.kill, int(job), signal.SIGKILL)
+        told = self.until(lambda: agent.lost, agent)
+        self.assertIn("left no end; nothing is touched", told)
+        told = self.until(lambda: True, self.agent(desk))
+        self.assertIn("left no end; nothing is touched", told)
+        self.assertEqual((desk.status("AA"), len(desk.log)), ("S", 1))
+
+    def test_an_end_that_was_not_told_is_told_by_the_next_agent(self):
+        desk = PlainDesk(day_stream({"AA": "", "BB": ""}))
+        for name in ("AA", "BB"):
+            self.job(name, f"echo x >> {self.room}/runs; {self.wait}; test {name} = AA")
+        agent = self.agent(desk)
+        self.until(lambda: len(self.runs()) == 2, agent)
+        self.go()
+        self.until(lambda: all(record.read(self.logs, serial).ended for serial in (1, 2)))
+        self.assertEqual(len(desk.log), 2)
+        self.until(lambda: len(desk.log) == 4, self.agent(desk))
+        self.assertEqual((desk.status("AA"), desk.status("BB"), len(self.runs())), ("C", "E", 2))
+
+    def test_an_end_is_told_of_its_own_start_alone(self):
+        desk = PlainDesk(day_stream({"AA": ""}))
+        self.job("AA", f"echo x >> {self.room}/runs; {self.wait}")
+        agent = self.agent(desk)
+        self.until(lambda: self.runs(), agent)
+        for word in ("fail", "reset", "start"):
+            desk.put(f"cp-{word} --app AA --ia 2024-01-01/08.00")
+        self.go()
+        told = self.until(lambda: not agent.records, agent)
+        self.assertIn("the desk isn't told", told)
+        self.assertEqual((desk.status("AA"), len(desk.log), len(self.runs())), ("S", 4, 1))
+
+    def test_an_old_job_that_is_answered_again_hides_no_start(self):
+        desk = PlainDesk(day_stream({"AA": ""}))
+        self.job("AA", f"echo x >> {self.room}/runs; {self.wait}")
+        for job, word in enumerate(("start", "fail", "reset"), 20):
+            desk.put(f"cp-{word} --app AA --ia 2024-01-01/08.00", job=job)
+        agent = self.agent(desk)
+        self.until(lambda: self.runs(), agent)
+        for job, word in enumerate(("start", "fail"), 20):
+            self.assertTrue(desk.put(f"cp-{word} --app AA --ia 2024-01-01/08.00", job=job)["reply"].startswith("ok"))
+        self.go()
+        self.until(lambda: desk.status("AA") == "C", agent)
+        self.assertEqual(len(self.runs()), 1)
+
+    def test_a_limit_ends_the_job_and_what_it_began(self):
+        desk = PlainDesk(day_stream({"AA": ""}))
+        self.job("AA", f"sleep 60 & echo $! >> {self.room}/runs; wait")
+        agent = self.agent(desk)
+        agent.given.limit = 0.5
+        told = self.until(lambda: desk.status("AA") == "E", agent)
+        self.assertIn("by signal 15; it ran longer than 0.5 seconds", told)
+        ((job,),) = self.runs()
+        state = Path(f"/proc/{job}/stat")
+        self.until(lambda: not state.exists() or state.read_text(encoding="utf-8").rpartition(")")[2].split()[0] == "Z")
+
+    def test_what_another_agent_has_is_left_to_it(self):
+        desk = PlainDesk(day_stream({"AA": ""}))
+        self.job("AA", f"touch {self.room}/runs")
+        agent, refresh = self.agent(desk), watch.Watched.refresh
+
+        def slow(watched, since=None):
+            refresh(watched, since)
+            if not desk.log:  # it is started behind what this agent sees
+                desk.put("cp-start --app AA --ia 2024-01-01/08.00")
+
+        with unittest.mock.patch.object(watch.Watched, "refresh", slow):
+            told = self.until(lambda: True, agent)
+        self.assertIn("it isn't started: the desk says `refused 29`", told)
+        self.until(lambda: True, agent)
+        self.assertEqual((len(desk.log), self.runs(), sorted(os.listdir(self.logs))), (2, [], []))
+
+    def test_hostile_names_begin_nothing(self):
+        desk = PlainDesk(day_stream({"AA": ""}))
+        (self.room / "OUT").write_text(f"#!/bin/sh\ntouch {self.room}/runs\n", encoding="utf-8")
+        (self.room / "OUT").chmod(0o755)
+        names = ["../OUT", "/bin/true", "log", "a", "", ".", "AA;true", "AA\nBB", "AA ", "$(true)", "A" * 17, "-AA",
+                 None, 7]
+        rows = [{"serial": 10 + place, "app": name, "ia": "2024-01-01/08.00", "deadline": "2024-01-01/10.00",
+                 "status": "W"} for place, name in enumerate(names)]
+        good = {"serial": 9, "app": "OUT", "ia": "2024-01-01/08.00", "deadline": "2024-01-01/10.00", "status": "W"}
+        rows += [{**good, **odd} for odd in ({"serial": "../x"}, {"serial": 0}, {"ia": "x"}, {"deadline": None},
+                                             {"ia": "2024-01-01/08.00\n"}, {"status": "WW"})]
+        desk.rows = lambda: [*rows, {**good, "app": "LINK"}, {**good, "serial": 8, "app": "FOLDER"},
+                             {**good, "serial": 7, "app": "PLAIN"}, {**good, "serial": 6, "app": "OPEN"}]
+        (self.jobs / "LINK").symlink_to(self.room / "OUT")
+        (self.jobs / "FOLDER").mkdir()
+        (self.jobs / "PLAIN").write_text("true", encoding="utf-8")
+        for name in ("OPEN", "log", "a"):
+            self.job(name, f"touch {self.room}/runs")
+        (self.jobs / "OPEN").chmod(0o757)
+        told = self.until(lambda: True, self.agent(desk))
+        self.assertEqual((desk.log, self.runs(), record.serials(self.logs)), ([], [], []))
+        for name in ("LINK", "FOLDER", "PLAIN", "OPEN"):
+            self.assertEqual(told.count(f"/{name}: "), 1, told)
+
+    def test_who_may_not_read_is_told_why(self):
+        desk = PlainDesk(day_stream({"AA": ""}))
+
+        def request(method, path, *_):
+            if path != "/health":
+                raise client.Refused(401, "a token is wanted")
+            return {}, b'{"status": "ok"}'
+
+        desk.request = request
+        with self.assertRaisesRegex(client.Refused, "a token is wanted"):
+            self.agent(desk).step()
+        for answer in (b"", b"[]", b"<html>", b'{"position": "9"}', b'{"position": null}', b"\xff"):
+            desk.request = lambda *_, answer=answer: ({}, answer)
+            with self.assertRaisesRegex(client.Away, "doesn't answer as a desk does"):
+                self.agent(desk).step()
+
+    def test_a_file_that_can_not_be_run_is_a_failure(self):
+        desk = PlainDesk(day_stream({"AA": ""}))
+        self.job("AA")
+        (self.jobs / "AA").write_text("#!/nowhere/at/all\n", encoding="utf-8")
+        self.assertIn("it can't be run", self.until(lambda: desk.status("AA") == "E", self.agent(desk)))
+
+    def test_what_is_started_by_others_is_told_and_stays(self):
+        desk = PlainDesk(day_stream({"AA": ""}))
+        self.job("AA", f"touch {self.room}/runs")
+        desk.put("cp-start --app AA --ia 2024-01-01/08.00")
+        told = self.until(lambda: True, self.agent(desk))
+        self.assertIn("AA 2024-01-01/08.00 (serial 1) is started, and nothing here tells by whom", told)
+        self.assertEqual(len(desk.log), 1)
+
+
+def has_aiohttp():
+    asked = [DEBIAN, "-c", "import aiohttp"]
+    return os.path.exists(DEBIAN) and not subprocess.run(asked, capture_output=True, check=False).returncode
+
+
+@unittest.skipUnless(plans.PROGRAM.exists(), "opcplan is not built")
+@unittest.skipUnless(has_aiohttp(), "there is no python3-aiohttp")
+class Day(Room):
+    """A real desk, and agents as processes."""
+
+    def begin(self, *words):
+        """A command of ./plan as a process, which ends with the test; what it tells goes to a file."""
+        told = self.room / f"told-{len(list(self.room.glob('told-*')))}"
+        with open(told, "wb") as out:
+            ran = subprocess.Popen([sys.executable, plans.TOP / "plan", *map(str, words)], stdout=out, stderr=out)
+        self.addCleanup(self.end, ran)
+        return ran, told
+
+    def end(self, ran):
+        if ran.poll() is None:
+            ran.terminate()
+            self.assertEqual(ran.wait(PATIENCE), 0)
+
+    def begin_agent(self):
+        return self.begin("agent", "--desk", self.socket, "--jobs", self.jobs, "--logs", self.logs, "--every", "0.1",
+                          "--now", "2024-01-01/12.00", "--most", "3")
+
+    def test_a_day_of_ten_applications_with_agents_that_are_killed(self):
+        self.plan, self.socket = self.room / "plan.db", self.room / "socket"
+        text = day_stream(DAY).encode()
+        subprocess.run([plans.PROGRAM, "--db", self.plan], input=text, check=True, capture_output=True)
+        for name in DAY:
+            self.job(name, f'echo "$@" >> {self.room}/runs; sleep 0.5; [ $1 != CA ]')
+        self.begin("desk", self.plan, "--socket", self.socket, "--program", plans.PROGRAM)
+        self.until(self.socket.exists)
+        agent, _ = self.begin_agent()
+        for count in (2, 4):
+            self.until(lambda count=count: len(self.runs()) >= count)
+            agent.kill()
+            agent.wait()
+            agent, told = self.begin_agent()
+        self.until(lambda: "works for" in told.read_text(encoding="utf-8"))
+        second, told = self.begin_agent()
+        self.assertEqual(second.wait(PATIENCE), 1)
+        self.assertIn("another agent has it", told.read_text(encoding="utf-8"))
+        desk = client.Client(str(self.socket))
+        # CA fails, so CB and DB wait: they are not begun until it is mended
+        wanted = {**dict.fromkeys(DAY, "C"), "CA": "E", "CB": "W", "DB": "W"}
+        self.until(lambda: self.statuses(desk) == wanted)
+        self.job("CA", f'echo "$@" >> {self.room}/runs')
+        desk.statements(b"cp-reset --app CA --ia 2024-01-01/08.06\n", "mended", 0)
+        self.until(lambda: set(self.statuses(desk).values()) == {"C"})
+        self.check(desk)
+
+    def statuses(self, desk):
+        rows = objects(desk.request("GET", "/rows?list=cp")[1])
+        return {row["app"]: row["status"] for row in rows}
+
+    def test_a_token_is_in_no_environment_that_a_job_can_read(self):
+        token = "secret" * 5
+        self.job("AA", f"(cat /proc/$PPID/environ; env) > {self.room}/environ; touch {self.room}/runs")
+        tokens, plan = self.room / "tokens", self.room / "plan.db"
+        tokens.write_text(f"{hashlib.sha256(token.encode()).hexdigest()} agent operate\n", encoding="ascii")
+        subprocess.run([plans.PROGRAM, "--db", plan], input=day_stream({"AA": ""}).encode(), check=True,
+                       capture_output=True)
+        _, told = self.begin("desk", plan, "--listen", "127.0.0.1:0", "--tokens", tokens, "--program", plans.PROGRAM)
+        self.until(lambda: "listening" in told.read_text(encoding="utf-8"))
+        address = re.search("http://[0-9.:]+", told.read_text(encoding="utf-8"))[0]
+        with unittest.mock.patch.dict(os.environ, {"OPCPLAN_TOKEN": token}):
+            agent, _ = self.begin("agent", "--desk", f"http://127.0.0.1:9,{address}", "--jobs", self.jobs, "--logs",
+                                  self.logs, "--now", "2024-01-01/12.00", "--every", "0.1")
+        self.until((self.room / "runs").exists)
+        for text in ((self.room / "environ").read_bytes(), Path(f"/proc/{agent.pid}/environ").read_bytes()):
+            self.assertIn(b"PATH=", text)
+            self.assertNotIn(token.encode(), text)
+
+    def check(self, desk):
+        """The jobs ran as often and in such an order as the journal has it, and the plain planner answers the same."""
+        log = objects(desk.request("GET", "/journal?from=1")[1])
+        planner = plain.Planner()
+        plain.run(day_stream(DAY).encode(), planner)
+        for one in log:
+            self.assertEqual(plain.run(one["statement"].encode() + b"\n", planner), [one["reply"]])
+        starts = [one["statement"].split()[2] for one in log if one["statement"].startswith("cp-start")]
+        self.assertEqual(sorted(starts), sorted([*DAY, "CA"]))
+        self.assertEqual({one["reply"].split()[0] for one in log}, {"ok"})
+        runs = [app for app, _, _ in self.runs()]
+        self.assertEqual(sorted(runs), sorted([*DAY, "CA"]))
+        for app, others in DAY.items():
+            for other in others.split():
+                last = len(runs) - runs[::-1].index(other)
+                self.assertLess(last - 1, runs.index(app), (app, other))
+        # each is said to be started before it begins
+        for app in DAY:
+            serial = next(int(one["reply"].split()[2]) for one in log if one["statement"].split()[2] == app)
+            text = (self.logs / f"{serial:09}.log").read_text(encoding="utf-8")
+            begins = re.findall(r"^== agent: begins .* at (.*)$", text, re.M)
+            said = [one["at"] for one in log if one["statement"].startswith(f"cp-start --app {app} ")]
+            self.assertEqual(len(begins), 2 if app == "CA" else 1)
+            self.assertGreaterEqual(moment_of(begins[-1]), moment_of(said[-1]).replace(microsecond=0))
+
+
+def moment_of(text):
+    return datetime.datetime.fromisoformat(text.replace("Z", "+00:00"))
+
+
+def objects(data):
+    return [json.loads(line) for line in data.decode().splitlines()]
+
+
+class Words(Room):
+    def test_wrong_words_and_folders(self):
+        away = self.room / "nowhere"
+        good = ["--desk", away, "--jobs", self.jobs]
+        for words, status in ((["--jobs", self.jobs], 2), (["--desk", "a/b"], 2), ([*good, "--most", "0"], 2),
+                              (["--desk", "http://", "--jobs", "."], 2), (["--desk", away, "--jobs", away], 1),
+                              ([*good, "--limit", "-1"], 2)):
+            ran = plans.plan("agent", *words)
+            self.assertEqual((ran.returncode, ran.stdout), (status, ""), words)
+            self.assertRegex(ran.stderr, "^plan: [^\n]+\n$")
+        self.jobs.chmod(0o777)
+        ran = plans.plan("agent", "--desk", away, "--jobs", self.jobs)
+        self.assertEqual(ran.returncode, 1)
+        self.assertIn("everybody may write into it", ran.stderr)
+
+
+if __name__ == "__main__":
+    unittest.main()

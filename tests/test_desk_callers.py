@@ -1,0 +1,115 @@
+"""./plan desk: callers who say nothing, hang up, or ask for lists all the time, and what they cost others."""
+
+import contextlib
+import resource
+import threading
+import time
+import unittest
+from contextlib import closing
+
+from support import desks
+
+START = "cp-start --app APP00 --ia 2024-01-01/08.00"
+
+
+@unittest.skipIf(desks.why_not(), desks.why_not())
+class Silent(desks.Case):
+    def test_a_thousand_who_say_nothing_keep_nobody_out(self):
+        soft, hard = resource.getrlimit(resource.RLIMIT_NOFILE)
+        resource.setrlimit(resource.RLIMIT_NOFILE, (min(4096, hard), hard))
+        self.addCleanup(resource.setrlimit, resource.RLIMIT_NOFILE, (soft, hard))
+        desk = self.desk()
+        resource.prlimit(desk.process.pid, resource.RLIMIT_NOFILE, (1024, 1024))
+        with contextlib.ExitStack() as silent:
+            for place in range(1100):
+                text = b"" if place % 2 else b"GET /rows HTTP/1.1\r\nHost: 127"
+                with contextlib.suppress(OSError):  # the oldest have to go
+                    silent.enter_context(closing(desks.raw(desk.port, text)))
+                if place % 100 == 0:
+                    self.assertEqual(desk.asked("GET", "/health")[0], 200)
+            begun = time.monotonic()
+            self.assertEqual(desk.posted(START)[2], "ok serial 1 status S\n")
+            self.assertLess(time.monotonic() - begun, 5 * desks.QUICK)
+        self.end(desk)
+        self.assertLess(len(desk.said), 6, desk.said)
+
+    def test_half_a_header_is_waited_for_ten_seconds(self):
+        desk = self.desk()
+        with closing(desks.raw(desk.port, b"GET /rows HTTP/1.1\r\nHost: 127")) as one:
+            begun = time.monotonic()
+            with contextlib.suppress(ConnectionResetError):
+                self.assertEqual(one.recv(100), b"")
+            self.assertGreater(time.monotonic() - begun, 8)
+            self.assertLess(time.monotonic() - begun, 12 + desks.QUICK)
+        self.end(desk)
+
+    def test_callers_who_hang_up_leave_no_traceback(self):
+        desk = self.desk()
+        host = f"Host: 127.0.0.1:{desk.port}\r\nX-Opcplan: desk\r\n"
+        text = "list cp\n" * 2000
+        for head in (f"POST /statements HTTP/1.1\r\n{host}Content-Length: {len(text)}\r\n\r\n{text}",
+                     f"POST /statements HTTP/1.1\r\n{host}Content-Length: {len(text)}\r\n\r\n{text[:500]}",
+                     f"GET /rows?list=ltp HTTP/1.1\r\n{host}\r\n" * 20, f"GET /snapshot HTTP/1.1\r\n{host}\r\n" * 5,
+                     f"GET /events HTTP/1.1\r\n{host}\r\n", "GET /\x00 HTTP/9\r\n\r\n", "\x16\x03\x01\x00\r\n\r\n"):
+            for _ in range(5):
+                with closing(desks.raw(desk.port, head.encode("latin-1"))) as one:
+                    time.sleep(0.02)
+                    one.setsockopt(desks.socket.SOL_SOCKET, desks.socket.SO_LINGER, b"\1\0\0\0\0\0\0\0")
+        desk.posted(START)
+        self.end(desk)
+        self.assertEqual([line for line in desk.said if "listening" not in line], [])
+
+
+@unittest.skipIf(desks.why_not(), desks.why_not())
+class Reader(desks.Case):
+    """A plan of 29,000 rows, and one who asks for all of them all the time."""
+
+    TEXT = desks.CENTRE.replace(b"--to 2024-01-31", b"--to 2027-12-30")
+    CALLERS, SECONDS = 10, 6
+
+    def test_changes_keep_their_rate(self):
+        """They keep half of it on a machine that does nothing else. What else this one does takes from both, so that
+        less is asked for here; without turns for changes a twentieth was left."""
+        desk = self.desk()
+        desk.open()
+        alone = self.rate(desk)
+        stop = threading.Event()
+        reader = threading.Thread(target=self.read, args=(desk, stop))
+        reader.start()
+        time.sleep(1)
+        beside = self.rate(desk)
+        stop.set()
+        reader.join()
+        self.end(desk)
+        print(f"{alone:.0f} changes a second alone, {beside:.0f} beside {self.lists} lists")
+        self.assertGreater(beside, 0.15 * alone)
+        self.assertGreater(self.lists, 0)
+
+    def read(self, desk, stop):
+        self.lists = 0
+        while not stop.is_set():
+            self.assertGreater(desk.asked("GET", "/rows?list=ltp")[2].count("\n"), 29_000)
+            self.lists += 1
+
+    def rate(self, desk):
+        """Changes in a second, of all callers together."""
+        counts, until = [0] * self.CALLERS, time.monotonic() + self.SECONDS
+
+        def call(number):
+            caller = desks.client.Client(desk.socket)
+            lines = [f"cp-{what} --app APP{number:02} --ia 2024-01-01/08.{number:02}\n"
+                     for what in ("start", "fail", "reset")]
+            while time.monotonic() < until:
+                caller.request("POST", "/statements", lines[counts[number] % 3])
+                counts[number] += 1
+
+        callers = [threading.Thread(target=call, args=(number,)) for number in range(self.CALLERS)]
+        for caller in callers:
+            caller.start()
+        for caller in callers:
+            caller.join()
+        return sum(counts) / self.SECONDS
+
+
+if __name__ == "__main__":
+    unittest.main()

@@ -1,0 +1,144 @@
+"""The table of routes of a desk: who may what, the table of docs/use/DESK.md, and the document for programs."""
+
+import contextlib
+import hashlib
+import http.client
+import json
+import re
+import types
+import unittest
+
+from support import TOP, desks
+
+from opcplan.desk import client, routes, rows
+from opcplan.rules.statements import KINDS, Role
+
+DAY = "2024-01-05"
+VALUES = {"app": "APP01", "name": "A", "from": DAY, "to": DAY, "ia": f"{DAY}/08.00"}
+TOKENS = {role.name.lower(): f"token-{role.name}" for role in Role}
+
+
+def line_of(kind):
+    """A line that is a statement of a kind, without its number, and its data."""
+    word, options = kind.by_word[0] if kind.by_word else (kind.words[0] if kind.words else "", kind.options)
+    given = (f"--{option} {DAY}/00.00" if option == "to" and kind.name.startswith("dp-") else
+             f"--{option} {VALUES[option]}" for option in options if option != "job")
+    return " ".join(filter(None, [kind.name, word, *given])) + ("\n/*\n" if kind.name == "define" else "\n")
+
+
+@unittest.skipIf(desks.why_not(), desks.why_not())
+class Routes(desks.Case):
+    def desk_with_tokens(self):
+        """A desk whose callers by its address have tokens, one for each role."""
+        path = self.room / "tokens"
+        path.write_text("".join(f"{hashlib.sha256(token.encode()).hexdigest()} {name} {name}\n"
+                                for name, token in TOKENS.items()), encoding="ascii")
+        return self.desk("--tokens", str(path))
+
+    @staticmethod
+    def status(connection, method, path, body=None, **heads):
+        """The status of an answer, whose body may have no end."""
+        with contextlib.closing(connection):
+            connection.request(method, path, body, {"X-Opcplan": "desk", **heads})
+            return connection.getresponse().status
+
+    def by_token(self, desk, token, method, path, body=None):
+        """The status for the bearer of a token, or for one without a token."""
+        heads = {"Authorization": f"Bearer {token}"} if token else {}
+        return self.status(http.client.HTTPConnection("127.0.0.1", desk.port, timeout=60), method, path, body, **heads)
+
+    def test_each_route_asks_for_its_role(self):
+        desk = self.desk_with_tokens()
+        for route in routes.ROUTES:
+            body = "list cp\n" if route.body else None
+            for name, token in TOKENS.items():
+                status = self.by_token(desk, token, route.method, route.path, body)
+                self.assertEqual(status in (200, 204), Role[name.upper()] >= route.role, (route.name, name, status))
+            wanted = 200 if route.lesser else 403 if route.is_open else 401
+            for token in (None, "unknown"):
+                self.assertEqual(self.by_token(desk, token, route.method, route.path, body), wanted, route.name)
+            if route.method == "GET":
+                self.assertEqual(self.by_token(desk, TOKENS["read"], "HEAD", route.path),
+                                 405 if route.in_pieces else 200, route.name)
+                self.assertIn(self.by_token(desk, None, "HEAD", route.path), (wanted, 405), route.name)
+            self.assertEqual(self.by_token(desk, TOKENS["plan"], "PUT", route.path), 405)
+        for path in ("/none", "/rows/", "/page", "/page/none", "//rows"):
+            self.assertEqual(self.by_token(desk, None, "GET", path), 401, path)
+            self.assertEqual(self.by_token(desk, TOKENS["read"], "GET", path), 404, path)
+        self.end(desk)
+
+    def test_a_user_without_a_role_is_refused(self):
+        users = self.room / "users"
+        users.write_text("anna read\n", encoding="ascii")
+        desk = self.desk("--users", str(users), "--proxy", desks.own_name(), "--host", "localhost")
+        for route in routes.ROUTES:
+            body = "list cp\n" if route.body else None
+            for name, wanted in (("anna", {200, 204, 401}), ("bert", {200 if route.path == "/health" else 403})):
+                status = self.status(client.BySocket(str(desk.socket), 60), route.method, route.path, body,
+                                     **{"X-Forwarded-User": name})
+                self.assertIn(status, wanted, (route.name, name))
+        self.end(desk)
+
+    def test_each_statement_asks_for_its_role(self):
+        desk = self.desk_with_tokens()
+        for kind in KINDS.values():
+            for name, token in TOKENS.items():
+                status = self.by_token(desk, token, "POST", "/statements", line_of(kind))
+                self.assertEqual(status, 200 if Role[name.upper()] >= kind.role else 403, (kind.name, name))
+        self.end(desk)
+
+    def test_the_document_has_each_route(self):
+        desk = self.desk_with_tokens()
+        status, heads, text = desk.asked("GET", "/openapi.json", Authorization=f"Bearer {TOKENS['read']}")
+        self.assertEqual((status, heads["Content-Type"].split(";")[0]), (200, "application/json"))
+        found = json.loads(text)
+        self.assertRegex(found["openapi"], r"^3\.1\.")
+        self.assertEqual(found["info"]["version"], (TOP / "VERSION").read_text(encoding="utf-8").strip())
+        wanted = {(route.method.lower(), route.path): route for route in routes.ROUTES}
+        told = {(method, path): one for path, item in found["paths"].items() for method, one in item.items()}
+        self.assertEqual(told.keys(), wanted.keys())
+        self.assertEqual(len({one["operationId"] for one in told.values()}), len(told))
+        for key, one in told.items():
+            route = wanted[key]
+            self.assertEqual(one["x-opcplan-role"], route.role.name.lower())
+            own = [("header", "X-Opcplan")] if route.method != "GET" else []
+            self.assertEqual([(said["in"], said["name"]) for said in one["parameters"]],
+                             [(place, name) for place, name, *_ in route.parameters] + own)
+            self.assertEqual("requestBody" in one, bool(route.body))
+            for said in one["parameters"]:
+                re.compile(said["schema"].get("pattern", ""))
+            for answer in one["responses"].values():
+                self.assertTrue(answer["description"])
+            self.by_kind(desk, route, one["responses"])
+        self.end(desk)
+
+    def by_kind(self, desk, route, told):
+        """Asks that a route is answered by a status and in a kind that the document has."""
+        with contextlib.closing(http.client.HTTPConnection("127.0.0.1", desk.port, timeout=60)) as connection:
+            heads = {"X-Opcplan": "desk", "Authorization": f"Bearer {TOKENS['plan']}"}
+            connection.request(route.method, route.path, "list cp\n" if route.body else None, heads)
+            answer = connection.getresponse()
+            kind = (answer.getheader("Content-Type") or "").split(";")[0]
+            self.assertIn(kind, told[str(answer.status)].get("content", {"": {}}), route.name)
+
+    def test_parameters_are_those_that_the_desk_reads(self):
+        (found,) = (route.parameters for route in routes.ROUTES if route.name == "get_rows")
+        self.assertEqual({one.name for one in found if one.place == "query"}, set(rows.WORDS))
+
+    def test_the_page_has_the_same_table(self):
+        text = (TOP / "docs" / "use" / "DESK.md").read_text(encoding="utf-8")
+        table = re.search(r"\| Request \| Role \| Answer \|\n\|[-|]+\|\n((?:\|.*\n)+)", text)[1]
+        told = [[cell.strip() for cell in line.strip("|").split(" | ")] for line in table.splitlines()]
+        wanted = [(f"{route.method} {route.path}", f"{route.role.name.lower()}{', or less' if route.lesser else ''}",
+                   route.answer) for route in routes.ROUTES]
+        self.assertEqual([(asked.strip("`").partition("?")[0], *more) for asked, *more in told], wanted)
+
+    def test_a_handler_that_is_not_in_the_table_is_not_asked(self):
+        resource = types.SimpleNamespace(canonical="/more")
+        request = types.SimpleNamespace(
+            method="GET", match_info=types.SimpleNamespace(route=types.SimpleNamespace(resource=resource)))
+        self.assertRaises(KeyError, routes.of_request, request)
+
+
+if __name__ == "__main__":
+    unittest.main()

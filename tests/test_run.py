@@ -1,0 +1,224 @@
+"""./plan run: what it shows, when it asks, what it runs, and its exit status."""
+
+import os
+import pty
+import re
+import select
+import sqlite3
+import subprocess
+import tempfile
+import time
+import unittest
+from contextlib import closing
+from pathlib import Path
+
+from support import plans
+from support.plans import plain
+
+from test_check import BASE, HOLIDAY
+from test_what_if import table_shown, table_wanted
+
+
+@unittest.skipUnless(plans.PROGRAM.exists(), "opcplan is not built")
+class Run(unittest.TestCase):
+    def setUp(self):
+        room = tempfile.TemporaryDirectory(prefix="run-")
+        self.addCleanup(room.cleanup)
+        self.room = Path(room.name)
+        self.file = plans.copy_of(plans.of_stream(BASE), self.room)
+
+    def asked(self, text, *words, file=None, program=plans.PROGRAM):
+        stream = self.room / "x.in"
+        stream.write_bytes(plans.as_bytes(text))
+        return plans.plan("run", file or self.file, stream, "--program", program, *words, stdin=subprocess.DEVNULL)
+
+    def lists(self, file):
+        """All that a plan's statements show, by opcplan."""
+        asked = b"".join(f"list {what}\n".encode() for what in ("ltp", "cp", "history", "deletions", "links"))
+        ran = subprocess.run([plans.PROGRAM, "--db", file], input=asked, capture_output=True, check=False)
+        return ran.stdout.decode().splitlines()
+
+    def script(self, text):
+        path = self.room / "program"
+        path.write_text(f"#!/bin/sh\n{text}\n", encoding="utf-8")
+        path.chmod(0o755)
+        return path
+
+    def test_it_shows_what_a_calendar_loses_and_runs_as_opcplan_does(self):
+        before = plans.planner_of(BASE)
+        after = before.copy()
+        made, withdrawn = map(int, re.findall("[0-9]+", plain.run(HOLIDAY.encode(), after)[-1]))
+        ran = self.asked(HOLIDAY, "--yes")
+        self.assertEqual((ran.returncode, ran.stderr), (0, ""))
+        self.assertTrue(ran.stdout.startswith("line 1: drops 20 entries of DEFAULT: SAT, SUN, 2026-01-01,"))
+        self.assertIn("    drops 20 entries of DEFAULT: SAT, SUN,", ran.stdout)
+        self.assertIn("    adds 1 entry to DEFAULT: 2026-11-18 FREE\n", ran.stdout)
+        self.assertRegex(ran.stdout, f"\n *{made}  new -> long-term plan\n")
+        self.assertRegex(ran.stdout, f"\n *{withdrawn}  long-term plan -> withdrawn\n")
+        wanted = table_wanted(before, after)
+        table = table_shown(ran.stdout.partition("\n\nok ")[0])
+        self.assertEqual(table[:-1], wanted[:20])
+        self.assertEqual(" ".join(table[-1]), f"and {len(wanted) - 20} more, which `./plan what-if` shows")
+        self.assertTrue(ran.stdout.endswith(f"\n\nok defined 1\nok made {made} withdrawn {withdrawn}\n"))
+        listed = plain.run(b"list ltp\nlist cp\nlist history\nlist deletions\nlist links\n", after.copy())
+        self.assertEqual(self.lists(self.file), listed)
+
+    def test_a_moved_deadline_is_shown(self):
+        text = ("define run-cycles --job 20\nREPORT,MONTHLY,N,MONTH,1,25,2026-01-01,,08.00,1,12.00\n/*\n"
+                "ltp-modify-all --job 21\n")
+        ran = self.asked(text, "--yes")
+        self.assertIn("line 2: moves the deadline of run cycle MONTHLY of REPORT: 16.00 of the same day, then 12.00 of "
+                      "the\n    next day\n", ran.stdout)
+        # the 25th of November is a Wednesday; that of December is free, and rule 1 goes to the 23rd, since the 24th is
+        for day, due in (("2026-11-25", "2026-11-26"), ("2026-12-23", "2026-12-24")):
+            self.assertIn(f"{day} 08.00  long-term plan  long-term plan  {day} 16.00, then {due} 12.00\n", ran.stdout)
+        self.assertIn("2  long-term plan, due or named otherwise\n", ran.stdout)
+
+    def test_refusals_stand_below_their_answers(self):
+        text = "cp-start --app LEDGER --ia 2026-11-03/20.00 --job 20\nlist cp --app SALES\nquit\n"
+        ran = self.asked(text, "--yes")
+        self.assertEqual((ran.returncode, ran.stderr), (4, ""))
+        answers = ran.stdout.partition("\n\nNothing would be different but the jobs that are kept.\n\n")[2]
+        planner = plans.planner_of(BASE).copy()
+        first, *rows, last = plain.run(text.encode(), planner)
+        self.assertEqual((first, last), ("refused 30 4", "refused 10"))
+        self.assertEqual(answers.splitlines(), [
+            first,
+            "    line 1: cp-start --app LEDGER --ia 2026-11-03/20.00 --job 20",
+            "    an occurrence that it waits for isn't complete: serial 4, SALES 2026-11-03 18.00; `./plan why`",
+            "    shows all of them",
+            *rows,
+            last,
+            "    line 3: quit",
+            "    it is no statement: there is no statement `quit`",
+        ])
+
+    def test_without_a_terminal_and_yes_nothing_is_done(self):
+        before = plans.prints(self.file)
+        ran = self.asked(HOLIDAY)
+        self.assertEqual(ran.returncode, 1)
+        self.assertEqual(ran.stderr, "plan: there is no terminal to ask on; --yes runs it without asking: nothing was "
+                                     "done\n")
+        self.assertIn("line 1: drops 20 entries", ran.stdout)
+        self.assertEqual({name: seen for name, seen in plans.prints(self.file).items() if name != "x.in"}, before)
+
+    def test_on_a_terminal_it_asks(self):
+        for answer, status in (("n", 1), ("", 1), ("yes", 0), ("y", 0)):
+            with self.subTest(answer):
+                file = plans.copy_of(plans.of_stream(BASE), self.room, f"{answer or 'none'}.db")
+                before = self.lists(file)
+                (self.room / "x.in").write_text(HOLIDAY, encoding="ascii")
+                shown, ended = self.on_terminal(file, answer)
+                self.assertEqual(ended, status, shown)
+                self.assertIn("Run it? [y/N] ", shown)
+                self.assertEqual(self.lists(file) == before, status == 1)
+                self.assertEqual("nothing was done" in shown, status == 1)
+
+    def on_terminal(self, file, answer):
+        """What is shown on a terminal where the question is answered so, and the exit status."""
+        ours, theirs = pty.openpty()
+        words = [plans.TOP / "plan", "run", file, self.room / "x.in", "--program", plans.PROGRAM]
+        ran = subprocess.Popen(list(map(str, words)), stdin=theirs, stdout=theirs, stderr=theirs)
+        os.close(theirs)
+        shown, is_answered, end = b"", False, time.monotonic() + 120
+        while time.monotonic() < end:
+            if not select.select([ours], [], [], 1)[0]:
+                continue
+            try:
+                more = os.read(ours, 65_536)
+            except OSError:
+                more = b""
+            if not more:
+                break
+            shown += more
+            if b"[y/N] " in shown and not is_answered:
+                os.write(ours, f"{answer}\n".encode())
+                is_answered = True
+        os.close(ours)
+        return shown.decode(), ran.wait(60)
+
+    def test_no_new_file_without_new(self):
+        file = self.room / "plna.db"
+        ran = self.asked(BASE, "--yes", file=file)
+        self.assertEqual((ran.returncode, ran.stdout), (1, ""))
+        self.assertEqual(ran.stderr, f"plan: {file}: there is no such file (is {self.file} meant?); --new makes a new "
+                                     f"plan "
+                                     "there\n")
+        self.assertFalse(file.exists())
+        self.assertEqual(self.asked(BASE, "--new", file=file).returncode, 1)
+        self.assertFalse(file.exists())
+        ran = self.asked(BASE, "--new", "--yes", file=file)
+        self.assertEqual(ran.returncode, 0, ran.stderr)
+        planner = plain.Planner()
+        replies = plain.run(BASE.encode(), planner)
+        self.assertTrue(ran.stdout.endswith("\n".join(["", *replies, ""])), ran.stdout)
+        self.assertEqual(self.lists(file)[-1], f"ok rows {sum(map(len, planner.in_force.values()))}")
+        ran = self.asked(BASE, "--new", "--yes", file=file)
+        self.assertEqual((ran.returncode, ran.stdout), (1, ""))
+        self.assertIn("it is there already; without --new the stream goes on with it", ran.stderr)
+
+    def test_the_program_gets_the_stream_byte_for_byte(self):
+        text = b"* \xc3\xbc\r\nlist cp\r\n\x00\nlist ltp"
+        program = self.script(f'cat > {self.room}/got\necho "$@" > {self.room}/words\n'
+                              f'exec {plans.PROGRAM} "$@" < {self.room}/got')
+        ran = self.asked(text, "--yes", program=program)
+        self.assertEqual(ran.returncode, 4, ran.stderr)
+        self.assertEqual((self.room / "got").read_bytes(), text)
+        self.assertEqual((self.room / "words").read_text(encoding="utf-8"), f"--db {self.file}\n")
+
+    def test_a_plan_that_another_program_holds(self):
+        with closing(sqlite3.connect(self.file)) as db:
+            db.execute("BEGIN")
+            db.execute("SELECT count(*) FROM job").fetchone()
+            ran = self.asked("list cp\n", "--yes")
+        self.assertEqual(ran.returncode, 8)
+        self.assertTrue(ran.stdout.endswith("\nfault 50\n    the file can't be opened or made, or is no plan; nothing "
+                                            "else may "
+                                            "hold it open meanwhile\n"), ran.stdout)
+        self.assertIn("opcplan: fault 50:", ran.stderr)
+
+    def test_a_plan_that_is_written_to_meanwhile(self):
+        program = self.script(f'{plans.PROGRAM} --db {self.file} < {self.room}/other.in > {self.room}/other\n'
+                              f'exec {plans.PROGRAM} "$@"')
+        (self.room / "other.in").write_text("ltp-add --app SALES --ia 2026-12-30/09.00 --job 90\n", encoding="ascii")
+        ran = self.asked(HOLIDAY, "--yes", program=program)
+        self.assertEqual(ran.returncode, 1)
+        self.assertIn("was written to meanwhile; ask again: nothing was done", ran.stderr)
+        self.assertEqual((self.room / "other").read_text(encoding="ascii"), "ok serial 151\n")
+
+    def test_what_cannot_be_run_is_told(self):
+        for words, program in (((), self.room / "none"), ((), self.script("echo hello")), ((), self.script("exit 3"))):
+            before = {name: seen for name, seen in plans.prints(self.file).items() if name == "plan.db"}
+            ran = self.asked("list cp\n", *words, program=program)
+            self.assertEqual(ran.returncode, 1, ran)
+            self.assertRegex(ran.stderr, "^plan: ")
+            self.assertEqual({name: plans.prints(self.file)[name] for name in before}, before)
+        ran = self.asked("list cp\n", "--new", "--yes", file=self.room / "new.db", program=self.script("exit 3"))
+        self.assertEqual((ran.returncode, ran.stdout, (self.room / "new.db").exists()), (1, "", False))
+        self.assertIn("makes no new plan; it ended with status 3", ran.stderr)
+        with open("/dev/full", "w", encoding="ascii") as full:
+            given = [plans.TOP / "plan", "run", self.file, self.room / "x.in", "--program", plans.PROGRAM, "--yes"]
+            (self.room / "x.in").write_text(HOLIDAY, encoding="ascii")
+            ran = subprocess.run(list(map(str, given)), stdout=full, stderr=subprocess.PIPE, check=False,
+                                 encoding="utf-8")
+        self.assertEqual((ran.returncode, ran.stderr.count("\n")), (1, 1))
+        self.assertIn("nothing was done", ran.stderr)
+
+    def test_a_plan_and_a_stream_that_are_exchanged(self):
+        (self.room / "x.in").write_text("list cp\n", encoding="ascii")
+        for name in ("check", "run", "what-if"):
+            ran = plans.plan(name, self.room / "x.in", self.file, "--program", plans.PROGRAM)
+            self.assertEqual((ran.returncode, ran.stdout), (1, ""))
+            self.assertIn(f"it is no plan, and {self.file} may be one: are they exchanged?", ran.stderr)
+
+    def test_a_stream_from_standard_input(self):
+        given = [plans.TOP / "plan", "run", self.file, "-", "--program", plans.PROGRAM]
+        for words, status in (((), 1), (("--yes",), 0)):
+            ran = subprocess.run(list(map(str, (*given, *words))), input="list cp\n", capture_output=True, check=False,
+                                 encoding="utf-8")
+            self.assertEqual(ran.returncode, status, ran.stderr)
+        self.assertTrue(ran.stdout.endswith("ok rows 6\n"), ran.stdout)
+
+
+if __name__ == "__main__":
+    unittest.main()
