@@ -8,7 +8,7 @@ from support import TOP
 PACKAGE = TOP / "python" / "opcplan"
 # from the lowest to the highest; a module imports from its own layer and from those above it in this table
 LAYERS = {
-    "errors": "what several packages raise or catch",
+    "errors": "the one hierarchy of errors",
     "rules": "forms, statements, definitions, refusals, words for them; opens no file",
     "plans": "a plan file and its journal, copies, locks, trials over a copy, and what is made of rows",
     "cli": "words, output, signals and version of a command",

@@ -1,8 +1,6 @@
 """./plan rows: each list and each filter, by the plain planner and stock SQLite."""
 
-import contextlib
 import csv
-import io
 import itertools
 import json
 import random
@@ -13,7 +11,6 @@ from contextlib import closing
 from support import data_centre, plans
 from support.plans import plain
 
-from opcplan.cli import words
 from opcplan.commands import rows
 from opcplan.rules import moments
 
@@ -26,15 +23,8 @@ TOLD = {"waiting": "W", "started": "S", "in error": "E", "complete": "C", "delet
 
 def asked(path, *given):
     """What `./plan rows` answers here: its status, its lines, and what it tells."""
-    parser = words.Parser(prog="plan rows")
-    rows.add_words(parser)
-    out, told = io.StringIO(), io.StringIO()
-    with contextlib.redirect_stdout(out), contextlib.redirect_stderr(told):
-        try:
-            status = rows.run(parser.parse_args([str(path), *given]))
-        except SystemExit as end:
-            status = end.code
-    return status, out.getvalue().splitlines(), told.getvalue()
+    ran = plans.plan_here(rows, path, *given)
+    return ran.returncode, ran.stdout.splitlines(), ran.stderr
 
 
 def held(planner, sets):

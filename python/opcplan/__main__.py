@@ -9,7 +9,7 @@ import sys
 from typing import Protocol, cast
 
 from opcplan.cli import output, signals, version, words
-from opcplan.errors import Unreadable, Unwritable
+from opcplan.errors import Error, WrongWords
 from opcplan.plans import tempfiles
 
 GROUPS = {
@@ -94,24 +94,26 @@ def main(given: list[str]) -> int:
 
         near = naming_words.meant_text(given[0], SUBCOMMANDS) if given else ""
         told = f"there is no subcommand {given[0]!r}{near}" if given else "a subcommand is wanted"
-        words.tell(f"{told}; ./plan --help lists all")
-        return 2
+        raise WrongWords(f"{told}; ./plan --help lists all")
     return ask(given[0], given[1:])
 
 
 def status_of(given: list[str]) -> int:
     """The exit status, with all printed; what isn't done is told in a sentence, and where a defect is, if asked for."""
+    status = 0
     try:
         try:
             status = main(given)
-        except SystemExit as ended:  # help, or wrong words
+        except SystemExit as ended:  # help
             status = int(ended.code or 0)
+        except Error as error:
+            status = ended_by(error)
         sys.stdout.flush()
         return status
     except BrokenPipeError:  # who reads what is printed has enough
-        return 0
-    except (Unreadable, Unwritable) as error:
-        words.tell(str(error))
+        return status
+    except Error as error:
+        return ended_by(error)
     except MemoryError:
         words.tell("memory was refused")
     except OSError as error:
@@ -123,6 +125,12 @@ def status_of(given: list[str]) -> int:
         words.tell(f"this is a defect of ./plan: {what}; with {WITH_TRACEBACK}=1 before it, it tells where")
         return DEFECT
     return 1
+
+
+def ended_by(error: Error) -> int:
+    """Says what isn't done, and why; the exit status."""
+    words.tell(str(error))
+    return error.exit_status
 
 
 def run(given: list[str]) -> None:

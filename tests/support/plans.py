@@ -19,8 +19,9 @@ from pathlib import Path
 
 from support import TOP
 
+from opcplan.__main__ import ended_by
 from opcplan.cli import words as module_words
-from opcplan.errors import Unreadable
+from opcplan.errors import Error
 from opcplan.rules import stream as module_stream
 
 import plain_planner as plain
@@ -132,11 +133,8 @@ def plan_here(module, *words):
     with contextlib.redirect_stdout(out), contextlib.redirect_stderr(told):
         try:
             status = module.run(parser.parse_args([str(word) for word in words]))
-        except SystemExit as ended:
-            status = ended.code
-        except Unreadable as error:
-            module_words.tell(str(error))
-            status = 1
+        except Error as error:
+            status = ended_by(error)
     return subprocess.CompletedProcess(words, status, out.getvalue(), told.getvalue())
 
 

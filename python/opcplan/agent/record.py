@@ -11,6 +11,8 @@ import json
 import os
 import re
 
+from opcplan.errors import Unreadable
+
 FILE = re.compile(r"([0-9]{9})\.run")
 
 
@@ -39,7 +41,7 @@ class Record:
         return self.status == 0 and self.why is None
 
 
-class Faulty(Exception):
+class Faulty(Unreadable):
     """What is wrong with a file of a record."""
 
 

@@ -7,8 +7,8 @@ import sys
 import threading
 
 from opcplan.agent import record, work
-from opcplan.cli import words
 from opcplan.desk import client
+from opcplan.errors import Error, WrongWords
 
 LOCK = ".agent"
 # a token that an agent gives itself
@@ -17,7 +17,7 @@ PIPE = "/dev/fd/"
 LONGEST_REST = 30
 
 
-class Unable(Exception):
+class Unable(Error):
     """Why an agent doesn't begin."""
 
 
@@ -25,25 +25,20 @@ def run(given):
     """Its exit status."""
     given.desk = given.desk or client.usual()
     if given.desk is None:
-        words.tell("agent: --desk is wanted; ./plan agent --help says more")
-        return 2
+        raise WrongWords("agent: --desk is wanted; ./plan agent --help says more")
     try:
         desk = client.Client(given.desk, private_token())
     except client.Wrong as why:
-        words.tell(f"agent: {why}")
-        return 2
+        raise WrongWords(f"agent: {why}") from None
     except OSError as error:
-        words.tell(f"agent: {error.filename}: the token can't be read: {error.strerror}")
-        return 1
+        raise Unable(f"agent: {error.filename}: the token can't be read: {error.strerror}") from None
     try:
         take_folders(given)
         number = locked(given.logs)
     except Unable as why:
-        words.tell(f"agent: {why}")
-        return 1
+        raise Unable(f"agent: {why}") from None
     except OSError as error:
-        words.tell(f"agent: {error.filename}: {error.strerror}")
-        return 1
+        raise Unable(f"agent: {error.filename}: {error.strerror}") from None
     try:
         return watch(given, work.Agent(given, desk))
     finally:
@@ -102,8 +97,7 @@ def watch(given, agent):
             trouble, rest = None, given.every
         except (client.Away, client.Refused, OSError) as why:
             if agent.watched.position is None and isinstance(why, client.Refused) and why.status < 500:
-                work.tell(f"{given.desk}: {why}")
-                return 1
+                raise Unable(f"agent: {given.desk}: {why}") from None
             if str(why) != trouble:
                 trouble = str(why)
                 work.tell(f"{trouble}; it is tried again")

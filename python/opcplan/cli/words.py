@@ -7,6 +7,7 @@ import sys
 from collections.abc import Sequence
 from typing import NoReturn
 
+from opcplan.errors import WrongWords
 from opcplan.rules import hints, moments, printable
 
 CALLED = "./plan"  # by make install as the command is called there
@@ -23,13 +24,12 @@ def tell(message: str) -> None:
 
 
 class Parser(argparse.ArgumentParser):
-    """A parser that tells wrong words in one line and ends with status 2."""
+    """A parser that raises WrongWords, in one line."""
 
     is_mixed = False  # whether options may stand between words that belong together
 
     def error(self, message: str) -> NoReturn:
-        tell(f"{message}; {self.prog} --help says more")
-        raise SystemExit(2)
+        raise WrongWords(f"{message}; {self.prog} --help says more")
 
     def parse_args(  # type: ignore[override]  # argparse has overloads, of which these words are all
         self, args: Sequence[str] | None = None, namespace: argparse.Namespace | None = None

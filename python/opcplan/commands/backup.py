@@ -6,13 +6,14 @@ import os
 import sqlite3
 
 from opcplan.cli import output, words
+from opcplan.errors import Error, Unwritable, WrongWords
 from opcplan.plans import checked_copy, locks, placing, plan_file, tempfiles
 from opcplan.rules import moments, printable
 
 SUMMARY = "a copy of a plan in one file, checked; a run may go on meanwhile"
 
 
-class Refused(Exception):
+class Refused(Error):
     """Why a copy doesn't take its place."""
 
 
@@ -34,8 +35,7 @@ def run(given: argparse.Namespace) -> int:
     """Does what the words ask for; the exit status."""
     target = os.path.realpath(given.file)
     if target in {os.path.realpath(given.plan) + tail for tail in (*plan_file.TAILS, "-shm")}:
-        words.tell(f"{given.file}: that is the plan, or stands beside it; name another file")
-        return 2
+        raise WrongWords(f"{given.file}: that is the plan, or stands beside it; name another file")
     try:
         check_link(given.file)
         check_place(target, given.force)
@@ -43,11 +43,9 @@ def run(given: argparse.Namespace) -> int:
             copy, meta = checked_copy.made(given.plan, folder, given.program)
             put(copy, target, os.path.realpath(given.plan), given.force)
     except (Refused, locks.Held) as why:
-        words.tell(f"{given.file}: {str(why) or 'another program has it open'}")
-        return 1
+        raise Unwritable(f"{given.file}: {why}") from None
     except OSError as error:
-        words.tell(f"{given.file}: it can't be written: {error.strerror}")
-        return 1
+        raise Unwritable(f"{given.file}: it can't be written: {error.strerror}") from None
     print(printable.fit(f"{given.file} is a copy of {given.plan}, checked: {told(meta)}."))
     return 0
 

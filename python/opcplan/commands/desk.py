@@ -9,10 +9,11 @@ import importlib.util
 import ipaddress
 import os
 import sys
+from typing import NoReturn
 
 from opcplan.cli import interpreter, words
 from opcplan.desk import log_words
-from opcplan.errors import Unreadable
+from opcplan.errors import Error, Unreadable, WrongWords
 from opcplan.plans.program import built_program
 
 SUMMARY = "serves one plan to many callers at once, by HTTP, with a journal"
@@ -82,13 +83,12 @@ def seconds(text: str) -> float:
 def run(given: argparse.Namespace) -> int:
     """Does what the words ask for; the exit status."""
     if importlib.util.find_spec("aiohttp") is None:
-        return by_debian()
+        by_debian()
     if given.listen is None and given.socket is None:
         given.listen = address(USUAL)
     if wrong := wrong_words(given):
-        words.tell(wrong)
-        return 2
-    from opcplan.desk import guard, listeners, server, snapshot_fetch, versions
+        raise WrongWords(wrong)
+    from opcplan.desk import server, snapshot_fetch
     from opcplan.plans import journal
 
     given.journal = os.path.realpath(given.journal or journal.beside(given.plan))
@@ -98,12 +98,8 @@ def run(given: argparse.Namespace) -> int:
             snapshot_fetch.take(given.source, given.plan, given.journal)
         check_file(given.plan)
         server.serve(given, program)
-    except (listeners.Unable, guard.Wrong, versions.Unfit) as why:
-        words.tell(str(why))
-        return 1
     except OSError as error:
-        words.tell(f"{error.filename or given.plan}: {error.strerror}")
-        return 1
+        raise Unreadable(f"{error.filename or given.plan}: {error.strerror}") from None
     return 0
 
 
@@ -124,9 +120,8 @@ def check_file(path: str) -> None:
         raise Unreadable(f"{path}: there is no such file; `./opcplan --db` makes a new plan")
 
 
-def by_debian() -> int:
-    """Runs the same words by the Python that Debian's package is for; the exit status where that can't be."""
+def by_debian() -> NoReturn:
+    """Runs the same words by the Python that Debian's package is for. Raises Error where that can't be."""
     if os.path.realpath(sys.executable) != os.path.realpath(DEBIAN) and os.access(DEBIAN, os.X_OK):
         interpreter.run_by(DEBIAN)
-    words.tell(f"desk: {LACKING}")
-    return 1
+    raise Error(f"desk: {LACKING}")

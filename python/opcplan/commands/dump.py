@@ -7,6 +7,7 @@ from collections.abc import Callable, Iterator
 from typing import Any, NamedTuple
 
 from opcplan.cli import words
+from opcplan.errors import Error
 from opcplan.plans import plan_definitions, plan_file
 from opcplan.plans.plan_file import Plan
 from opcplan.rules import definitions, moments
@@ -25,7 +26,7 @@ class Kind(NamedTuple):
     blocks: list[str]
 
 
-class NoRoom(Exception):
+class NoRoom(Error):
     """Its text says what can't be written as statements."""
 
 
@@ -52,8 +53,7 @@ def run(given: argparse.Namespace) -> int:
         try:
             text = stream_of(plan, given.job)
         except NoRoom as lacks:
-            words.tell(f"{given.plan}: {lacks}")
-            return 1
+            raise NoRoom(f"{given.plan}: {lacks}") from None
     sys.stdout.write(text)
     return 0
 

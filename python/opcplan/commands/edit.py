@@ -59,13 +59,9 @@ def add_words(parser: words.Parser) -> None:
 def run(given: argparse.Namespace) -> int:
     """Does what the words ask for; the exit status."""
     with plan_file.opened(given.plan) as plan:
-        try:
-            change = KINDS[given.what].change(plan, plan_definitions.of_plan(plan), given)
-            text, job = edit_change.stream_of(plan, [change], given.job)
-            told = [*change.told, *edit_change.way_into(plan, [change], job)]
-        except edit_change.Unmade as why:
-            edit_words.tell([str(why)])
-            return why.status
+        change = KINDS[given.what].change(plan, plan_definitions.of_plan(plan), given)
+        text, job = edit_change.stream_of(plan, [change], given.job)
+        told = [*change.told, *edit_change.way_into(plan, [change], job)]
     edit_words.tell(told)
     sys.stdout.write(text)
     return 0

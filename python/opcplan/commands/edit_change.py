@@ -5,18 +5,18 @@ from collections.abc import Callable, Mapping, Sequence
 from typing import Any
 
 from opcplan.commands import dump, next_job
-from opcplan.errors import Unreadable
+from opcplan.errors import Error, Unreadable
 from opcplan.plans.plan_file import Plan
 from opcplan.rules import blocks
 from opcplan.rules.moments import moment_text
 
 
-class Unmade(Exception):
-    """Why a change isn't made; `status` is 2 where the words are wrong."""
+class Unmade(Error):
+    """Why a change isn't made; the exit status is 2 where the words are wrong."""
 
-    def __init__(self, text: str, status: int = 1) -> None:
+    def __init__(self, text: str, exit_status: int = 1) -> None:
         super().__init__(text)
-        self.status = status
+        self.exit_status = exit_status
 
 
 @dataclasses.dataclass

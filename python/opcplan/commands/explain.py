@@ -46,8 +46,7 @@ def run(given: argparse.Namespace) -> int:
             with stream_file.opened(given.output, explanations.OF_OUTPUT) as output:
                 lines, refused, answered = explanations.explained(stream.items(text), output, now)
     except explanations.Unlike as why:
-        words.tell(f"{given.output} is no output of {given.stream}: {why}")
-        return 1
+        raise explanations.Unlike(f"{given.output} is no output of {given.stream}: {why}") from None
     count = f"{answered} statement{'' if answered == 1 else 's'}"
     were = "was" if refused == 1 else "were"
     print("\n".join([*lines, f"{refused} of {count} {were} refused." if refused else f"{count}, none refused."]))

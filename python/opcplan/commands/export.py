@@ -14,6 +14,7 @@ from typing import NamedTuple
 from opcplan.cli import words
 from opcplan.commands import export_actual
 from opcplan.commands.export_actual import Ran
+from opcplan.errors import Error, WrongWords
 from opcplan.plans import plan_file
 from opcplan.plans.plan_file import Plan
 from opcplan.rules import moments, printable
@@ -80,19 +81,16 @@ def add_words(parser: words.Parser) -> None:
 def run(given: argparse.Namespace) -> int:
     """Does what the words ask for; the exit status."""
     if given.raw and given.form is not csv_text:
-        words.tell("--raw goes with --csv alone")
-        return 2
+        raise WrongWords("--raw goes with --csv alone")
     if given.now is not None and given.journal is None:
-        words.tell("--now says as of when ends are expected, so it goes with --journal")
-        return 2
+        raise WrongWords("--now says as of when ends are expected, so it goes with --journal")
     form = raw_csv_text if given.raw else given.form
     with plan_file.opened(given.plan) as plan:
         found = occurrences(plan.db, given.sets or USUAL, given.app, given.first, given.last)
         ran = export_actual.of_journal(given.journal, plan, given.now) if given.journal else None
         text = form(plan, found, ran) if found else None
     if text is None:
-        words.tell(f"{given.plan}: it has no such occurrence")
-        return 1
+        raise Error(f"{given.plan}: it has no such occurrence")
     sys.stdout.flush()
     sys.stdout.buffer.write(text.encode())
     return 0

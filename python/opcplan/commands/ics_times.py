@@ -3,12 +3,14 @@
 import datetime
 from typing import Any, Optional
 
+from opcplan.errors import Error
+
 MIDNIGHT = datetime.time()
 LAST_SECOND = datetime.time(23, 59, 59)
 UTC = datetime.timezone.utc
 
 
-class Unfit(Exception):
+class Unfit(Error):
     """Why an event's days aren't taken."""
 
 

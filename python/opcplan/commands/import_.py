@@ -54,16 +54,12 @@ def run(given: argparse.Namespace) -> int:
     if given.ics:
         import_ics.ask_library()
     with plan_file.opened(given.plan) as plan:
-        try:
-            ask_words(given)
-            found = plan_definitions.of_plan(plan)
-            ask_calendar(found, given)
-            changes, told, left = taken(plan, found, given)
-            text, job = edit_change.stream_of(plan, changes, given.job) if changes else ("", 0)
-            told += edit_change.way_into(plan, changes, job)
-        except Unmade as why:
-            edit_words.tell([str(why)])
-            return why.status
+        ask_words(given)
+        found = plan_definitions.of_plan(plan)
+        ask_calendar(found, given)
+        changes, told, left = taken(plan, found, given)
+        text, job = edit_change.stream_of(plan, changes, given.job) if changes else ("", 0)
+        told += edit_change.way_into(plan, changes, job)
     edit_words.tell([*left, *told])
     sys.stdout.write(text)
     return 1 if left or not changes else 0

@@ -6,6 +6,7 @@ import json
 import sys
 
 from opcplan.cli import words
+from opcplan.errors import Error
 from opcplan.plans import journal
 from opcplan.plans.entry import Entry
 from opcplan.rules import moments, printable
@@ -50,8 +51,8 @@ def run(given: argparse.Namespace) -> int:
             else:
                 print(json.dumps(one.values()) if given.json else line_of(one))
     if not found:
-        words.tell("the journal has no such statement")
-    return 0 if found else 1
+        raise Error("the journal has no such statement")
+    return 0
 
 
 def is_asked(one: Entry, given: argparse.Namespace) -> bool:

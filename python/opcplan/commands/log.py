@@ -7,7 +7,7 @@ import os
 from opcplan.cli import words
 from opcplan.commands.desk import by_debian
 from opcplan.desk import log_words
-from opcplan.errors import Unreadable
+from opcplan.errors import Unreadable, WrongWords
 from opcplan.plans.program import built_program
 
 SUMMARY = "shows the log in etcd that several desks share, trims it, begins it, moves its version"
@@ -51,20 +51,15 @@ def kept(text: str) -> int:
 def run(given: argparse.Namespace) -> int:
     """Does what the words ask for; the exit status."""
     if importlib.util.find_spec("aiohttp") is None:
-        return by_debian()
+        by_debian()
     if wrong := log_words.wrong_etcd(given):
-        words.tell(wrong)
-        return 2
+        raise WrongWords(wrong)
     import asyncio  # with log_tool the greater part of what an import of this module would take
 
-    from opcplan.desk import log_tool, versions
+    from opcplan.desk import log_tool
 
-    try:
-        if given.begin and not os.path.isfile(given.begin):
-            raise Unreadable(f"{given.begin}: there is no such file")
-        program = os.path.abspath(given.program or built_program()) if given.version or given.begin else None
-        print("\n".join(asyncio.run(log_tool.done(given, program))))
-    except versions.Unfit as why:
-        words.tell(str(why))
-        return 1
+    if given.begin and not os.path.isfile(given.begin):
+        raise Unreadable(f"{given.begin}: there is no such file")
+    program = os.path.abspath(given.program or built_program()) if given.version or given.begin else None
+    print("\n".join(asyncio.run(log_tool.done(given, program))))
     return 0

@@ -4,6 +4,7 @@ import argparse
 import sqlite3
 
 from opcplan.cli import words
+from opcplan.errors import Error
 from opcplan.plans import plan_file
 
 SUMMARY = "the greatest job number that is used, and one more"
@@ -27,8 +28,7 @@ def run(given: argparse.Namespace) -> int:
     if not given.short:
         print(f"greatest used: {'none' if number == 1 else number - 1}")
     if number > GREATEST:
-        words.tell(f"{given.plan}: the greatest job number, {GREATEST}, is used; lesser ones may be free")
-        return 1
+        raise Error(f"{given.plan}: the greatest job number, {GREATEST}, is used; lesser ones may be free")
     print(number if given.short else f"next: {number}")
     return 0
 

@@ -15,6 +15,7 @@ from collections.abc import Iterator
 
 from opcplan.cli import output, words
 from opcplan.commands import backup
+from opcplan.errors import Unwritable, WrongWords
 from opcplan.plans import checked_copy, locks, placing, plan_file, tempfiles
 from opcplan.rules import printable
 
@@ -40,22 +41,18 @@ def run(given: argparse.Namespace) -> int:
     """Does what the words ask for; the exit status."""
     path = os.path.realpath(given.plan)
     if path == os.path.realpath(given.backup):
-        words.tell(f"{given.plan}: the backup and the plan are one file")
-        return 2
+        raise WrongWords(f"{given.plan}: the backup and the plan are one file")
     if os.path.lexists(path) and not os.path.isfile(path):
-        words.tell(f"{given.plan}: it is no file")
-        return 1
+        raise Unwritable(f"{given.plan}: it is no file")
     with tempfiles.folder("restore-") as folder:
         copy, meta = checked_copy.made(given.backup, folder, given.program)
         try:
             aside = put_back(copy, path, os.path.realpath(given.backup))
         except locks.Held:
-            words.tell(f"{given.plan}: another program has it open; nothing is changed")
-            return 1
+            raise Unwritable(f"{given.plan}: another program has it open; nothing is changed") from None
         except OSError as error:
-            words.tell(f"{given.plan}: the backup can't be put there: {error.strerror}; once that is mended, the same "
-                       "words again")
-            return 1
+            raise Unwritable(f"{given.plan}: the backup can't be put there: {error.strerror}; once that is mended, "
+                             "the same words again") from None
     lines = [f"{given.plan} is {given.backup} now: {backup.told(meta)}."]
     lines += [f"What stood there is {' and '.join(aside)}, in the same folder."] if aside else []
     lines.append("What was answered since the backup isn't in it: run the streams since then again, in their order.")

@@ -8,6 +8,7 @@ import sys
 from opcplan.cli import words
 from opcplan.commands import export, late
 from opcplan.commands.export import Occurrence
+from opcplan.errors import WrongWords
 from opcplan.plans import plan_file, waits
 from opcplan.plans.plan_file import Plan
 from opcplan.rules import moments, printable
@@ -85,8 +86,7 @@ def run(given: argparse.Namespace) -> int:
     """Does what the words ask for; the exit status."""
     wrong = fault_of(given)
     if wrong:
-        words.tell(wrong)
-        return 2
+        raise WrongWords(wrong)
     now = moments.now() if given.now is None else given.now
     with plan_file.opened(given.plan) as plan:
         found = [one for one in asked_for(plan, given) if is_wanted(one, given, now)]

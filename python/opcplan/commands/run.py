@@ -7,7 +7,7 @@ import sys
 
 from opcplan.cli import words
 from opcplan.commands import check, trial_words, what_if
-from opcplan.errors import Unreadable, Unwritable
+from opcplan.errors import Error, Unreadable, Unwritable
 from opcplan.plans import plan_file, stream_file, stream_state, trial
 from opcplan.plans.stream_state import Known
 from opcplan.plans.trial import Trial
@@ -16,7 +16,6 @@ from opcplan.rules.stream import Item
 
 SUMMARY = "checks a stream, shows what it would change, asks, and runs it"
 MOST_ROWS = 20  # of the table of occurrences
-REFUSED_HERE = 1  # nothing was run
 
 
 def add_words(parser: words.Parser) -> None:
@@ -42,14 +41,14 @@ def run(given: argparse.Namespace) -> int:
         try:
             show(tried)
         except (OSError, Unwritable) as error:
-            return nothing_done(f"what would change can't be shown: {why_of(error)}")
+            raise Error(f"what would change can't be shown: {why_of(error)}: nothing was done") from None
         if tried.found.end or tried.status not in trial.SOUND:
             trial_words.tell_end(tried)
-            return nothing_done("the trial didn't come to its end")
-        if not given.yes and not is_wanted():
-            return REFUSED_HERE
+            raise Error("the trial didn't come to its end: nothing was done")
+        if not given.yes:
+            ask()
         if plan_file.stamps(path) != before:
-            return nothing_done(f"{given.plan} was written to meanwhile; ask again")
+            raise Error(f"{given.plan} was written to meanwhile; ask again: nothing was done")
         answers = f"{tried.stream}.out"
         status = trial.done(tried, os.path.abspath(given.plan), answers)
         status = status if status >= 0 else 128 - status
@@ -79,22 +78,13 @@ def show(tried: Trial[check.Checked]) -> None:
     print("\n".join([*check.lines_of(tried.found), printable.text(changed), ""]), flush=True)
 
 
-def is_wanted() -> bool:
-    """Asks on the terminal whether the stream shall be run; where there is none, or the answer isn't yes, says so."""
+def ask() -> None:
+    """Asks on the terminal whether the stream shall be run. Raises Error where the answer is another one than yes."""
     if not (sys.stdin and sys.stdin.isatty() and sys.stderr.isatty()):
-        nothing_done("there is no terminal to ask on; --yes runs it without asking")
-        return False
+        raise Error("there is no terminal to ask on; --yes runs it without asking: nothing was done")
     print("Run it? [y/N] ", end="", file=sys.stderr, flush=True)
-    if sys.stdin.buffer.readline().strip().lower() in (b"y", b"yes"):
-        return True
-    words.tell("nothing was done")
-    return False
-
-
-def nothing_done(why: str) -> int:
-    """Says why nothing was run, and gives the status."""
-    words.tell(f"{why}: nothing was done")
-    return REFUSED_HERE
+    if sys.stdin.buffer.readline().strip().lower() not in (b"y", b"yes"):
+        raise Error("nothing was done")
 
 
 def why_of(error: Exception) -> str:

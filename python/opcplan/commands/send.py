@@ -22,7 +22,7 @@ from typing import NamedTuple
 from opcplan.cli import words
 from opcplan.commands import keys, next_job, rows
 from opcplan.desk import client
-from opcplan.errors import Unreadable, Unwritable
+from opcplan.errors import Error, Unreadable, Unwritable, WrongWords
 from opcplan.plans import entry, locks, plan_definitions, plan_file, stream_file, stream_state
 from opcplan.plans.program import built_program
 from opcplan.rules import explanations, moments, printable, statement_words, statements, stream
@@ -37,8 +37,14 @@ TRIES = 9
 SHORT = (*statements.ACTS, "add")
 
 
-class Refused(Exception):
+class Refused(WrongWords):
     """Why words are not sent."""
+
+
+class Unsent(Error):
+    """Why a stream isn't sent, or what it was answered isn't known here."""
+
+    exit_status = FAILED
 
 
 class Line(NamedTuple):
@@ -101,20 +107,16 @@ def run(given: argparse.Namespace) -> int:
     """Does what the words ask for; the exit status."""
     until = time.monotonic() + given.wait
     if given.db is None and given.desk is None:
-        words.tell("one of --desk and --db is wanted; ./plan send --help says more")
-        return 2
+        raise WrongWords("one of --desk and --db is wanted; ./plan send --help says more")
     try:
         line = line_of(with_key(given.db, parts(given.words))) if given.words else None
         desk = client.Client(given.desk, client.token()) if given.db is None else None
-    except (Refused, client.Wrong) as why:
-        words.tell(f"{why}; nothing was sent")
-        return 2
+    except WrongWords as why:
+        raise WrongWords(f"{why}; nothing was sent") from None
     except Unreadable as why:
-        words.tell(f"{why}; nothing was sent")
-        return FAILED
+        raise Unsent(f"{why}; nothing was sent") from None
     except OSError as error:
-        words.tell(f"{error.filename}: the token can't be read: {error.strerror}; nothing was sent")
-        return FAILED
+        raise Unsent(f"{error.filename}: the token can't be read: {error.strerror}; nothing was sent") from None
     if desk is not None:
         return run_by_desk(given, desk, line, until)
     try:
@@ -127,14 +129,13 @@ def run(given: argparse.Namespace) -> int:
         else:
             text, ran, told = sent_in_turn(program, given.db, line, until)
     except Refused as why:
-        words.tell(f"{why}; nothing was sent")
-        return 2
-    except (Unreadable, locks.Held) as why:
-        words.tell(str(why) or f"{given.db}: another program sends to it all the while; nothing was sent")
-        return FAILED
+        raise Refused(f"{why}; nothing was sent") from None
+    except Unreadable as why:
+        raise Unsent(str(why)) from None
+    except locks.Held:
+        raise Unsent(f"{given.db}: another program sends to it all the while; nothing was sent") from None
     except OSError as error:
-        words.tell(f"{error.filename or 'standard input'}: {error.strerror}; nothing was sent")
-        return FAILED
+        raise Unsent(f"{error.filename or 'standard input'}: {error.strerror}; nothing was sent") from None
     return shown(text, ran, told=told)
 
 
@@ -162,17 +163,14 @@ def run_by_desk(given: argparse.Namespace, desk: client.Client, line: Line | Non
         text = text_sent() if line is None else f"{line.text}\n".encode("ascii")
         answer = desk.statements(text, used, until)
     except Unreadable as why:
-        words.tell(str(why))
-        return FAILED
+        raise Unsent(str(why)) from None
     except client.Refused as why:
-        words.tell(f"{desk.name}: {why}")
-        return FAILED
+        raise Unsent(f"{desk.name}: {why}") from None
     except client.Away as why:
         told = f"send it again with `--key {used}`, and nothing is done twice"
         if "may be done all the same" not in str(why):
             told = f"it may be done all the same: {told}"
-        words.tell(f"{why}; {told if why.may_be_done else 'nothing was sent'}")
-        return FAILED
+        raise Unsent(f"{why}; {told if why.may_be_done else 'nothing was sent'}") from None
     return shown(text, subprocess.CompletedProcess([], 4 if has_refusals(answer) else 0, answer, b""), used)
 
 
@@ -320,9 +318,8 @@ def shown(text: bytes, ran: Ran, used: str | None = None, told: list[str] | None
         sys.stdout.buffer.write(ran.stdout)
         sys.stdout.buffer.flush()
     except (OSError, Unwritable) as error:
-        words.tell(f"the replies can't be printed: {error}; what was sent was answered, so send it again with "
-                   f"{'`--key ' + used + '`' if used else 'its job numbers'}, and nothing is done twice")
-        return FAILED
+        raise Unsent(f"the replies can't be printed: {error}; what was sent was answered, so send it again with "
+                     f"{'`--key ' + used + '`' if used else 'its job numbers'}, and nothing is done twice") from None
     with contextlib.suppress(OSError):
         said = [printable.fit(line) for line in ran.stderr.decode(errors="surrogateescape").splitlines()]
         said += refusal_lines(text, ran.stdout, items_of if used else stream.items) if told is None else told

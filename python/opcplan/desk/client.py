@@ -11,17 +11,19 @@ import socket
 import time
 import urllib.parse
 
+from opcplan.errors import Error, WrongWords
+
 # of one answer, in seconds; and where another desk can be asked
 PATIENCE, PATIENCE_OF_MANY = 300, 30
 SHORTEST_REST, LONGEST_REST = 0.05, 2.0
 BETWEEN = re.compile(r",(?=https?://|/)")
 
 
-class Wrong(Exception):
+class Wrong(WrongWords):
     """What is wrong with the name of a desk."""
 
 
-class Away(Exception):
+class Away(Error):
     """Why there is no whole answer; `may_be_done` tells whether the stream may have been taken all the same."""
 
     def __init__(self, text, may_be_done):
@@ -29,7 +31,7 @@ class Away(Exception):
         self.may_be_done = may_be_done
 
 
-class Refused(Exception):
+class Refused(Error):
     """Why a desk does nothing of what it was asked, in its words, with HTTP's status."""
 
     def __init__(self, status, text):

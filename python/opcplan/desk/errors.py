@@ -1,7 +1,9 @@
 """Why a desk doesn't take a statement."""
 
+from opcplan.errors import Error
 
-class Refused(Exception):
+
+class Refused(Error):
     """Why a statement isn't taken, with HTTP's status."""
 
     def __init__(self, status, text):

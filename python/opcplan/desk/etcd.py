@@ -9,6 +9,7 @@ import time
 import aiohttp
 
 from opcplan.desk.log_entries import in_base64, of_base64
+from opcplan.errors import Error
 
 # how long one call may take, in seconds
 CALL = 2.0
@@ -19,11 +20,11 @@ STALE_LOGIN = ("invalid auth token", "user name is empty", "revision of auth sto
 MOST_OF_A_WATCH, MOST_TOLD = 1 << 20, 300
 
 
-class Away(Exception):
+class Away(Error):
     """Why no node answers; what was asked may be done all the same."""
 
 
-class Wrong(Exception):
+class Wrong(Error):
     """What etcd says against a call: nothing was done."""
 
     def __init__(self, code, text):

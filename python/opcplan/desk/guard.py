@@ -14,6 +14,7 @@ import weakref
 from aiohttp import web
 
 from opcplan.desk import peers, routes
+from opcplan.errors import Error
 from opcplan.rules.statements import Role
 
 READ, OPERATE, PLAN = Role.READ, Role.OPERATE, Role.PLAN
@@ -25,7 +26,7 @@ MOST_SESSIONS = 10_000
 EVERYONE, NOBODY = "*", "nobody"
 
 
-class Wrong(Exception):
+class Wrong(Error):
     """What is wrong with a file of users or tokens."""
 
 

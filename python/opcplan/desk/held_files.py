@@ -4,10 +4,11 @@ import contextlib
 import os
 from collections.abc import Iterator
 
+from opcplan.errors import Error
 from opcplan.plans import locks
 
 
-class Moved(Exception):
+class Moved(Error):
     """Another file has the place of one of a desk's files, or none."""
 
 

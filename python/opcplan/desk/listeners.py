@@ -5,8 +5,10 @@ import os
 import socket
 import stat
 
+from opcplan.errors import Error
 
-class Unable(Exception):
+
+class Unable(Error):
     """Why a desk doesn't begin."""
 
 

@@ -7,7 +7,7 @@ import abc
 import asyncio
 from concurrent.futures import ThreadPoolExecutor
 
-from opcplan.errors import LogUnwritable
+from opcplan.errors import Error, LogUnwritable
 
 # how many changes are appended together, at most
 MOST_TOGETHER = 64
@@ -17,11 +17,11 @@ class Unsure(LogUnwritable):
     """Why it isn't known whether a batch stands in the log: who sends it again under its key finds out."""
 
 
-class Behind(Exception):
+class Behind(Error):
     """What others appended comes before the batch; nothing of the batch stands in the log."""
 
 
-class Used(Exception):
+class Used(Error):
     """Keys of a batch stand for entries already, by the place in the batch: an Entry, or None where it is another
     statement's. Nothing of the batch stands in the log."""
 

@@ -13,6 +13,7 @@ import tempfile
 import time
 
 from opcplan.desk import state
+from opcplan.errors import Error
 
 PROBE = b"desk-opens\n"  # no statement: `refused 10` tells that the plan is open
 OPEN = b"refused 10\n"
@@ -33,7 +34,7 @@ LONGEST_END = 60.0
 LIMIT = 60.0
 
 
-class Stopped(Exception):
+class Stopped(Error):
     """Why the planner answers nothing for now."""
 
 

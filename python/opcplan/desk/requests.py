@@ -3,14 +3,14 @@
 import dataclasses
 import io
 
-from opcplan.errors import Unreadable
+from opcplan.errors import Error, Unreadable
 from opcplan.plans import entry
 from opcplan.rules import statements, stream
 
 MOST_STATEMENTS = 100_000
 
 
-class Wrong(Exception):
+class Wrong(Error):
     """Why a stream isn't taken; nothing of it is done."""
 
 

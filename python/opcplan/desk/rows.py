@@ -4,6 +4,7 @@ import functools
 import json
 import re
 
+from opcplan.errors import Error
 from opcplan.rules import columns, moments
 
 # by list and name: where a field begins and ends in a line
@@ -15,7 +16,7 @@ MOMENTS = {name for name, form in FORMS if form is columns.Form.MOMENT}
 WORDS = ("list", "app", "from", "to", "status", "fresh")
 
 
-class Wrong(Exception):
+class Wrong(Error):
     """Why rows aren't shown."""
 
 

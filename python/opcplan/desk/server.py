@@ -242,7 +242,7 @@ def serve(given, program):
             with files.locked():
                 asyncio.run(served(given, program, the_guard, files))
         except locks.Held as held:
-            path = given.plan if str(held) == files.plan else given.journal
+            path = given.plan if held.path == files.plan else given.journal
             raise Unable(f"{path}: another desk has it") from None
 
 

@@ -18,6 +18,7 @@ import re
 from collections.abc import Iterable, Sequence
 from typing import Generic, NamedTuple, Protocol, TypeVar
 
+from opcplan.errors import Error
 from opcplan.plans.chain import chained
 from opcplan.plans.entry import Entry
 
@@ -82,7 +83,7 @@ class Claim(NamedTuple):
     users: int
 
 
-class Broken(Exception):
+class Broken(Error):
     """An invariant that doesn't hold: the desk can't go on."""
 
 

@@ -4,11 +4,13 @@ import contextlib
 import os
 import subprocess
 
+from opcplan.errors import Error
+
 # seconds in which opcplan says which version it is
 LONGEST = 30
 
 
-class Unfit(Exception):
+class Unfit(Error):
     """Why a plan and a log don't go together, and what to do."""
 
 

@@ -5,6 +5,7 @@ import os
 from collections.abc import Iterable, Set
 from typing import TYPE_CHECKING
 
+from opcplan.errors import Error
 from opcplan.plans.entry import Entry
 
 if TYPE_CHECKING:
@@ -17,7 +18,7 @@ TABLE = """CREATE TABLE IF NOT EXISTS of_plan (
     path TEXT NOT NULL, device INTEGER NOT NULL, inode INTEGER NOT NULL, jobs TEXT NOT NULL)"""
 
 
-class Strange(Exception):
+class Strange(Error):
     """Why a journal and a plan don't belong together."""
 
 

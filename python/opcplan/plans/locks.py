@@ -9,6 +9,8 @@ import struct
 import time
 from collections.abc import Iterator
 
+from opcplan.errors import Error
+
 # SQLite's pending, reserved and shared bytes: a run holds them all, a reader one
 OF_A_RUN = (1 << 30, 512)
 # bytes behind them, which SQLite never locks
@@ -17,8 +19,12 @@ OF_A_DESK = ((1 << 30) + 513, 1)
 REST = 0.05
 
 
-class Held(Exception):
-    """Another program has the lock."""
+class Held(Error):
+    """Another program has the lock, perhaps that of a file whose path is known."""
+
+    def __init__(self, path: str = "") -> None:
+        super().__init__(f"{path}: another program has it open" if path else "another program has it open")
+        self.path = path
 
 
 @contextlib.contextmanager

@@ -12,7 +12,7 @@ import time
 from collections.abc import Iterator
 from typing import NamedTuple
 
-from opcplan.errors import Unreadable
+from opcplan.errors import Error, Unreadable
 from opcplan.plans import page_sums, sound_pairs, sound_rows, tempfiles
 
 VERSIONS = (1, 2)  # of the tables, those that are read
@@ -106,7 +106,7 @@ def check_room(path: str, folder: str) -> None:
         raise Unreadable(f"a private copy of it takes {wanted:,} bytes, and {where} has {free:,} free")
 
 
-class NotAPlan(Exception):
+class NotAPlan(Error):
     """Why a database is no plan that is read here."""
 
 

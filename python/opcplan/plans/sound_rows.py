@@ -6,6 +6,7 @@ import sqlite3
 from collections.abc import Iterable, Mapping
 from typing import NamedTuple
 
+from opcplan.errors import Error
 from opcplan.rules import definitions, printable
 
 FIRST_MOMENT, LAST_MOMENT = definitions.FIRST_DAY * 1440, (definitions.LAST_DAY + 1) * 1440 - 1
@@ -206,7 +207,7 @@ REPLY = re.compile(
 )
 
 
-class Unsound(Exception):
+class Unsound(Error):
     """Which rule the rows of a plan don't keep."""
 
 

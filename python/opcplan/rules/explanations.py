@@ -4,6 +4,7 @@ import re
 import textwrap
 from collections.abc import Callable, Iterable, Iterator
 
+from opcplan.errors import Error
 from opcplan.rules import printable, refusals, statements, stream
 from opcplan.rules.known import Known
 from opcplan.rules.stream import Item, Source
@@ -21,7 +22,7 @@ FAULTS = {
 OF_OUTPUT, MOST_OF_ANSWER = stream.Bounds(1 << 30, 10_000_000), 200
 
 
-class Unlike(Exception):
+class Unlike(Error):
     """Why an output can't be that of a stream."""
 
 

@@ -4,6 +4,7 @@ import re
 from collections.abc import Callable, Mapping, Sequence
 from typing import Any
 
+from opcplan.errors import Error
 from opcplan.rules import hints, moments
 from opcplan.rules.definitions import Application, Calendar, Due, Entry, Period, RunCycle, WEEKDAYS
 
@@ -12,7 +13,7 @@ Seen = Mapping[Key, int]  # by that the number of its record
 FIRST_AND_LAST = "from 1972-01-01 to 2071-12-31"
 
 
-class Wrong(Exception):
+class Wrong(Error):
     """What is wrong with a field, or with the record where `field` is empty."""
 
     def __init__(self, field: str, text: str) -> None:

@@ -6,6 +6,7 @@ import re
 from collections.abc import Iterable, Mapping, Sequence
 from typing import Any
 
+from opcplan.errors import Error
 from opcplan.rules import hints, moments, statements
 
 Value = Any  # of an option: a number, a day, a moment or a text, as its form says
@@ -61,7 +62,7 @@ class Statement:
         return f"{self.name.removesuffix('trial')}{self.alone}" if self.name.endswith("-trial") else self.name
 
 
-class Wrong(Exception):
+class Wrong(Error):
     """Why words are no statement."""
 
 
