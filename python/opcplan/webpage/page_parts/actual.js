@@ -43,20 +43,22 @@ function endedLine([i, past]) {
 const goingLine = i => line(i, 'due ' + at(due[i]),
   ['expected to end ' + endText(D.actual.expected[i]) + pastText(i, D.actual.expected[i][1])]);
 
+const listed = (...given) => h('div', {}, list(...given));
+
 /** What ended late or is going to, and the chain that decides the end, where there is a journal. */
 function drawEnds() {
   if (!D.actual) return;
   const { going, ended, chain, hours } = D.actual;
   const goingWanted = going.filter(isWanted), endedWanted = ended.filter(one => isWanted(one[0]));
   const box = [
-    list('Going to end late', goingWanted, goingLine,
+    listed('Going to end late', goingWanted, goingLine,
       none('Nothing that is in time is going to end late.', 'None of these is going to end late.'), 8),
-    list('Ended late in the ' + hours + ' hours before', endedWanted, endedLine,
+    listed('Ended late in the ' + hours + ' hours before', endedWanted, endedLine,
       none('Nothing ended late.', 'None of these ended late.'), 8),
   ];
   if (chain.length) {
     const last = D.actual.expected[chain[chain.length - 1]];
-    box.push(list('All is expected to be done ' + endText(last) + ', by this chain', chain, chainLine, '', 12));
+    box.push(listed('All is expected to be done ' + endText(last) + ', by this chain', chain, chainLine, '', 12));
   }
-  fill('#ends', box.flat());
+  fill('#ends', box);
 }

@@ -59,11 +59,9 @@ function drawApp(k) {
 
 function showApp(k) {
   view.app = k;
-  document.body.classList.add('chosen');
-  $('#card').classList.remove('idle');
-  $('#card').scrollTop = 0;
   const isInCard = $('#card').contains(document.activeElement);
-  drawApp(k);
+  keepHeight(showCard);
+  $('#card').scrollTop = 0;
   if (isInCard) $('#card').focus({ preventScroll: true });
   say(D.apps[k][0] + ', ' + statusOf(D.apps[k][1]));
 }

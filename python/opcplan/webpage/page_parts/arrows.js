@@ -1,25 +1,42 @@
 // The arrows of the day, in one picture over its rows: all faintly, those of a row that is looked at strongly.
 const MOST_ARROWS = 400;
-const laid = { box: null, lineOf: new Map(), buttons: new Map(), picked: null, note: null };
+const laid = { box: null, lineOf: new Map(), buttons: new Map(), folds: new Map(), picked: null, note: null };
 
 /** Lays the picture over the rows, with the line of now. */
 function layArrows(box, drawn) {
   const note = h('p', { class: 'note-below quiet' });
-  Object.assign(laid, { box, lineOf: new Map(), buttons: new Map(), picked: s('g', { class: 'pairs' }), note });
+  Object.assign(laid, { box, lineOf: new Map(), buttons: new Map(), folds: new Map(), note });
+  laid.picked = s('g', { class: 'pairs' });
   $('#lines .pane').append(note);
-  drawn.forEach((line, n) => { if (typeof line === 'number') laid.lineOf.set(line, n); });
-  box.querySelectorAll('.row[data-i]').forEach(button => laid.buttons.set(+button.dataset.i, button));
+  const rows = [...box.querySelectorAll('.row')];
+  drawn.forEach((line, n) => {
+    if (typeof line !== 'number') return line.key.startsWith('runs ') && foldArrows(line, n, rows[n]);
+    laid.lineOf.set(line, n);
+    laid.buttons.set(line, rows[n]);
+  });
   const isNow = D.now >= view.from && D.now < view.from + DAY, x = share(D.now) + '%';
   box.append(h('li', { class: 'overlay', 'aria-hidden': 'true' }, s('svg', {},
     s('g', { class: 'pairs all' }, allArrows()), laid.picked,
     isNow ? s('line', { class: 'now', x1: x, x2: x, y1: '0', y2: '100%' }) : '')));
 }
 
+/** The arrows of runs that are one line lead to that line. */
+function foldArrows({ key, rows }, n, button) {
+  if (view.opened.has(key)) return;
+  for (const i of rows) {
+    laid.lineOf.set(i, n);
+    laid.folds.set(i, button);
+  }
+}
+
+const isArrow = (row, successor) => laid.lineOf.has(row) && laid.lineOf.has(successor) &&
+  laid.lineOf.get(row) !== laid.lineOf.get(successor);
+
 function allArrows() {
   const pairs = [];
   if (!view.arrows) return pairs;
   for (const successor of laid.lineOf.keys()) {
-    for (const row of before.get(successor) || []) if (laid.lineOf.has(row)) pairs.push([row, successor]);
+    for (const row of before.get(successor) || []) if (isArrow(row, successor)) pairs.push([row, successor]);
   }
   if (pairs.length <= MOST_ARROWS) return pairs.map(([row, successor]) => arrow(row, successor));
   laid.note.textContent = pairs.length + ' arrows are too many to be drawn: those of a row that is looked at are.';
@@ -40,17 +57,18 @@ function arrow(row, successor, look) {
 /** Shows the arrows of a row, and marks the rows of its chain. */
 function showArrows(i) {
   if (view.graph) return showNode(i);
-  for (const button of laid.buttons.values()) button.classList.remove('on', 'up', 'down');
+  for (const button of [...laid.buttons.values(), ...laid.folds.values()]) button.classList.remove('on', 'up', 'down');
   laid.picked.replaceChildren();
   if (i < 0 || !laid.buttons.has(i)) return;
   const up = walk(i, before), down = walk(i, after), chain = new Set([i, ...up, ...down]);
   laid.buttons.get(i).classList.add('on');
-  for (const row of up) laid.buttons.get(row)?.classList.add('up');
-  for (const row of down) laid.buttons.get(row)?.classList.add('down');
+  const buttonOf = row => laid.buttons.get(row) || laid.folds.get(row);
+  for (const row of up) buttonOf(row)?.classList.add('up');
+  for (const row of down) buttonOf(row)?.classList.add('down');
   const drawn = [];
   for (const successor of chain) {
     for (const row of before.get(successor) || []) {
-      if (!chain.has(row) || !laid.lineOf.has(row) || !laid.lineOf.has(successor)) continue;
+      if (!chain.has(row) || !isArrow(row, successor)) continue;
       drawn.push([row, successor, row === i || successor === i ? 'own' : 'far']);
     }
   }

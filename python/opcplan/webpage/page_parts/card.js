@@ -51,7 +51,7 @@ function goesByEarlier(i) {
 }
 
 const pair = (term, ...text) => [h('dt', {}, term), h('dd', {}, text)];
-const close = () => tool('close', 'Close', () => choose(-1), { class: 'shut', 'aria-label': 'Close (Escape)' });
+const close = () => tool('close', 'Close', shut, { class: 'shut', 'aria-label': 'Close (Escape)' });
 
 function dueNote(i) {
   if (due[i] < ia[i]) return ' (before it arrives)';
@@ -81,19 +81,20 @@ function drawCard(i) {
 }
 
 const SIGNS = [['E', 'in error'], ['S', 'started'], ['R', 'ready: arrived, nothing in its way'],
-  ['B', 'blocked by what it waits for'], ['F', 'its time is to come'], ['C', 'complete'], ['H', 'complete, in history'],
+  ['B', 'blocked by what it waits for'], ['F', 'waits for its time, which is to come'], ['C', 'complete'], ['H', 'complete, in history'],
   ['L', 'planned, not yet in the current plan'], ['D', 'deleted or withdrawn']];
 const KEYS = [['/', 'find an application'], ['↑ ↓', 'rows of the day, cells of the month'],
-  ['← →', 'twelve hours back or on'], ['n', 'now'], ['t', 'next in trouble'],
-  ['g', 'the day as rows or as a graph'],
+  ['← →', 'twelve hours back or on'], ['n', 'now'], ['t', 'next in trouble: first in error, then late'],
+  ['g', 'the day as rows or as a graph'], ['?', 'signs and keys'],
   ['Enter', 'choose; once more: its card'], ['Esc', 'close']];
 
 function drawLegend() {
-  fill('#card', h('h2', {}, 'Choose a row'),
-    h('p', { class: 'quiet' }, 'It then shows what it waits for, down to the root, and what waits for it.'),
+  fill('#card', close(), h('h2', {}, 'Signs and keys'),
+    h('p', { class: 'quiet' }, 'Choose a row: its card shows what it waits for, down to the root, and what waits for it.'),
     h('h3', {}, 'Signs'), h('ul', { class: 'signs' }, SIGNS.map(([key, text]) =>
-      h('li', {}, h('span', { class: 'b ' + key, 'aria-hidden': 'true' }, LETTER[key] || key), text))),
-    h('p', { class: 'quiet' }, 'A box goes from input arrival to deadline; a line after it tells how long it is late.'),
+      h('li', {}, sign(key), text))),
+    h('p', { class: 'quiet' }, 'A box goes from input arrival to deadline; a line after it tells how long it is late. ' +
+      'In the lists of opcplan R, B and W are one status, W.'),
     h('h3', {}, 'Keys'), h('ul', { class: 'signs' }, KEYS.map(([key, text]) => h('li', {}, h('kbd', {}, key), text))));
 }
 
@@ -106,22 +107,56 @@ function address(i) {
   }
 }
 
+/** Draws the card: of the chosen row or application, else the signs and keys where they are asked for. */
+function showCard() {
+  const isChosen = view.pick >= 0 || view.app >= 0, isOpened = isChosen || view.help;
+  document.body.classList.toggle('chosen', isOpened);
+  $('#card').classList.toggle('idle', !isOpened);
+  $('#help').setAttribute('aria-expanded', String(view.help && !isChosen));
+  if (view.app >= 0) drawApp(view.app);
+  else if (view.pick >= 0) drawCard(view.pick);
+  else if (view.help) drawLegend();
+  else fill('#card');
+}
+
+/** Closes the card, whatever it shows; the focus goes back to what opened it. */
+function shut() {
+  const isHelp = view.help && view.pick < 0 && view.app < 0;
+  if (isHelp) showHelp(false); else choose(-1);
+}
+
+/** Shows the signs and keys, or puts them away. */
+function showHelp(isShown) {
+  if (view.pick >= 0 || view.app >= 0) choose(-1);
+  view.help = isShown;
+  showCard();
+  (isShown ? $('#card') : $('#help')).focus({ preventScroll: true });
+}
+
+/** Runs what draws anew, and keeps what has the focus at its height on the screen. */
+function keepHeight(draw) {
+  const height = () => document.activeElement === document.body ? 0 : document.activeElement.getBoundingClientRect().top;
+  const mark = () => document.activeElement.dataset.i ?? document.activeElement.id, [old, name] = [height(), mark()];
+  draw();
+  if (mark() === name && height() !== old) scrollBy({ top: height() - old, behavior: 'instant' });
+}
+
 /** Chooses a row, or none. */
 function choose(i, isQuiet) {
   const old = view.pick;
-  Object.assign(view, { pick: i, app: -1 });
+  Object.assign(view, { pick: i, app: -1, help: i < 0 && view.help && old < 0 });
   if (i < 0 && view.kind === 'chain') view.kind = 'open';
   if (i >= 0 && view.kind !== 'chain' && !KINDS[view.kind](i)) view.kind = 'all';
   view.reveal = true;
   const isDrawn = view.graph && laid.buttons.has(i);
   if (i >= 0 && isOutside(i) && !isDrawn) view.from = dayOf(ia[i]) * DAY;
   if (!isQuiet) address(i);
-  document.body.classList.toggle('chosen', i >= 0);
-  $('#card').classList.toggle('idle', i < 0);
-  $('#card').scrollTop = 0;
   const isInCard = $('#card').contains(document.activeElement);
-  if (i < 0) drawLegend(); else drawCard(i);
-  keepFocus(drawDay);
+  keepHeight(() => {
+    showCard();
+    keepFocus(drawDay);
+  });
+  $('#card').scrollTop = 0;
   if (isInCard && i >= 0) $('#card').focus({ preventScroll: true });
   if (isInCard && i < 0) (laid.buttons.get(old) || $('.row, .node'))?.focus();
   markCurrent('.go', i);

@@ -79,20 +79,37 @@ function drawDayTools(counts) {
 
 const isoDay = day => dateOf(day * DAY).toISOString().slice(0, 10);
 
-function axis() {
-  const from = view.from, to = from + DAY, isNow = D.now >= from && D.now < to, isNarrow = innerWidth < 700;
-  const isTight = !isNarrow && $('#lines').clientWidth < 1000, midnight = Math.ceil(from / DAY) * DAY;
-  const stretch = isNarrow ? 240 : 120, marks = [];
-  for (let m = Math.ceil((from + 1) / stretch) * stretch; m < to - 30; m += stretch) {
-    const isNear = isNow && Math.abs(m - D.now) < (isNarrow ? 190 : m % DAY ? 50 : 70);
-    const isBesideDay = isTight && Math.abs(m - midnight) === stretch;
-    if (!isNear && !isBesideDay && m > from + 30) {
-      const [look, text] = m % DAY ? ['', clock(m)] : ['day', dayName(m)];
-      marks.push(h('span', { css: 'left:' + share(m) + '%', class: look }, text));
+const AXIS = { most: 840, gap: 8, letter: 7.7, bold: 8.6, padding: 10 };  // in pixels; on paper there are so many
+
+/** The texts of the axis that don't run into one another: now, then the days, which move to the side of now, then hours.
+ *  Each is a moment, a text, its look, and by which part of it it stands at the moment. */
+function axisMarks() {
+  const { from } = view, isNow = D.now >= from && D.now < from + DAY, hour = innerWidth < 700 ? 240 : 120;
+  const names = parseFloat(getComputedStyle(document.documentElement).getPropertyValue('--names'));
+  const wide = Math.min($('#lines').clientWidth - names, AXIS.most), taken = [], marks = [];
+  const put = (minute, text, look, sides) => {
+    const size = text.length * (look ? AXIS.bold : AXIS.letter) + (look === 'at' ? AXIS.padding : 0);
+    for (const side of sides) {
+      const left = wide * (minute - from) / DAY - size * { middle: .5, left: 0, right: 1 }[side], right = left + size;
+      const isFree = taken.every(([a, b]) => right + AXIS.gap <= a || left >= b + AXIS.gap);
+      if (look !== 'at' && (!isFree || left < 0 || right > wide)) continue;
+      taken.push([left, right]);
+      marks.push({ minute, text, look: look + ' ' + side });
+      return;
     }
+  };
+  if (isNow) put(D.now, clock(D.now), 'at', ['middle']);
+  const midnight = Math.ceil(from / DAY) * DAY;
+  for (const day of [midnight, midnight + DAY]) {
+    if (day < from + DAY) put(day, dayName(day), 'day', ['middle', 'left', 'right']);
   }
-  if (isNow) marks.push(h('span', { class: 'at', css: 'left:' + share(D.now) + '%' }, clock(D.now)));
-  return h('div', { class: 'axis', 'aria-hidden': 'true' }, h('div', {}, marks));
+  for (let m = Math.ceil((from + 1) / hour) * hour; m < from + DAY; m += hour) if (m % DAY) put(m, clock(m), '', ['middle']);
+  return marks;
+}
+
+function axis() {
+  return h('div', { class: 'axis', 'aria-hidden': 'true' }, h('div', {}, axisMarks().map(({ minute, text, look }) =>
+    h('span', { css: 'left:' + share(minute) + '%', class: look }, text))));
 }
 
 /** What stands beside a row's box. */
@@ -106,20 +123,18 @@ function remark(i) {
   return due[i] > view.from + DAY ? 'due ' + at(due[i]) : '';
 }
 
-/** A row's picture: its box, a line from the deadline to now where it is late, and a remark. */
+/** A row's picture: its box, a line from the deadline to now where it is late, and a remark, over which no arrow goes. */
 function track(i) {
   const left = share(ia[i]), right = Math.max(share(due[i]), left + .35), isThin = 'CH'.includes(state(i));
   const tail = late.has(i) ? Math.max(share(D.now), right) : right, text = remark(i);
-  const where = tail < 84 ? { x: Math.max(tail, 0) + '%', dx: 5 }
-    : left > 16 ? { x: Math.min(left, 100) + '%', dx: -5, 'text-anchor': 'end' }
-      : { x: '100%', dx: -5, 'text-anchor': 'end' };
-  return s('svg', { class: 'track', 'aria-hidden': 'true' },
+  const where = tail < 84 ? 'left:' + Math.max(tail, 0) + '%' : left > 16 ? 'right:' + (100 - Math.min(left, 100)) + '%'
+    : 'right:0';
+  return h('span', { class: 'way', 'aria-hidden': 'true' }, s('svg', { class: 'track' },
     s('rect', { class: 'k ' + state(i), x: left + '%', width: right - left + '%', rx: 3, y: isThin ? '34%' : '20%',
       height: isThin ? '32%' : '60%' }, s('title', {}, times(i))),
     tail > right
-      ? s('line', { class: 'over', x1: Math.max(right, 0) + '%', x2: tail + '%', y1: '50%', y2: '50%' }) : '',
-    text ? s('text', { class: 'remark ' + (tone(i) || (risk.has(i) ? 'is-late' : '')), y: '50%',
-      'dominant-baseline': 'central', ...where }, text) : '');
+      ? s('line', { class: 'over', x1: Math.max(right, 0) + '%', x2: tail + '%', y1: '50%', y2: '50%' }) : ''),
+  text ? h('span', { class: 'remark ' + (tone(i) || (risk.has(i) ? 'is-late' : '')), css: where }, text) : '');
 }
 
 /** What stands beside a row's name: its day where it arrived before the window, its time where its name comes twice. */

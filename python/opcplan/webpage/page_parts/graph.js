@@ -77,7 +77,7 @@ function drawGraph(rows) {
   if (!nodes.size) {
     fill('#lines', h('div', { class: 'pane' }, h('p', { class: 'empty' }, rows.length
       ? 'None of these ' + rows.length + ' waits for another one.' : nothing(rowsOfDay().counts))));
-    Object.assign(laid, { box: null, buttons: new Map() });
+    Object.assign(laid, { box: null, buttons: new Map(), folds: new Map() });
     return;
   }
   const isOfChain = ({ row, successor }) => place.has(row) && place.get(successor) === place.get(row) + 1;
@@ -93,7 +93,7 @@ function drawGraph(rows) {
     h('p', { class: 'chain quiet' }, CHAIN_HINT, beyond ? beyondText(beyond) : '', lone ? loneText(lone) : ''),
     cut && h('p', { class: 'chain is-late' }, cut), h('div', { class: 'room' }, picture)));
   narrow(picture);
-  Object.assign(laid, { box: picture, buttons: new Map(boxes.map(box => [+box.dataset.i, box])) });
+  Object.assign(laid, { box: picture, buttons: new Map(boxes.map(box => [+box.dataset.i, box])), folds: new Map() });
   const start = nodes.has(view.pick) ? view.pick : graph.chain[0] ?? [...nodes.keys()][0];
   laid.buttons.get(start).setAttribute('tabindex', '0');
   const room = $('#lines .room'), { x, y } = nodes.get(start);

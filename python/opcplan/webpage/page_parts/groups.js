@@ -1,5 +1,6 @@
-// A day of too many rows: applications whose names begin alike are one row, which a click opens.
-const MOST_GROUPS = 80;
+// Lines that stand for several rows, which a click opens: the runs of one application through the day, and where there
+// are too many rows the applications whose names begin alike.
+const MOST_GROUPS = 80, FOLDED_FROM = 3, FOLDING = ['open', 'all'];
 
 /** How many letters names are to share, so that there are few groups. */
 function sharedLetters(rows) {
@@ -8,41 +9,73 @@ function sharedLetters(rows) {
   return 0;
 }
 
-/** The lines of the day: rows, and where they are too many groups with the rows of those that are opened. */
+/** A line that stands for several rows, with these below it where it is opened. */
+function foldOf(key, title, rows, inside = rows) {
+  if (view.reveal && rows.includes(view.pick)) view.opened.add(key);
+  return [{ key, title, rows }, ...(view.opened.has(key) ? inside : [])];
+}
+
+/** Rows, where the runs of an application of which there are several are one line. */
+function foldedRuns(rows) {
+  if (!FOLDING.includes(view.kind)) return rows;
+  const runs = new Map();
+  for (const i of rows) put(runs, app(i), i);
+  return rows.flatMap(i => {
+    const inside = runs.get(app(i));
+    if (inside.length < FOLDED_FROM) return [i];
+    return inside[0] === i ? foldOf('runs ' + name(i), name(i), inside) : [];
+  });
+}
+
+/** The lines of the day: rows, those that stand for several runs of an application, and where these are too many, groups
+ *  of applications. */
 function linesOf(rows) {
-  if (rows.length <= 400) return rows;
-  const letters = sharedLetters(rows), groups = new Map();
+  const folded = foldedRuns(rows), groups = new Map(), letters = sharedLetters(rows);
   for (const i of rows) put(groups, name(i).slice(0, letters), i);
-  if (groups.size < 2) return rows;
-  const lines = [];
-  for (const [key, inside] of groups) {
-    if (view.reveal && inside.includes(view.pick)) view.opened.add(key);
-    lines.push({ key, rows: inside });
-    if (view.opened.has(key)) lines.push(...inside);
-  }
+  const isGrouped = folded.length > 400 && groups.size > 1;
+  const lines = !isGrouped ? folded
+    : [...groups].flatMap(([key, inside]) => foldOf('group ' + key, key + '…', inside, foldedRuns(inside)));
   view.reveal = false;
   return lines;
 }
 
-/** A group's row: how many arrive in each hour, and how many of its rows are in error or late. */
-function groupRow({ key, rows }, n) {
+/** A line that stands for several rows: what they are, and how many of them are in error or late. */
+function groupRow({ key, title, rows }, n) {
   const errors = rows.filter(KINDS.error).length, lates = rows.filter(KINDS.late).length;
   const told = [errors ? errors + ' in error' : '', lates ? lates + ' late' : ''].filter(Boolean).join(', ');
-  const isOpened = view.opened.has(key);
-  const text = many(rows.length, 'row') + (told ? ', ' + told : '');
-  return h('li', {}, h('button', { class: 'row group', 'data-key': 'group ' + key, tabindex: n ? -1 : 0,
-    'aria-expanded': String(isOpened), 'aria-label': 'Names that begin with ' + key + ': ' + text,
+  const isOpened = view.opened.has(key), isRuns = key.startsWith('runs ');
+  const text = many(rows.length, isRuns ? 'run' : 'row') + (told ? ', ' + told : '');
+  const look = errors ? 'is-error' : lates ? 'is-late' : '';
+  return h('li', {}, h('button', { class: 'row group', 'data-key': key, tabindex: n ? -1 : 0,
+    'aria-expanded': String(isOpened), 'aria-label': (isRuns ? title : 'Names that begin with ' + title.slice(0, -1)) +
+      ': ' + text,
     on: () => {
       if (isOpened) view.opened.delete(key); else view.opened.add(key);
       keepFocus(drawDay);
     } },
   h('span', { class: 'lab' }, h('span', { class: 'fold', 'aria-hidden': 'true' }, isOpened ? '▾' : '▸'),
-    h('span', { class: 'name' }, key + '…'), h('em', {}, String(rows.length))),
-  hours(rows, told)));
+    h('span', { class: 'name ' + look }, title), h('em', {}, String(rows.length)),
+    told && h('small', { class: look }, told)),
+  h('span', { class: 'way', 'aria-hidden': 'true' }, isRuns ? runsOf(rows) : hours(rows))));
+}
+
+/** The runs of an application in one picture, whose unit is a minute: a box each, and a line where one is late. */
+function runsOf(rows) {
+  const boxes = new Map(), x = minute => Math.min(Math.max(minute - view.from, -20), DAY + 20);
+  let lines = '';
+  for (const i of rows) {
+    const left = x(ia[i]), right = Math.max(x(due[i]), left + 6), [top, high] = 'CH'.includes(state(i)) ? [34, 32]
+      : [20, 60];
+    boxes.set(state(i), (boxes.get(state(i)) || '') + 'M' + left + ' ' + top + 'H' + right + 'v' + high + 'H' + left + 'z');
+    if (late.has(i)) lines += 'M' + right + ' 50H' + Math.max(x(D.now), right);
+  }
+  return s('svg', { class: 'track', 'aria-hidden': 'true', viewBox: '0 0 ' + DAY + ' 100', preserveAspectRatio: 'none' },
+    [...boxes].map(([key, path]) => s('path', { class: 'k ' + key, d: path })),
+    lines ? s('path', { class: 'over', d: lines }) : '');
 }
 
 /** How many rows arrive in each hour of the window, as columns; those that arrived before are counted alone. */
-function hours(rows, told) {
+function hours(rows) {
   const perHour = new Array(24).fill(0), worst = new Array(24).fill('');
   for (const i of rows) {
     const hour = Math.floor((ia[i] - view.from) / 60);
@@ -53,7 +86,5 @@ function hours(rows, told) {
   const most = Math.max(...perHour);
   return s('svg', { class: 'track', 'aria-hidden': 'true' },
     perHour.map((number, hour) => number ? s('rect', { class: 'column ' + worst[hour], x: hour * 100 / 24 + .2 + '%',
-      width: 100 / 24 - .4 + '%', y: 90 - 80 * number / most + '%', height: 80 * number / most + '%' }) : ''),
-    told ? s('text', { class: 'told', x: '99.5%', y: '50%', 'text-anchor': 'end', 'dominant-baseline': 'central' },
-      told) : '');
+      width: 100 / 24 - .4 + '%', y: 90 - 80 * number / most + '%', height: 80 * number / most + '%' }) : ''));
 }

@@ -14,7 +14,7 @@ function drawTop() {
   $('#short').hidden = !D.short.length;
   $('#short').append(...D.short.map(text => h('li', {}, text)));
   if (D.apps.length <= 2000) $('#names').append(...D.apps.map(one => h('option', { value: one[0] })));
-  if (!created) for (const part of ['#due', '#mend', '#holds', '#next', '#day']) $(part).hidden = true;
+  if (!created) for (const part of ['#needs', '#next', '#day']) $(part).hidden = true;
 }
 
 /** Says how old the page is, by the viewer's clock; it stands at its moment and doesn't go on. */
@@ -96,8 +96,11 @@ function openFound() {
   $('#card').focus();
 }
 
+/** Goes to the next row in trouble: first those in error, then the late, then those at risk, each by deadline. */
 function nextTrouble() {
-  const rows = Array.from({ length: rowCount }, (_, i) => i).filter(i => isTrouble(i) && isWanted(i));
+  const rank = i => state(i) === 'E' ? 0 : late.has(i) ? 1 : 2;
+  const rows = Array.from({ length: rowCount }, (_, i) => i).filter(i => isTrouble(i) && isWanted(i))
+    .sort((a, b) => rank(a) - rank(b) || due[a] - due[b] || a - b);
   if (!rows.length) return say(isFiltered() ? 'None of these is in trouble.' : 'Nothing is in trouble.');
   view.kind = 'trouble';
   choose(rows[(rows.indexOf(view.pick) + 1) % rows.length]);
@@ -129,7 +132,7 @@ function onKey(event) {
   const cell = event.target.closest?.(CELLS), row = event.target.closest?.('.row'), step = STEPS[event.key];
   const node = event.target.closest?.('.node');
   const done = act => { event.preventDefault(); act(); };
-  if (event.key === 'Escape') return choose(-1);
+  if (event.key === 'Escape') return shut();
   if (cell && step) return done(() => moveStop(cell, nextCell(cell, step)));
   if (cell?.matches('td') && (event.key === 'Enter' || event.key === ' ')) return done(() => chooseCell(cell));
   if (row && step?.[1]) {
@@ -147,6 +150,7 @@ function onKey(event) {
   if (event.key === 'n') showNow();
   if (event.key === 't') nextTrouble();
   if (event.key === 'g') showAsGraph(!view.graph);
+  if (event.key === '?') showHelp(!view.help);
 }
 
 /** The row that the address names by its serial, as #o970. */
@@ -171,16 +175,22 @@ function listen() {
     if (cell) chooseCell(cell);
   });
   $('#find').addEventListener('input', find);
+  $('#help').addEventListener('click', () => showHelp(!view.help));
   addEventListener('keydown', onKey);
   addEventListener('resize', fit);
   addEventListener('hashchange', () => { if (addressed() >= 0) choose(addressed(), true); });
   addEventListener('beforeprint', () => {
-    document.querySelectorAll('#due .more, #mend .more, #holds .more').forEach(button => button.click());
-    document.querySelectorAll('#due details').forEach(group => {
-      group.drawLines();
-      group.open = true;
-    });
+    document.querySelectorAll('#needs .more').forEach(button => button.click());
+    for (const part of document.querySelectorAll('#needs .group:not([open])')) {
+      part.drawLines();
+      part.open = true;
+      part.classList.add('for-paper');
+    }
   });
+  addEventListener('afterprint', () => document.querySelectorAll('.for-paper').forEach(part => {
+    part.open = false;
+    part.classList.remove('for-paper');
+  }));
 }
 
 function fit() {

@@ -32,7 +32,7 @@ function answerOf(number, kept) {
   answers.set(number, kept);
   const isFocused = $('.acts')?.contains(document.activeElement);
   if (serial[view.pick] === number && view.app < 0) {
-    redraw(['#card'], drawCardAnew);
+    redraw(['#card'], showCard);
     if (isFocused || document.activeElement === document.body) $('#answer')?.focus({ preventScroll: true });
   }
   if (kept.text) say(rowOfSerial(number) === undefined ? plainText(kept.text)

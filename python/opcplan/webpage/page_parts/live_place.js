@@ -1,5 +1,5 @@
 // Drawing anew while somebody reads: what is seen, opened, chosen and in focus stays.
-const BOXES = ['#sum', '#due', '#mend', '#holds', '#next', '#daytools', '#lines', '#monthtools', '#grid', '#changed',
+const BOXES = ['#sum', '#needs', '#next', '#daytools', '#lines', '#monthtools', '#grid', '#changed',
   '#card'];
 const SEEN = '.go[data-i], .row[data-i], .row.group, tbody button[data-a], #now h3, section > .bar, #changed h3';
 
@@ -103,11 +103,11 @@ function drawAll(change, isNew) {
   if (isNew || D.now !== now) drawTopAnew();
   titleOfAll = titleNow();
   nameTab();
-  redraw(['#sum', '#due', '#mend', '#holds', '#next'], drawNow, isNew);
+  redraw(['#sum', '#needs', '#next'], drawNow, isNew);
   redraw(['#daytools'], drawDay, isNew);
   redraw(['#monthtools', '#grid'], () => drawMonth(true), isNew);
   redraw(['#changed'], drawChanges, isNew);
-  redraw(['#card'], drawCardAnew);
+  redraw(['#card'], showCard);
   markCurrent('.go', view.pick);
   inner();
   focus();
@@ -116,18 +116,8 @@ function drawAll(change, isNew) {
 
 function drawTopAnew() {
   $('#names').replaceChildren();
-  for (const part of ['#due', '#mend', '#holds', '#next', '#day']) $(part).hidden = false;
+  for (const part of ['#needs', '#next', '#day']) $(part).hidden = false;
   drawTop();
-}
-
-/** Draws the card of what is chosen. */
-function drawCardAnew() {
-  const isChosen = view.pick >= 0 || view.app >= 0;
-  document.body.classList.toggle('chosen', isChosen);
-  $('#card').classList.toggle('idle', !isChosen);
-  if (view.app >= 0) drawApp(view.app);
-  else if (view.pick >= 0) drawCard(view.pick);
-  else drawLegend();
 }
 
 /** Takes other rows, and keeps what is chosen by its name. */

@@ -109,7 +109,7 @@ const OF_TILES = ['error', 'late', 'risk', 'hour', 'started', 'ready'];
 
 /** What is chosen: the day's window, its filter, the words that are searched, the row, how much is drawn. */
 const view = { from: 0, kind: 'open', find: [], kept: 'open', pick: -1, most: 400, month: null, apps: 110,
-  opened: new Set(), whole: new Set(), app: -1, reveal: false, arrows: true, graph: false };
+  opened: new Set(), whole: new Set(), app: -1, reveal: false, arrows: true, graph: false, help: false };
 const isFiltered = () => view.find.length > 0;
 const matches = text => !isFiltered() || view.find.some(word => text.includes(word));
 const isWanted = i => matches(name(i));

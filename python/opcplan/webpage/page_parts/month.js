@@ -30,22 +30,31 @@ function countMonth(first, length) {
   return { counts, sums };
 }
 
-function cellClass(cell, calendar, day) {
+/** How many runs most of the days have on which an application runs; of several such numbers the least. */
+function usualOf(cells) {
+  const days = new Map();
+  for (const cell of cells) if (cell.all) days.set(cell.all, (days.get(cell.all) || 0) + 1);
+  return [...days.keys()].sort((a, b) => days.get(b) - days.get(a) || a - b)[0];
+}
+
+/** How a cell looks: the darker, the more runs it has than are usual for its application. */
+function cellClass(cell, calendar, day, usual) {
   const parts = [isFree(calendar, day) ? 'free' : '', isToday(day) ? 'today' : ''];
   if (cell.error) parts.push('bad');
   else if (cell.late) parts.push('late');
-  else if (cell.all) parts.push(cell.done === cell.all ? 'done' : 'n' + Math.min(cell.all, 3));
+  else if (cell.all) parts.push(cell.done === cell.all ? 'done'
+    : cell.all <= usual ? 'n1' : cell.all < 3 * usual ? 'n2' : 'n3');
   return parts.filter(Boolean).join(' ');
 }
 
 function monthRow(k, cells, first, row) {
-  const calendar = D.apps[k][2];
+  const calendar = D.apps[k][2], usual = usualOf(cells);
   const total = cells.reduce((sum, cell) => sum + cell.all, 0);
   const title = h('button', { tabindex: -1, 'data-a': k, on: () => showApp(k) }, D.apps[k][0]);
   return h('tr', {}, h('th', { scope: 'row' }, title),
     cells.map((cell, n) => h('td', { 'data-d': first + n, 'data-a': k, tabindex: row || n ? -1 : 0,
       'aria-label': cell.error ? cell.all + ', in error' : cell.late ? cell.all + ', late' : undefined,
-      class: cellClass(cell, calendar, first + n) },
+      class: cellClass(cell, calendar, first + n, usual) },
     cell.all ? cell.all + (cell.error ? 'E' : cell.late ? '!' : '') : '')), h('td', {}, String(total)));
 }
 
@@ -76,7 +85,8 @@ function drawMonthTools(run, idle) {
     h('b', { class: 'printed' }, monthName(months[view.month] * DAY)),
     h('span', { class: 'quiet' }, many(run, 'application runs', 'applications run') +
       (idle ? ', ' + idle + (idle === 1 ? ' does not' : ' do not') : '') +
-      '. A number tells how many arrive; hatched is a free day of the application’s calendar.'));
+      '. A number tells how many arrive; it is darker where they are more than the application usually has. ' +
+      'Hatched is a free day of its calendar.'));
 }
 
 function sumRow(sums, first) {

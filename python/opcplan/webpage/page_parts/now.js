@@ -1,5 +1,5 @@
-// What stands now: counts, what is late, what holds others up, what comes next.
-const GROUPED_FROM = 6, MOST_LINES = 500;
+// The counts of the current plan, and how lists are drawn.
+const MOST_LINES = 500;
 
 /** A list that is drawn up to a number of lines, with a button that shows the others; `count` is how many there are. */
 function list(title, items, line, none, most, count = items.length) {
@@ -19,12 +19,12 @@ function list(title, items, line, none, most, count = items.length) {
       event.target.remove();
     } }, all < count ? 'Show the first ' + all + ' of ' + count : 'Show all ' + count));
   }
-  return [h('h3', {}, title), box];
+  return [h('h3', {}, title, quiet(count ? String(count) : '')), box];
 }
 
 /** A row in a list: its name, when, and a sentence. */
 function line(i, when, parts) {
-  return h('li', { class: 'entry' },
+  return h('li', { class: late.has(i) ? 'entry past' : 'entry' },
     h('button', { class: 'go', 'data-i': i, on: () => choose(i) },
       badge(i), nameAndTime(i), h('span', { class: 'when ' + tone(i) }, when)),
     h('p', { class: 'why' }, asNodes(parts)));
@@ -32,43 +32,6 @@ function line(i, when, parts) {
 
 const quiet = text => text ? [' ', h('span', { class: 'quiet' }, text)] : [];
 const nameAndTime = i => h('span', {}, h('span', { class: 'name' }, name(i)), quiet(soon(ia[i])));
-const dueLine = i => line(i, ['due ' + soon(due[i]), quiet(lateness(i))], why(i));
-
-/** Rows by deadline; those that wait for one root, where they are many, as one entry. */
-function grouped(rows) {
-  const number = new Map(), groups = new Map(), items = [];
-  for (const i of rows) if (rootOf.has(i)) number.set(rootOf.get(i), (number.get(rootOf.get(i)) || 0) + 1);
-  for (const i of rows) {
-    const root = rootOf.get(i);
-    if (root === undefined || number.get(root) < GROUPED_FROM) items.push(i);
-    else if (groups.has(root)) groups.get(root).rows.push(i);
-    else {
-      groups.set(root, { root, rows: [i] });
-      items.push(groups.get(root));
-    }
-  }
-  return items;
-}
-
-function groupLine({ root, rows }) {
-  const number = rows.filter(i => late.has(i)).length;
-  const reason = rowName(root) + ' is ' + ofRoot(root) + '; first due: ' + rowName(rows[0]) + ', by ' +
-    soon(due[rows[0]]);
-  const lines = h('ul', { class: 'list' }), key = 'group of ' + serial[root];
-  const group = h('details', { class: 'group', 'data-key': key },
-    h('summary', {}, h('span', { class: 'name' }, rows.length + ' that wait for ' + rowName(root)),
-      h('span', { class: 'when' + (number ? ' is-late' : '') }, number ? number + ' late' : ''),
-      h('span', { class: 'why' }, reason)), lines);
-  group.drawLines = () => {
-    if (lines.children.length) return;
-    lines.append(...rows.slice(0, MOST_LINES).map(dueLine), restLine(rows.length, MOST_LINES));
-  };
-  group.addEventListener('toggle', group.drawLines);
-  return h('li', { class: 'entry' }, group);
-}
-
-const dueEntry = item => typeof item === 'number' ? dueLine(item) : groupLine(item);
-
 function tile(look, number, label, under, kind) {
   const show = () => { showKind(kind); $('#day').scrollIntoView(); };
   return h('button', { class: look + (number ? '' : ' zero'), on: show },
@@ -92,9 +55,10 @@ function summary(n) {
   if (!n.total && isFiltered()) return 'Nothing of ' + findText() + ' is in the current plan.';
   if (!n.total) return 'The current plan is empty: dp-extend fills it.';
   const ends = 'It ends ' + at(D.plan.end) + (D.plan.end > D.now ? ', in ' + length(D.plan.end - D.now) : '') + '.';
-  const what = isFiltered() ? 'Of ' + findText() + ' in the current plan: ' : 'Current plan: ';
-  return what + n.C + ' of ' + n.total + ' complete, ' + n.S + ' started, ' + n.R + ' ready, ' + n.B +
-    ' blocked, ' + n.F + ' to come, ' + n.E + ' in error. ' + ends;
+  const what = isFiltered() ? 'Of ' + findText() + ' in the current plan:' : 'Current plan:';
+  const counts = [['C', n.C + ' of ' + n.total + ' complete'], ['S', n.S + ' started'], ['R', n.R + ' ready'],
+    ['B', n.B + ' blocked'], ['F', n.F + ' to come'], ['E', n.E + ' in error']];
+  return [what, counts.map(([key, text], k) => [' ', h('span', { class: 'count' }, sign(key), text + (k < 5 ? ',' : '.'))]), ' ' + ends];
 }
 
 function drawTiles() {
@@ -115,51 +79,12 @@ function drawTiles() {
   h('p', { class: 'legend' }, summary(n)));
 }
 
-let heldOf = null, held;
-/** How many rows a row holds up. */
-function heldBy(i) {
-  if (heldOf !== D.holds) [heldOf, held] = [D.holds, new Map(D.holds.map(([k, number]) => [k, number]))];
-  if (!held.has(i)) held.set(i, behind(i).length);
-  return held.get(i);
-}
-const heldText = number => 'holds ' + (number > 5000 ? 'over 5000' : number);
-
-function holdLine([i, number, , first]) {
-  return line(i, heldText(number), [ofRoot(i), '; first due behind it: ', first, ', by ' + soon(due[first])]);
-}
-
-function mendLine(i) {
-  const time = late.has(i) ? lateness(i) : 'due ' + soon(due[i]);
-  return line(i, heldBy(i) ? heldText(heldBy(i)) : 'holds nothing', [time]);
-}
-
-/** What is in error, and what holds others up, each complete by itself. */
-function drawHolds(rows) {
-  const byHeld = (a, b) => heldBy(b) - heldBy(a) || due[a] - due[b];
-  const errors = rows.filter(KINDS.error).sort(byHeld), holds = D.holds.filter(one => isWanted(one[0]));
-  fill('#mend', errors.length ? list('In error, to be mended', errors, mendLine, '', 6) : []);
-  const count = isFiltered() ? holds.length : D.holdCount;
-  fill('#holds', list('What holds others up', holds, holdLine, none('Nothing waits for anything that has arrived.',
-    'None of these holds another up.'), 6, count));
-  if (isFiltered() && D.holdCount > D.holds.length) {
-    $('#holds').append(h('p', { class: 'quiet' }, 'Of ' + D.holdCount + ' that hold others up the worst ' +
-      D.holds.length + ' were looked through.'));
-  }
-}
-
 const none = (text, ofFiltered) => isFiltered() ? ofFiltered : text;
 
 function drawNow() {
   drawTiles();
-  const rows = [];
-  for (let i = 0; i < rowCount; i++) if (isOpen(i) && isWanted(i)) rows.push(i);
-  const first = rows.filter(i => due[i] <= D.now + 120).sort((a, b) => due[a] - due[b]), by = at(D.now + 120);
-  fill('#due', list('Late, and due in two hours', grouped(first), dueEntry,
-    none('Nothing is late, and nothing is due by ' + by + '.', 'None of these is late, or due by ' + by + '.'), 12));
-  drawHolds(rows);
-  const ready = rows.filter(i => state(i) === 'R').sort((a, b) => due[a] - due[b]);
-  const coming = rows.filter(i => state(i) === 'F').sort((a, b) => ia[a] - ia[b] || due[a] - due[b]);
-  fill('#next', list('Ready, and arriving next', ready.concat(coming), i => line(i, 'due ' + soon(due[i]), why(i)),
-    none('Nothing waits to be started.', 'None of these waits to be started.'), 8));
+  const needs = needsOf();
+  drawNeeds(needs);
+  drawNext(needs);
   drawEnds();
 }

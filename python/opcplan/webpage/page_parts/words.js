@@ -2,7 +2,7 @@
 const WORD = { E: 'in error', S: 'started', R: 'ready, not started', B: 'blocked', F: 'its time is to come',
   C: 'complete', D: 'deleted', L: 'planned', H: 'complete, in history', o: 'deleted by an operator', w: 'withdrawn',
   p: 'deleted in the current plan' };
-const LETTER = { R: 'W', B: 'W', F: 'W', D: '×', o: '×', w: '×', p: '×' };
+const LETTER = { F: 'W', D: '×', o: '×', w: '×', p: '×' };
 const WEEKDAYS = 'Sun Mon Tue Wed Thu Fri Sat'.split(' ');
 const MONTHS = 'Jan Feb Mar Apr May Jun Jul Aug Sep Oct Nov Dec'.split(' ');
 const $ = selector => document.querySelector(selector);
@@ -114,7 +114,8 @@ function made(element, attributes, inner) {
 }
 
 const fill = (selector, ...inner) => $(selector).replaceChildren(...inner.flat(3).filter(Boolean));
-const badge = i => h('span', { class: 'b ' + state(i), 'aria-hidden': 'true' }, LETTER[state(i)] || state(i));
+const sign = key => h('span', { class: 'b ' + key, 'aria-hidden': 'true' }, LETTER[key] || key);
+const badge = i => sign(state(i));
 const tone = i => state(i) === 'E' ? 'is-error' : late.has(i) ? 'is-late' : '';
 
 /** Marks the button of a row among those that a selector finds. */
