@@ -13,6 +13,7 @@ from typing import NoReturn
 
 from opcplan.cli import interpreter, words
 from opcplan.desk import log_words
+from opcplan.desk.settings import Address, Settings
 from opcplan.errors import Error, Unreadable, WrongWords
 from opcplan.plans.program import built_program
 
@@ -60,8 +61,8 @@ def add_words(parser: words.Parser) -> None:
                         help="the planner (else the one that is built here)")
 
 
-def address(text: str) -> tuple[str, int]:
-    """Host and port of an address, for `type=`."""
+def address(text: str) -> Address:
+    """An address, for `type=`."""
     host, _, port = text.rpartition(":")
     try:
         found = str(ipaddress.ip_address(host.removeprefix("[").removesuffix("]").replace("localhost", "127.0.0.1")))
@@ -69,7 +70,7 @@ def address(text: str) -> tuple[str, int]:
         found = ""
     if not found or not port.isascii() or not port.isdigit() or int(port) > 65535:
         raise argparse.ArgumentTypeError(f"{text!r} is no address like {USUAL}")
-    return found, int(port)
+    return Address(found, int(port))
 
 
 def seconds(text: str) -> float:
@@ -84,30 +85,40 @@ def run(given: argparse.Namespace) -> int:
     """Does what the words ask for; the exit status."""
     if importlib.util.find_spec("aiohttp") is None:
         by_debian()
-    if given.listen is None and given.socket is None:
-        given.listen = address(USUAL)
-    if wrong := wrong_words(given):
-        raise WrongWords(wrong)
     from opcplan.desk import server, snapshot_fetch
-    from opcplan.plans import journal
 
-    given.journal = os.path.realpath(given.journal or journal.beside(given.plan))
+    settings = settings_of(given)
+    if wrong := wrong_words(settings):
+        raise WrongWords(wrong)
     try:
         program = os.path.abspath(given.program or built_program())
-        if given.source and not os.path.exists(given.plan):
-            snapshot_fetch.take(given.source, given.plan, given.journal)
-        check_file(given.plan)
-        server.serve(given, program)
+        if settings.source and not os.path.exists(settings.plan):
+            snapshot_fetch.take(settings.source, settings.plan, settings.journal)
+        check_file(settings.plan)
+        server.serve(settings, program)
     except OSError as error:
-        raise Unreadable(f"{error.filename or given.plan}: {error.strerror}") from None
+        raise Unreadable(f"{error.filename or settings.plan}: {error.strerror}") from None
     return 0
 
 
-def wrong_words(given: argparse.Namespace) -> str | None:
+def settings_of(given: argparse.Namespace) -> Settings:
+    """The words as Settings."""
+    from opcplan.plans import journal
+
+    return Settings(
+        plan=given.plan, journal=os.path.realpath(given.journal or journal.beside(given.plan)), log=given.log,
+        source=given.source, listen=address(USUAL) if given.listen is None and given.socket is None else given.listen,
+        socket=given.socket, users=given.users, tokens=given.tokens, hosts=tuple(given.host), proxy=given.proxy,
+        limit=given.limit, etcd_ca=given.etcd_ca, etcd_cert=given.etcd_cert, etcd_key=given.etcd_key,
+        etcd_user=given.etcd_user)
+
+
+def wrong_words(given: Settings) -> str | None:
     """What is wrong with the words together, or nothing."""
-    is_open = given.listen and not ipaddress.ip_address(given.listen[0]).is_loopback
-    if is_open and not (given.tokens and given.proxy):
-        return (f"{given.listen[0]} is an address that other machines reach: it takes --tokens, and --proxy with the "
+    listen = given.listen
+    is_open = listen is not None and not ipaddress.ip_address(listen.host).is_loopback
+    if listen and is_open and not (given.tokens and given.proxy):
+        return (f"{listen.host} is an address that other machines reach: it takes --tokens, and --proxy with the "
                 "address of a proxy that speaks TLS")
     if given.log is None and any((given.source, given.etcd_ca, given.etcd_cert, given.etcd_key, given.etcd_user)):
         return "--from and the options of etcd go with --log"

@@ -3,29 +3,50 @@
 import asyncio
 import hashlib
 import json
+from collections.abc import Iterator, Sequence
+from typing import NamedTuple, TYPE_CHECKING
 
 from opcplan.desk.errors import Refused
 from opcplan.desk.planner import Ask
+from opcplan.desk.requests import Asked
 from opcplan.plans import chain, entry
+
+if TYPE_CHECKING:
+    from opcplan.desk.core import Desk
 
 # statements of one stream that stand in the queue at once
 WINDOW = 32
 
 
+class Taken(NamedTuple):
+    """A statement of a stream, and the Ask that becomes of it."""
+
+    asked: Asked
+    answer: asyncio.Future[Ask]
+
+
+class Answered(NamedTuple):
+    """A statement of a stream, and its Ask, which is answered."""
+
+    asked: Asked
+    ask: Ask
+
+
 class Body:
     """The statements of a stream, put into the queue in their order; it goes on where its caller hangs up."""
 
-    def __init__(self, desk, asked, who, key, condition):
+    def __init__(self, desk: "Desk", asked: Sequence[Asked], who: str, key: str | None, condition: str | None) -> None:
         self.desk, self.asked, self.who, self.key, self.condition = desk, asked, who, key, condition
         self.at = entry.moment_now()
-        self.asks, self.room = asyncio.Queue(), asyncio.Semaphore(WINDOW)
+        self.asks: asyncio.Queue[Taken] = asyncio.Queue()
+        self.room = asyncio.Semaphore(WINDOW)
         self.has_changes = any(one.changes for one in asked)
         self.is_left = False  # nobody reads its answers any more
         self.is_broken = False  # one of its statements wasn't taken, so none behind it is
-        self.digest = key and requests_digest(asked)
+        self.digest = None if key is None else requests_digest(asked)
         self.is_claimed, self.is_put, self.left = False, False, 0  # `left`: statements that aren't answered
 
-    async def take(self):
+    async def take(self) -> None:
         """Puts all statements into the queue, up to the first that isn't taken; as many wait as its caller leaves
         unread, and one where the caller is gone."""
         try:
@@ -33,7 +54,7 @@ class Body:
                 if not self.is_left:
                     await self.room.acquire()
                 future = self.put(one, place)
-                self.asks.put_nowait((one, future))
+                self.asks.put_nowait(Taken(one, future))
                 if self.is_broken:
                     return
                 if self.is_left:
@@ -42,7 +63,7 @@ class Body:
             self.is_put = True
             self.release()
 
-    def put(self, one, place):
+    def put(self, one: Asked, place: int) -> asyncio.Future[Ask]:
         """A future of a statement's Ask."""
         try:
             if self.is_broken:
@@ -58,24 +79,24 @@ class Body:
         future.add_done_callback(self.settle)
         return future
 
-    def settle(self, done):
+    def settle(self, done: asyncio.Future[Ask]) -> None:
         """A statement is answered, or its caller sent away."""
         _ = done.cancelled() or done.exception()
         self.left -= 1
         self.release()
 
-    def release(self):
+    def release(self) -> None:
         """Gives the key back once nothing of the stream is under way."""
-        if self.is_claimed and self.is_put and not self.left:
+        if self.key is not None and self.is_claimed and self.is_put and not self.left:
             self.is_claimed = False
             self.desk.release(self.who, self.key)
 
-    def leave(self):
+    def leave(self) -> None:
         """Nobody reads on."""
         self.is_left = True
         self.room.release()
 
-    def ask(self, one, place):
+    def ask(self, one: Asked, place: int) -> Ask:
         """The Ask of a statement. Raises Refused."""
         if one.reply is not None:
             ask = Ask(one.name)
@@ -85,29 +106,29 @@ class Body:
             return self.desk.ask_question(one.name, one.text, self.has_changes)
         return self.desk.ask_change(one.name, self.wanted(one, place), self.condition)
 
-    def wanted(self, one, place):
+    def wanted(self, one: Asked, place: int) -> entry.Wanted:
         """What the log is to have of a change."""
         key = self.key if place == 0 or self.key is None else f"{self.key}#{place}"
         return entry.Wanted(self.who, key, one.words, one.data, one.job, self.at, self.digest)
 
-    async def claim(self):
+    async def claim(self) -> None:
         """Takes the key for this stream. Raises Refused where it stands for another one."""
         changes = [self.wanted(one, place) for place, one in enumerate(self.asked) if one.changes and one.reply is None]
         if self.key is not None and changes:
             await self.desk.claim(self.who, self.key, changes)
             self.is_claimed = True
 
-    async def next(self):
-        """The next statement and its Ask, answered. Raises Refused and Stopped."""
-        one, future = await self.asks.get()
-        ask = await future
+    async def next(self) -> Answered:
+        """The next statement, once it is answered. Raises Refused and Stopped."""
+        one, answer = await self.asks.get()
+        ask = await answer
         self.room.release()
         if ask.wrong is not None:
             raise Refused(503, ask.wrong)
-        return one, ask
+        return Answered(one, ask)
 
 
-def requests_digest(found):
+def requests_digest(found: Sequence[Asked]) -> str:
     """What tells a stream from others under one key."""
     whole = hashlib.sha256()
     for one in found:
@@ -116,17 +137,17 @@ def requests_digest(found):
     return whole.hexdigest()[:chain.DIGEST]
 
 
-def as_text(one, ask):
+def as_text(one: Answered) -> Iterator[bytes]:
     """The bytes of an answer as opcplan prints it."""
-    yield from ask.pieces()
-    yield ask.reply.encode("ascii") + b"\n"
+    yield from one.ask.pieces()
+    yield one.ask.line
 
 
-def as_json(one, ask):
+def as_json(one: Answered) -> Iterator[bytes]:
     """The bytes of an answer as a line of JSON."""
-    known = ask.entry
+    ask, known = one.ask, one.ask.entry
     told = {"seq": known.seq, "statement": known.line, "job": known.job} if known else {
-        "seq": None, "statement": one.words, "job": None}
+        "seq": None, "statement": one.asked.words, "job": None}
     yield json.dumps(told).removesuffix("}").encode() + b', "rows": ['
     between = b""
     for piece in ask.pieces():

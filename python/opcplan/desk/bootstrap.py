@@ -4,21 +4,24 @@ import contextlib
 import hashlib
 import os
 import secrets
+from collections.abc import AsyncIterator, Set
 
 from opcplan.desk import log
 from opcplan.desk.etcd import Away, Etcd, Wrong
 from opcplan.desk.etcd_log import Shared
-from opcplan.desk.store import Store
+from opcplan.desk.log_words import Access, Where
+from opcplan.desk.store import State, Store
 from opcplan.desk.versions import Unfit, different, first_line, version_at, version_of
 from opcplan.errors import LogUnwritable, Unreadable
 from opcplan.plans import entry, journal, journal_plan, sound_rows
+from opcplan.plans.plan_file import Plan
 
 OTHER_JOURNAL = "it is the journal of another log; move it away, or name another one by --journal"
 NEW_FILE = "Take the plan of another desk: move {0} away, and start with --from http://OTHERDESK"
 
 
 @contextlib.asynccontextmanager
-async def opened(where, access):
+async def opened(where: Where, access: Access) -> AsyncIterator[Store]:
     """A Store of the log under a name. Raises Unfit where etcd doesn't answer, or refuses."""
     async with Etcd(where.endpoints, access) as etcd:
         try:
@@ -27,7 +30,7 @@ async def opened(where, access):
             raise Unfit(f"{where}: {'etcd refuses: ' if isinstance(why, Wrong) else ''}{why}") from None
 
 
-async def joined(store, plan, path, program):
+async def joined(store: Store, plan: str, path: str, program: str) -> Shared:
     """The Shared log of a desk over a plan, whose journal is at a path. Raises Unfit, Unreadable, Away and Wrong."""
     version = version_of(program)
     with contextlib.ExitStack() as files, contextlib.ExitStack() as left:
@@ -36,9 +39,9 @@ async def joined(store, plan, path, program):
         except Unreadable as why:
             raise Unfit(f"{why}. Where it can't be mended: " + NEW_FILE.format(plan)) from None
         try:
-            state = await store.state()
+            known = await store.state()
             record = journal_of(path, left)
-            state = state or await made(store, held, record, version)
+            state = known or await made(store, held, record, version)
             given = await Joining(store, state, held, record).applied()
         except LogUnwritable as why:
             raise Unfit(str(why)) from None
@@ -48,16 +51,16 @@ async def joined(store, plan, path, program):
     return Shared(record, store, state, given, version, plan)
 
 
-def journal_of(path, left):
+def journal_of(path: str, left: contextlib.ExitStack) -> journal.Journal:
     """The Journal at a path; where nothing becomes of it, it is closed, and a new one taken away."""
     if not os.path.exists(path) or not os.path.getsize(path):
-        left.callback(lambda: os.path.exists(path) and os.remove(path))
+        left.callback(remove, path)
     record = journal.Journal(path, is_copy=True)
     left.callback(record.close)
     return record
 
 
-async def made(store, held, record, version):
+async def made(store: Store, held: Plan, record: journal.Journal, version: str) -> State:
     """The State of a new log, which a plan without a desk's numbers begins. Raises Unfit."""
     position = journal.position_of(held)
     if position or record.position():
@@ -67,10 +70,12 @@ async def made(store, held, record, version):
                     "lost, or the plan had a desk of its own, end all its desks and begin a log behind the plan that "
                     f"is the furthest: `./plan log {store.where} --begin {held.path}`")
     await begun(store, held, 0, version)
-    return await store.state()
+    if (state := await store.state()) is None:
+        raise Unfit(f"{store.where}: the log that was just made isn't in etcd any more; end what takes it away")
+    return state
 
 
-async def begun(store, held, position, version):
+async def begun(store: Store, held: Plan, position: int, version: str) -> bool:
     """Makes a log behind a plan, where there is none; whether it did."""
     return await store.create(secrets.token_hex(8), position, content_sum(held), version, entry.moment_now())
 
@@ -78,18 +83,19 @@ async def begun(store, held, position, version):
 class Joining:
     """A plan and its journal, that are to go on with a log."""
 
-    def __init__(self, store, state, held, record):
+    def __init__(self, store: Store, state: State, held: Plan, record: journal.Journal) -> None:
         self.where, self.store, self.state, self.held, self.record = store.where, store, state, held, record
         (self.jobs,) = held.db.execute("SELECT count(*) FROM job").fetchone()
         self.position = journal.position_of(held)
 
-    async def applied(self):
+    async def applied(self) -> int:
         """The entry that the plan has last. Raises Unfit."""
         known, last = self.record.begun(), next(iter(self.record.last_kept()), None)
-        is_own = known is not None and known[0] == self.state.id
+        log_id, begins, jobs, _ = known or (None, 0, 0, None)
+        is_own = log_id == self.state.id
         has_last = last is None or journal_plan.written(self.job(last.job)) == last.text
-        is_level = is_own and self.jobs >= known[2] and has_last
-        found = max(self.record.position(), known[1]) if is_level else self.by_file()
+        is_level = is_own and self.jobs >= jobs and has_last
+        found = max(self.record.position(), begins) if is_level else self.by_file()
         if self.state.first > found + 1:  # a journal may be older than its plan
             found = max(found, self.position)
         if not is_own and not (has_last and self.record.position() <= found):
@@ -105,26 +111,27 @@ class Joining:
         await self.check_jobs(found)
         return found
 
-    async def check_jobs(self, upto):
+    async def check_jobs(self, upto: int) -> None:
         """Asks that the plan has the jobs of its journal, as they were answered, and of others those alone that the log
         has behind the journal. Raises Unfit."""
-        for others in (frozenset(), None):
+        try:
+            journal_plan.check(self.record, self.held, frozenset(), upto)
+        except journal_plan.Strange:
             try:
-                others = await self.jobs_behind() if others is None else others
-                return journal_plan.check(self.record, self.held, others, upto)
+                journal_plan.check(self.record, self.held, await self.jobs_behind(), upto)
             except journal_plan.Strange as why:
-                told = why
-        raise Unfit(f"{told}. " + NEW_FILE.format(self.held.path))
+                raise Unfit(f"{why}. " + NEW_FILE.format(self.held.path)) from None
 
-    async def jobs_behind(self):
+    async def jobs_behind(self) -> Set[int]:
         """The job numbers of the entries that the journal doesn't have."""
-        found, last = set(), max(0, self.record.position() - log.MOST_TOGETHER)
-        while batches := (await self.store.read(last))[1]:
+        found: set[int] = set()
+        last = max(0, self.record.position() - log.MOST_TOGETHER)
+        while batches := (await self.store.read(last)).batches:
             found |= {one.job for batch in batches for one in batch.entries}
-            last = batches[-1].entries[-1].seq
+            last = batches[-1].last
         return found
 
-    def by_file(self):
+    def by_file(self) -> int:
         """The entry that the plan has last, by its file alone. Raises Unfit."""
         if self.position > self.state.base:
             return self.position
@@ -133,7 +140,7 @@ class Joining:
         raise Unfit(f"{self.where}: the log began behind another plan than {self.held.path} is, or that is older. "
                     + NEW_FILE.format(self.held.path))
 
-    async def check_text(self):
+    async def check_text(self) -> None:
         """Asks that the last job of a desk that the plan keeps is that of the log, where the log still has it. Raises
         Unfit."""
         seq, number = self.position, entry.number_of(self.position)
@@ -144,20 +151,20 @@ class Joining:
                         "or etcd isn't as it was. Name the log of this plan; where it is to have the plan of the log: "
                         + NEW_FILE.format(self.held.path))
 
-    def check_end(self, found):
+    def check_end(self, found: int) -> None:
         """Asks that the log has what the plan has. Raises Unfit."""
         if found > self.state.head.last:
             raise Unfit(f"{self.where}: the log ends with entry {self.state.head.last}, and {self.held.path} has entry "
                         f"{found}: etcd isn't as it was. End all desks of the plan and begin a log of a new name "
                         "behind the plan that is the furthest, by `./plan log etcd://../NEWNAME --begin PLAN.db`")
 
-    def job(self, number):
+    def job(self, number: int) -> bytes | None:
         """The text of a job that the plan keeps, or None."""
         row = self.held.db.execute("SELECT body FROM job WHERE number = ?", (number,)).fetchone()
-        return row and bytes(row[0])
+        return None if row is None else bytes(row[0])
 
 
-def check_version(state, first, version, where, program):
+def check_version(state: State, first: int, version: str, where: Where, program: str) -> None:
     """Asks that the entries from one on are this opcplan's to answer. Raises Unfit."""
     theirs, newest = version_at(state.versions, first), state.versions[max(state.versions)]
     if theirs == version:
@@ -171,7 +178,13 @@ def check_version(state, first, version, where, program):
                 f"now on by `./plan log {where} --version --program {program}`")
 
 
-def content_sum(held):
+def remove(path: str) -> None:
+    """Takes a file away, if it is there."""
+    with contextlib.suppress(FileNotFoundError):
+        os.remove(path)
+
+
+def content_sum(held: Plan) -> str:
     """A sum of all that a plan keeps."""
     found = hashlib.sha256()
     for table, keys in sound_rows.KEYS.items():

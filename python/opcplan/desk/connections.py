@@ -10,6 +10,7 @@ import logging
 import resource
 import sys
 import time
+from collections.abc import Callable
 from typing import Any
 
 from aiohttp import http_exceptions, web
@@ -64,21 +65,25 @@ class Connections:
             self.unknown.pop(transport, None)
             self.known.discard(transport)
 
-    def start(self, server: web.Server) -> None:
-        """Sees each connection of a server begin and end, for as long as this runs."""
+    def start(self, server: web.Server, meet: Callable[[asyncio.BaseTransport], None]) -> None:
+        """Sees each connection of a server begin and end, for as long as this runs; `meet` sees it begin."""
         begin, end = server.connection_made, server.connection_lost
         known_as: dict[object, asyncio.Transport] = {}
 
         def connection_made(handler: Any, transport: asyncio.Transport) -> None:
+            """A connection begins."""
             known_as[handler] = transport
+            meet(transport)
             self.begin(transport)
             begin(handler, transport)
 
         def connection_lost(handler: Any, error: BaseException | None = None) -> None:
+            """A connection is over."""
             self.end(known_as.pop(handler, None))
             end(handler, error)
 
-        server.connection_made, server.connection_lost = connection_made, connection_lost
+        for name, how in (("connection_made", connection_made), ("connection_lost", connection_lost)):
+            setattr(server, name, how)  # aiohttp has no other way to see them
         asyncio.get_running_loop().set_exception_handler(self.on_fault)
         logging.getLogger("aiohttp.server").addFilter(is_defect)
         self.task = asyncio.create_task(self.watch())

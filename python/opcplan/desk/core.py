@@ -3,13 +3,17 @@
 import asyncio
 import contextlib
 import time
+from collections.abc import Callable, Sequence
 
 from opcplan.desk import metrics, state
 from opcplan.desk.errors import Refused, used_otherwise
 from opcplan.desk.events import Events
 from opcplan.desk.feed import Feed, PATIENCE
+from opcplan.desk.held_files import HeldFiles
+from opcplan.desk.log import Kept, Log
 from opcplan.desk.planner import Ask, Planner, Stopped
 from opcplan.errors import LogUnwritable
+from opcplan.plans.entry import Entry, Wanted
 
 # of lists that are shared as long as nothing changes
 MOST_LISTS = 64
@@ -21,64 +25,67 @@ class Desk:
     """The desk over HeldFiles, of which it has the locks, and a log. What the journal has without a reply is asked
     again before anything else."""
 
-    def __init__(self, program, files, the_log, why_not, limit):
+    def __init__(self, program: str, files: HeldFiles, the_log: Log, why_not: Callable[[], str], limit: float) -> None:
         self.log, self.files = the_log, files
         pending = the_log.unanswered()
         position = pending[0].seq - 1 if pending else the_log.given
-        self.state = state.State(the_log.life, position, the_log.chain_at(position),
-                                 [ask_of(one, one.line.split(" ")[0]) for one in pending])
+        self.state: state.State[Ask] = state.State(the_log.life, position, the_log.chain_at(position),
+                                                   [ask_of(one, one.line.split(" ")[0]) for one in pending])
         self.planner = Planner(program, files, self.state, self.on_answer, self.on_stop, why_not, limit)
         self.events, self.metrics = Events(self), metrics.Metrics()
         self.feed = Feed(self)
-        self.lists = {}
-        self.writing = None
+        self.lists: dict[bytes, Ask] = {}
+        self.writing: asyncio.Task[None] | None = None
 
-    def start(self):
+    def start(self) -> None:
         """Begins."""
         self.planner.start()
         self.feed.start()
         self.writing = asyncio.create_task(self.write_late())
 
-    async def close(self):
+    async def close(self) -> None:
         """Ends what is in flight, and leaves the plan in one file and the journal whole."""
         await self.feed.close()
         await self.planner.close()
-        self.writing.cancel()
+        if self.writing is not None:
+            self.writing.cancel()
         with contextlib.suppress(LogUnwritable):
             await self.keep_replies()
         self.events.close()
         await self.log.close()
 
     @property
-    def is_busy(self):
+    def is_busy(self) -> bool:
         """Whether changes are under way."""
         return bool(self.feed.queue or self.feed.batch or self.state.changes)
 
     # What is taken.
 
     @property
-    def position(self):
+    def position(self) -> int:
         """The entry up to which the plan has all."""
         return self.state.position
 
-    def tag(self):
+    def tag(self) -> str:
         """Names the state of the plan."""
         return self.state.tag
 
-    def after(self, last, most):
+    def after(self, last: int, most: int) -> list[Entry]:
         """At most so many answered Entries behind one, as far as there are any."""
         due = self.state.due(last, most)
         if not isinstance(due, state.Read):
             return due
-        return self.log.entries(due.since, most, due.upto) or self.state.due(due.upto, most)
+        found = self.log.entries(due.since, most, due.upto) or self.state.due(due.upto, most)
+        assert not isinstance(found, state.Read)  # what is due up to there is in memory
+        return found
 
-    def ask_question(self, name, text, waits=False):
+    def ask_question(self, name: str, text: bytes, waits: bool = False) -> Ask:
         """An Ask of a statement that changes nothing; it perhaps waits for the changes before it. Raises Refused."""
         ask = Ask(name, text)
         self.feed.put(ask, not waits)
         return ask
 
-    def ask_list(self, text):
+    def ask_list(self, text: bytes) -> Ask:
         """An Ask of a list, which callers share as long as nothing changes. Raises Refused."""
         ask = self.lists.get(text)
         if ask is None:
@@ -87,7 +94,7 @@ class Desk:
             ask = self.lists[text] = self.ask_question("list", text)
         return ask
 
-    def ask_change(self, name, wanted, condition=None):
+    def ask_change(self, name: str, wanted: Wanted, condition: str | None = None) -> Ask:
         """An Ask of a change, perhaps the one that its key stands for already. Raises Refused."""
         known = self.known(wanted)
         if known is not None:
@@ -99,7 +106,7 @@ class Desk:
             self.state.wants(wanted.who, wanted.key, ask)
         return ask
 
-    def known(self, wanted):
+    def known(self, wanted: Wanted) -> Ask | None:
         """The Ask that the key of a change stands for, or None. Raises Refused where it is another change."""
         if wanted.key is None:
             return None
@@ -110,13 +117,15 @@ class Desk:
                 return None
             ask = Ask("", old.text)
             ask.entry, ask.reply = old, old.reply
-        job = ask.entry.job if ask.entry else ask.wanted.job
-        text = ask.entry.text if ask.entry else ask.wanted.text(job)
-        if wanted.text(job) != text:
+        if ask.entry is not None:
+            is_same = wanted.text(ask.entry.job) == ask.entry.text
+        else:
+            is_same = ask.wanted is not None and wanted.is_like(ask.wanted)
+        if not is_same:
             raise used_otherwise(wanted.key)
         return ask
 
-    async def claim(self, who, key, wanted):
+    async def claim(self, who: str, key: str, wanted: Sequence[Wanted]) -> None:
         """Takes a caller's key for a stream, whose changes these are, until `release`. Raises Refused where the key
         stands for another one."""
         unknown = [one for one in wanted if self.known(one) is None]
@@ -124,21 +133,23 @@ class Desk:
             for place, one in (await self.log.used(unknown)).items():
                 if one is None:
                     raise used_otherwise(unknown[place].key)
-        if not self.state.claim(who, key, wanted[0].stream, self.log.stream_of(who, key)):
+        stream = wanted[0].stream
+        assert stream is not None  # of one that has a key
+        if not self.state.claim(who, key, stream, self.log.stream_of(who, key)):
             raise used_otherwise(key)
 
-    def release(self, who, key):
+    def release(self, who: str, key: str) -> None:
         """A stream is over for which its caller's key was taken."""
         self.state.release(who, key)
 
-    def ask_of(self, one, name):
+    def ask_of(self, one: Entry, name: str | None) -> Ask:
         """An Ask of an Entry, which its key finds."""
         ask = ask_of(one, name)
         if one.key is not None:
             self.state.wants(one.who, one.key, ask)
         return ask
 
-    async def catch_up(self):
+    async def catch_up(self) -> int:
         """Waits until the plan has what the log has now, and answers the last entry. Raises Refused."""
         until = time.monotonic() + PATIENCE
         try:
@@ -152,15 +163,16 @@ class Desk:
             await asyncio.sleep(LATE / 50)
         return last
 
-    def forget(self, ask):
+    def forget(self, ask: Ask) -> None:
         """Lets a statement go that wasn't taken."""
         if ask.wanted is not None and ask.wanted.key is not None:
             self.state.forget(ask.wanted.who, ask.wanted.key, ask)
-        self.lists.pop(ask.text, None)
+        if ask.text is not None:
+            self.lists.pop(ask.text, None)
 
     # What comes back.
 
-    def on_answer(self, one):
+    def on_answer(self, one: state.Answer[Ask]) -> None:
         """Takes the Answer of a statement, and has its callers hear it."""
         ask = one.item
         if ask.name is not None:
@@ -175,7 +187,7 @@ class Desk:
         ask.tag, ask.position = one.tag, one.position
         ask.answer(one.reply)
 
-    def on_stop(self, why):
+    def on_stop(self, why: str) -> None:
         """Sends all away who wait for the planner; what stands in the log stays."""
         self.feed.drop_queue(Stopped(why))
         self.feed.drop_questions(Stopped(why))
@@ -183,7 +195,8 @@ class Desk:
             ask.fail(Stopped(why))
         self.lists.clear()
 
-    async def write_late(self):
+    async def write_late(self) -> None:
+        """Has the log keep replies that no change takes along, and takes digests from other desks."""
         while True:
             await asyncio.sleep(LATE)
             for entry, digest in self.log.adopts().items():
@@ -192,24 +205,24 @@ class Desk:
                 with contextlib.suppress(LogUnwritable):
                     await self.keep_replies()
 
-    async def keep_replies(self):
+    async def keep_replies(self) -> None:
         """Has the log keep what was answered. Raises Unwritable."""
         entries = self.state.unkept()
         if entries:
             await self.log.keep_replies(self.replies_of(entries))
             self.state.keeps(entries)
 
-    def replies_of(self, entries):
-        """The replies of answered Entries as the journal keeps them: (seq, reply, digest)."""
-        return [(one.seq, one.reply, digest) for one, digest in zip(entries, self.state.digests(entries))]
+    def replies_of(self, entries: Sequence[Entry]) -> list[Kept]:
+        """The replies of answered Entries as the journal keeps them."""
+        return [Kept(one.seq, one.reply or "", digest) for one, digest in zip(entries, self.state.digests(entries))]
 
     @property
-    def trouble(self):
+    def trouble(self) -> str:
         """Why the desk answers nothing, or takes no change, for now."""
         return self.planner.trouble or self.log.trouble
 
 
-def ask_of(one, name):
+def ask_of(one: Entry, name: str | None) -> Ask:
     """An Ask of an Entry."""
     ask = Ask(name, one.text)
     ask.entry = one

@@ -6,11 +6,11 @@ from opcplan.errors import Error
 class Refused(Error):
     """Why a statement isn't taken, with HTTP's status."""
 
-    def __init__(self, status, text):
+    def __init__(self, status: int, text: str) -> None:
         super().__init__(text)
         self.status = status
 
 
-def used_otherwise(key):
+def used_otherwise(key: str | None) -> Refused:
     """The Refused of a key that stands for another statement."""
     return Refused(409, f"the key {key} stands for another statement")

@@ -2,13 +2,17 @@
 
 import asyncio
 import contextlib
+import dataclasses
 import json
 import re
 import time
+from collections.abc import Callable, Mapping, Sequence
+from typing import Any
 
 import aiohttp
 
 from opcplan.desk.log_entries import in_base64, of_base64
+from opcplan.desk.log_words import Access
 from opcplan.errors import Error
 
 # how long one call may take, in seconds
@@ -27,34 +31,56 @@ class Away(Error):
 class Wrong(Error):
     """What etcd says against a call: nothing was done."""
 
-    def __init__(self, code, text):
+    def __init__(self, code: int, text: str) -> None:
         super().__init__(text)
         self.code = code
+
+
+@dataclasses.dataclass(frozen=True)
+class Member:
+    """How a node stands; of one that doesn't answer `why` says so, and the others are as they are here."""
+
+    endpoint: str
+    answers: bool
+    why: str = ""
+    bytes: int = 0  # of its database
+    in_use: int = 0
+    quota: int | None = None
+    leads: bool = False
+    version: str = ""
+
+    def values(self) -> dict[str, Any]:
+        """What is told of it in JSON, by name."""
+        if not self.answers:
+            return {"endpoint": self.endpoint, "answers": False, "why": self.why}
+        return {"endpoint": self.endpoint, "answers": True, "bytes": self.bytes, "in use": self.in_use,
+                "quota": self.quota, "leads": self.leads, "version": self.version}
 
 
 class Etcd:
     """The nodes of etcd that are named."""
 
-    def __init__(self, endpoints, access):
+    def __init__(self, endpoints: Sequence[str], access: Access) -> None:
         scheme = "https" if access.tls else "http"
         self.endpoints = [f"{scheme}://{one}" for one in endpoints]
-        self.access, self.token, self.turn, self.session = access, None, 0, None
-        self.quotas = {}
+        self.access, self.turn = access, 0
+        self.token: str | None = None
+        self.quotas: dict[str, int] = {}
 
-    async def __aenter__(self):
+    async def __aenter__(self) -> "Etcd":
         connector = aiohttp.TCPConnector(ssl=self.access.tls or False, limit=0)
         self.session = aiohttp.ClientSession(connector=connector)
         return self
 
-    async def __aexit__(self, *_):
+    async def __aexit__(self, *_: object) -> None:
         await self.session.close()
 
     @property
-    def endpoint(self):
+    def endpoint(self) -> str:
         """The node that is asked first."""
         return self.endpoints[self.turn % len(self.endpoints)]
 
-    async def post(self, path, said, until=None):
+    async def post(self, path: str, said: Mapping[str, Any], until: float | None = None) -> Any:
         """What the first node that answers says, up to a moment of the steady clock. Raises Away and Wrong."""
         why = ""
         for _ in self.endpoints:
@@ -70,7 +96,7 @@ class Etcd:
                     self.turn += 1
         raise Away(f"etcd doesn't answer: {why}" if why else "etcd doesn't answer in time")
 
-    async def at(self, endpoint, path, said, patience=CALL):
+    async def at(self, endpoint: str, path: str, said: Mapping[str, Any], patience: float = CALL) -> Any:
         """What one node says. Raises Away and Wrong."""
         try:
             return await self.once(endpoint, path, said, patience)
@@ -81,17 +107,20 @@ class Etcd:
         self.token = None
         return await self.once(endpoint, path, said, patience)
 
-    async def once(self, endpoint, path, said, patience):
-        heads = {}
+    async def once(self, endpoint: str, path: str, said: Mapping[str, Any], patience: float) -> Any:
+        """What one node says, with a login where etcd has users. Raises Away and Wrong."""
+        heads: dict[str, str] = {}
         if self.access.user is not None:
             if self.token is None:
-                name, password = self.access.user
-                login = {"name": name, "password": password}
-                self.token = (await self.sent(endpoint, "/v3/auth/authenticate", login, {}, patience))["token"]
+                login = self.access.user._asdict()
+                said_of_it = await self.sent(endpoint, "/v3/auth/authenticate", login, {}, patience)
+                self.token = str(said_of_it["token"])
             heads["Authorization"] = self.token
         return await self.sent(endpoint, path, said, heads, patience)
 
-    async def sent(self, endpoint, path, said, heads, patience):
+    async def sent(self, endpoint: str, path: str, said: Mapping[str, Any], heads: Mapping[str, str],
+                   patience: float) -> Any:
+        """What one node says to a question with these headers. Raises Away and Wrong."""
         limit = aiohttp.ClientTimeout(total=patience)
         try:
             async with self.session.post(endpoint + path, json=said, headers=heads, timeout=limit) as answer:
@@ -117,7 +146,7 @@ class Etcd:
             raise Away(f"{endpoint}: {told}")
         raise Wrong(code, told)
 
-    async def watch(self, key, on_value):
+    async def watch(self, key: str, on_value: Callable[[bytes], None]) -> None:
         """Calls `on_value` with each value that a key gets, until the node ends it. Raises Away and Wrong."""
         said = {"create_request": {"key": in_base64(key)}}
         limit = aiohttp.ClientTimeout(total=None, sock_connect=CALL, sock_read=60)
@@ -136,7 +165,7 @@ class Etcd:
         except (aiohttp.ClientError, asyncio.TimeoutError, OSError, ValueError) as error:
             raise Away(f"{self.endpoint}: {error}") from None
 
-    async def quota(self, endpoint):
+    async def quota(self, endpoint: str) -> int | None:
         """The bytes that a node's database may have, or None where it doesn't tell."""
         if endpoint in self.quotas:
             return self.quotas[endpoint]
@@ -149,12 +178,12 @@ class Etcd:
                 self.quotas[endpoint] = int(float(found[1]))
         return self.quotas.get(endpoint)
 
-    async def standing(self, endpoint):
-        """How a node stands, for a reader; `answers` is False where it doesn't."""
+    async def standing(self, endpoint: str) -> Member:
+        """How a node stands."""
         try:
             found = await self.at(endpoint, "/v3/maintenance/status", {})
         except (Away, Wrong) as why:
-            return {"endpoint": endpoint, "answers": False, "why": str(why)}
-        return {"endpoint": endpoint, "answers": True, "bytes": int(found.get("dbSize", 0)),
-                "in use": int(found.get("dbSizeInUse", 0)), "quota": await self.quota(endpoint),
-                "leads": found.get("leader") == found["header"]["member_id"], "version": found.get("version", "")}
+            return Member(endpoint, False, str(why))
+        return Member(endpoint, True, "", int(found.get("dbSize", 0)), int(found.get("dbSizeInUse", 0)),
+                      await self.quota(endpoint), found.get("leader") == found["header"]["member_id"],
+                      found.get("version", ""))

@@ -7,13 +7,17 @@ import os
 import secrets
 import socket
 import time
+from collections.abc import Callable, Sequence
+from typing import Any
 
 from opcplan.desk import digests, log
-from opcplan.desk.etcd import Away, EXHAUSTED, NOT_FOUND, Wrong
-from opcplan.desk.log_entries import text_sum
+from opcplan.desk.etcd import Away, EXHAUSTED, Member, NOT_FOUND, Wrong
+from opcplan.desk.log_entries import KeyHolder, text_sum
+from opcplan.desk.store import Appended, Head, head_of, Report, State, Store
 from opcplan.desk.versions import different, first_line, version_at
 from opcplan.errors import LogUnwritable
 from opcplan.plans import chain, entry
+from opcplan.plans.journal import Journal
 
 # seconds between two looks at the head where nothing is heard of it, and between two at the nodes
 POLL, LOOK = 0.5, 5.0
@@ -34,38 +38,44 @@ class Shared(log.Log):
 
     is_shared = True
 
-    def __init__(self, journal, store, stands, given, version, path):
+    def __init__(self, journal: Journal, store: Store, stands: State, given: int, version: str, path: str) -> None:
         super().__init__(journal)
         self.store, self.state, self.version = store, stands, version
         self.head, self.versions, self.moves = stands.head, stands.versions, stands.head.moves
-        self.applied, self.begins = given, journal.begun()[1]
+        begun = journal.begun()
+        assert begun is not None  # `bootstrap.joined` has kept it
+        self.applied = given
+        _, self.begins, _, self.digest_at_begin = begun
         # appended batches are read whole: the first one may have begun before
         self.read_behind = max(0, given - log.MOST_TOGETHER + 1)
         self.has_news = given < stands.head.last
         self.heard = time.monotonic()
         self.away = self.lost = self.full = ""
-        self.members = []
-        self.lease_id, self.lease_begun, self.reported = None, 0.0, None
+        self.members: list[Member] = []
+        self.lease_id: str | None = None
+        self.lease_begun = 0.0
+        self.reported: tuple[Report, str] | None = None  # with its lease
         self.path, self.desk_id = os.path.realpath(path), name_of(path)
-        self.tasks, self.on_news = [], lambda: None
-        self.known_chains = {}
+        self.tasks: list[asyncio.Task[None]] = []
+        self.on_news: Callable[[], None] = lambda: None
+        self.known_chains: dict[int, str] = {}
 
     @property
-    def life(self):
+    def life(self) -> str:
         return self.state.id
 
     @property
-    def given(self):
+    def given(self) -> int:
         return self.applied
 
     @property
-    def trouble(self):
+    def trouble(self) -> str:
         silent = time.monotonic() - self.heard
         unheard = f"etcd hasn't answered for {silent:.0f} s" if silent > SILENT else ""
         return self.lost or self.held or self.away or unheard or self.full or self.unwritten
 
     @property
-    def held(self):
+    def held(self) -> str:
         """Why the desk holds back: another opcplan has to answer what comes next."""
         theirs = version_at(self.versions, self.given + 1)
         if theirs == self.version:
@@ -73,17 +83,17 @@ class Shared(log.Log):
         return (f"the log goes on from entry {self.given + 1} with {first_line(theirs)}, and this desk has "
                 f"{first_line(self.version)}{different(theirs, self.version)}: start it again with that program")
 
-    def chain_at(self, position):
-        _, base, _, digest = self.journal.begun()
-        begin = chain.chain_of(self.state.id, base) if base == self.state.base else digest
+    def chain_at(self, position: int) -> str | None:
+        base = self.begins
+        begin = chain.chain_of(self.state.id, base) if base == self.state.base else self.digest_at_begin
         return self.journal.digest_at(position, base, begin)
 
-    def start(self, on_news, on_difference):
+    def start(self, on_news: Callable[[], None], on_difference: Callable[[str], None]) -> None:
         self.on_news = on_news
         loops = self.watch(), self.poll(), self.look(), self.compare(on_difference)
         self.tasks = [asyncio.create_task(one) for one in loops]
 
-    async def close(self):
+    async def close(self) -> None:
         for task in self.tasks:
             task.cancel()
         await asyncio.gather(*self.tasks, return_exceptions=True)
@@ -93,7 +103,8 @@ class Shared(log.Log):
 
     # What is appended.
 
-    async def append(self, batch, replies, until):
+    async def append(self, batch: Sequence[entry.Wanted], replies: Sequence[log.Kept],
+                     until: float) -> list[entry.Entry]:
         if why := self.lost or self.held:
             raise LogUnwritable(why)
         head = self.head
@@ -103,9 +114,9 @@ class Shared(log.Log):
         came = await self.appended(head, entries, until)
         if not came.is_done:
             if came.used and came.head == head:
-                raise log.Used({place: known_entry(wanted, came.used[one.who, one.key])
-                                for place, (one, wanted) in enumerate(zip(entries, batch))
-                                if (one.who, one.key) in came.used})
+                raise log.Used({place: known_entry(one, came.used[one.who, one.key])
+                                for place, one in enumerate(batch)
+                                if one.key is not None and (one.who, one.key) in came.used})
             self.notice(came.head, self.given)
             self.has_news = True
             raise log.Behind
@@ -117,7 +128,7 @@ class Shared(log.Log):
         self.notice(came.head)
         return entries
 
-    async def appended(self, head, entries, until):
+    async def appended(self, head: Head, entries: Sequence[entry.Entry], until: float) -> Appended:
         """What came of a batch behind a head, whatever is heard of another one meanwhile. Where an answer is lost, it
         is asked again under the same mark, by which one sees that it is done. Raises Unwritable."""
         mark = secrets.token_hex(8)
@@ -142,14 +153,14 @@ class Shared(log.Log):
                 return came._replace(is_done=True)
             return came
 
-    def refused(self, why):
+    def refused(self, why: Wrong) -> str:
         """A sentence for what etcd says against a change."""
         if why.code == EXHAUSTED and "space" in str(why):
             self.full = f"etcd takes nothing: {why}; `./plan log {self.store.where} --trim` makes room"
             return self.full
         return f"etcd takes nothing: {why}"
 
-    async def lease(self):
+    async def lease(self) -> str:
         """The lease under which callers' keys are put now. Raises Away and Wrong."""
         if self.lease_id is None or time.monotonic() > self.lease_begun + DAY:
             begun = time.monotonic()
@@ -157,14 +168,14 @@ class Shared(log.Log):
             self.lease_begun = begun
         return self.lease_id
 
-    async def keep(self, entries, replies):
+    async def keep(self, entries: Sequence[entry.Entry], replies: Sequence[log.Kept]) -> None:
         await super().keep(entries, replies)
         if entries:
             self.applied = self.read_behind = entries[-1].seq
 
     # What others appended.
 
-    async def others(self):
+    async def others(self) -> list[entry.Entry]:
         if not self.has_news or self.lost:
             return []
         least = self.given
@@ -189,7 +200,7 @@ class Shared(log.Log):
             self.has_news = False
         return found
 
-    def notice(self, head, least=0):
+    def notice(self, head: Head | None, least: int = 0) -> None:
         """Takes what is heard of the head; what was asked when the plan had `least` can't be before that."""
         self.heard, self.away = time.monotonic(), ""
         if head is None or head.last < least:
@@ -202,7 +213,7 @@ class Shared(log.Log):
                 self.has_news = True
                 self.on_news()
 
-    async def ask_last(self, until):
+    async def ask_last(self, until: float) -> int:
         least = self.given
         try:
             self.notice(await self.store.head(until), least)
@@ -212,31 +223,34 @@ class Shared(log.Log):
             raise LogUnwritable(self.lost or self.held)
         return self.head.last
 
-    async def used(self, wanted):
-        keyed = [one for one in wanted if one.key is not None]
+    async def used(self, wanted: Sequence[entry.Wanted]) -> dict[int, entry.Entry | None]:
+        keyed = {place: one.key for place, one in enumerate(wanted) if one.key is not None}
         if not keyed or self.begins <= self.state.base:  # the journal has all keys
             return {}
+        first = min(keyed)
         try:
-            found = await self.store.keys(keyed[0].who, keyed[0].key.partition("#")[0])
+            found = await self.store.keys(wanted[first].who, keyed[first].partition("#")[0])
         except (Away, Wrong) as why:
             raise LogUnwritable(str(why)) from None
-        if any(told.get("stream") not in (None, keyed[0].stream) for told in found.values()):
-            return {wanted.index(keyed[0]): None}
-        return {place: known_entry(one, found[one.key]) for place, one in enumerate(wanted) if one.key in found}
+        if any(one.stream not in (None, wanted[first].stream) for one in found.values()):
+            return {first: None}
+        return {place: known_entry(wanted[place], found[key]) for place, key in keyed.items() if key in found}
 
     # What goes on besides.
 
-    async def watch(self):
+    async def watch(self) -> None:
         """Hears of the head as soon as it moves; what isn't heard is seen by `poll`."""
-        def on_value(data):
+        def on_value(data: bytes) -> None:
+            """Takes another head."""
             with contextlib.suppress(ValueError, TypeError):
-                self.notice(type(self.head)(*map(int, data.split())))
+                self.notice(head_of(data))
         while True:
             with contextlib.suppress(Away, Wrong):
                 await self.store.etcd.watch(self.store.key("head"), on_value)
             await asyncio.sleep(POLL)
 
-    async def poll(self):
+    async def poll(self) -> None:
+        """Asks for the head where nothing was heard of it for a while."""
         while True:
             await asyncio.sleep(POLL)
             if time.monotonic() - self.heard >= POLL:
@@ -246,7 +260,7 @@ class Shared(log.Log):
                 except (Away, Wrong) as why:
                     self.away = str(why)
 
-    async def look(self):
+    async def look(self) -> None:
         """Sees how the nodes stand, and says how this desk stands."""
         etcd = self.store.etcd
         while True:
@@ -257,15 +271,16 @@ class Shared(log.Log):
                 self.full = f"etcd has an alarm: {', '.join(named)}; `./plan log --trim` makes room" if named else ""
             await asyncio.sleep(LOOK)
 
-    async def compare(self, on_difference):
+    async def compare(self, on_difference: Callable[[str], None]) -> None:
         """Says how this desk stands and what it answered, at once and whenever it has some more entries or some time is
         over, and compares that with what others say."""
         while True:
             with contextlib.suppress(Away, Wrong, KeyError, TypeError, ValueError):
                 await self.report()
                 desks = await self.store.desks()
-                self.known_chains = {told["answered"]: told["chain"] for told in desks.values() if told.get("chain")}
-                others = {name: told.get("digests", {}) for name, told in desks.items() if name != self.desk_id}
+                self.known_chains = {told.answered: told.chain for told in desks.values()
+                                     if told.answered is not None and told.chain is not None}
+                others = {name: told.digests for name, told in desks.items() if name != self.desk_id}
                 if why := digests.difference(self.journal.digests(MOST_COMPARED, self.given), others):
                     on_difference(f"{why}. {digests.WAY_OUT.format(self.path, self.desk_id)}")
             until, last = time.monotonic() + LOOK, self.given
@@ -273,45 +288,47 @@ class Shared(log.Log):
             while self.given < last + EVERY and time.monotonic() < until:
                 await asyncio.sleep(POLL)
 
-    def adopts(self):
+    def adopts(self) -> dict[int, str]:
         return self.known_chains
 
-    async def report(self):
+    async def report(self) -> None:
         """Says in etcd how far this desk is and what it answered, where that changed."""
         found = self.journal.digests(digests.MOST, self.given)
         last = max(found, default=None)
-        told = {"position": self.given, "plan": self.path, "version": self.version,
-                **({"answered": last, "chain": found[last], "digests": digests.short(found)} if found else {})}
+        told = Report(self.given, self.path, self.version)
+        if last is not None:
+            told = told._replace(answered=last, chain=found[last], digests=digests.short(found))
         lease = await self.lease()
         if (told, lease) == self.reported:
             return
         try:
-            await self.store.report(self.desk_id, {**told, "at": entry.moment_now()}, lease)
+            await self.store.report(self.desk_id, told._replace(at=entry.moment_now()), lease)
             self.reported = told, lease
         except Wrong as why:
             if why.code != NOT_FOUND:
                 raise
             self.lease_id = None  # it is gone; the next report takes a new one
 
-    def standing(self, position):
+    def standing(self, position: int) -> dict[str, Any]:
         return {"log": str(self.store.where), "head": self.head.last, "behind": max(0, self.head.last - position),
-                "etcd": {**self.sizes(), "why": self.away, "members": self.members}}
+                "etcd": {**self.sizes(), "why": self.away, "members": [one.values() for one in self.members]}}
 
-    def gauges(self, position):
+    def gauges(self, position: int) -> dict[str, float]:
         """Those of the log and of etcd, as far as they are known."""
-        known = {"head": self.head.last, "behind": max(0, self.head.last - position),
-                 "etcd_members_up": sum(one["answers"] for one in self.members),
-                 **{f"etcd_{name}": value for name, value in self.sizes().items()}}
+        known: dict[str, float | None] = {
+            "head": self.head.last, "behind": max(0, self.head.last - position),
+            "etcd_members_up": sum(one.answers for one in self.members),
+            **{f"etcd_{name}": value for name, value in self.sizes().items()}}
         return {name: value for name, value in known.items() if value is not None}
 
-    def sizes(self):
+    def sizes(self) -> dict[str, int | None]:
         """The bytes of the greatest of etcd's databases, and the least quota."""
-        answer = [one for one in self.members if one["answers"]]
-        return {"bytes": max((one["bytes"] for one in answer), default=None),
-                "quota": min((one["quota"] for one in answer if one["quota"]), default=None)}
+        answer = [one for one in self.members if one.answers]
+        return {"bytes": max((one.bytes for one in answer), default=None),
+                "quota": min((one.quota for one in answer if one.quota), default=None)}
 
 
-def name_of(path):
+def name_of(path: str) -> str:
     """The name of the desk over a plan of this machine."""
     machine = b""
     with contextlib.suppress(OSError), open("/etc/machine-id", "rb") as file:
@@ -319,9 +336,9 @@ def name_of(path):
     return f"{socket.gethostname()}-{hashlib.sha256(machine + os.path.realpath(path).encode()).hexdigest()[:8]}"
 
 
-def known_entry(wanted, told):
+def known_entry(wanted: entry.Wanted, told: KeyHolder) -> entry.Entry | None:
     """The Entry for which a key stands, by what etcd has of it, or None where it is another statement's."""
-    text = wanted.text(told["job"])
-    if text_sum(text) != told["sum"] or told.get("stream") not in (None, wanted.stream):
+    text = wanted.text(told.job)
+    if text_sum(text) != told.sum or told.stream not in (None, wanted.stream):
         return None
-    return entry.Entry(told["seq"], told["at"], wanted.who, wanted.key, told["job"], text, None, wanted.stream)
+    return entry.Entry(told.seq, told.at, wanted.who, wanted.key, told.job, text, None, wanted.stream)

@@ -3,8 +3,14 @@
 import asyncio
 import contextlib
 import json
+from typing import TYPE_CHECKING
 
 from aiohttp import web
+
+from opcplan.plans.entry import Entry
+
+if TYPE_CHECKING:
+    from opcplan.desk.core import Desk
 
 # entries that are told together
 PAGE = 500
@@ -17,20 +23,21 @@ ANEW = "anew-0"
 class Events:
     """Those who listen to a desk. Each has the number of the last entry that it was told, and gets what comes then."""
 
-    def __init__(self, desk):
-        self.desk, self.listeners, self.is_closed = desk, set(), False
+    def __init__(self, desk: "Desk") -> None:
+        self.desk, self.is_closed = desk, False
+        self.listeners: set[asyncio.Event] = set()
 
-    def wake(self):
+    def wake(self) -> None:
         """Has all listeners look for what came."""
         for listener in self.listeners:
             listener.set()
 
-    def close(self):
+    def close(self) -> None:
         """Has all listeners end, once they have all that there is."""
         self.is_closed = True
         self.wake()
 
-    async def handle(self, request):
+    async def handle(self, request: web.Request) -> web.StreamResponse:
         """GET /events."""
         since = since_of(request)
         listener = asyncio.Event()
@@ -47,7 +54,7 @@ class Events:
             self.listeners.discard(listener)
         return response
 
-    async def follow(self, response, listener, since):
+    async def follow(self, response: web.StreamResponse, listener: asyncio.Event, since: int | None) -> None:
         """Tells what the log has behind a position, and what comes; after each entry behind which none waits, the
         state."""
         last = self.desk.position if since is None else since
@@ -68,23 +75,25 @@ class Events:
             else:
                 await self.wait(response, listener)
 
-    async def wait(self, response, listener):
+    async def wait(self, response: web.StreamResponse, listener: asyncio.Event) -> None:
         """Waits for the next entry, and now and then says that the desk is there."""
         with contextlib.suppress(asyncio.TimeoutError):
             await asyncio.wait_for(listener.wait(), QUIET)
             return
         await response.write(b": the desk is there\n\n")
 
-    def state_text(self, tag=None):
+    def state_text(self, tag: str | None = None) -> bytes:
+        """The event that names the state of the plan."""
         told = {"tag": tag or self.desk.tag(), "position": self.desk.position}
         return f"event: state\ndata: {json.dumps(told)}\n\n".encode()
 
 
-def entry_text(one):
+def entry_text(one: Entry) -> bytes:
+    """The event of an answered entry."""
     return f"id: {one.seq}\nevent: entry\ndata: {json.dumps(one.values())}\n\n".encode()
 
 
-def since_of(request):
+def since_of(request: web.Request) -> int | None:
     """The position behind which a reader goes on, or None. Raises HTTPBadRequest."""
     text = request.headers.get("Last-Event-ID") or request.query.get("since")
     if text is None:

@@ -3,10 +3,17 @@
 import asyncio
 import collections
 import time
+from collections.abc import Mapping, Sequence
+from typing import TYPE_CHECKING
 
 from opcplan.desk import log
 from opcplan.desk.errors import Refused, used_otherwise
+from opcplan.desk.planner import Ask
 from opcplan.errors import LogUnwritable
+from opcplan.plans.entry import Entry
+
+if TYPE_CHECKING:
+    from opcplan.desk.core import Desk
 
 MOST_QUEUED = 5000
 # of changes that are put into the log together
@@ -23,21 +30,23 @@ class Feed:
     """The queues of a desk, and the two pumps that empty them: that of changes and of questions which wait for changes,
     and that of other questions."""
 
-    def __init__(self, desk):
+    def __init__(self, desk: "Desk") -> None:
         self.desk, self.log = desk, desk.log
-        self.queue, self.batch = collections.deque(), []
-        self.questions = collections.deque()
+        self.queue: collections.deque[Ask] = collections.deque()
+        self.batch: list[Ask] = []
+        self.questions: collections.deque[Ask] = collections.deque()
         self.wake, self.question_wake, self.hold = asyncio.Event(), asyncio.Event(), asyncio.Lock()
         self.is_closing = False
-        self.asking = []  # the question that opcplan has
+        self.asking: list[Ask] = []  # the question that opcplan has
         self.over = self.took = 0.0  # when the last question was answered, and how long that took
-        self.pumps = []
+        self.pumps: list[asyncio.Task[None]] = []
 
-    def start(self):
+    def start(self) -> None:
+        """Begins."""
         self.log.start(self.wake.set, self.desk.planner.halt)
         self.pumps = [asyncio.create_task(one) for one in (self.pump(), self.pump_questions())]
 
-    async def close(self):
+    async def close(self) -> None:
         """Ends what waits."""
         self.is_closing = True
         self.wake.set()
@@ -48,7 +57,7 @@ class Feed:
                 for pump in self.pumps:
                     pump.cancel()  # what it holds stands in the log
 
-    def put(self, ask, is_alone=False):
+    def put(self, ask: Ask, is_alone: bool = False) -> None:
         """Puts a statement into the queue of changes, or that of questions alone. Raises Refused."""
         if self.is_closing:
             raise Refused(503, "the desk is being ended")
@@ -61,7 +70,8 @@ class Feed:
 
     # What goes to the log, and then to the planner.
 
-    async def pump(self):
+    async def pump(self) -> None:
+        """Empties the queue of changes, until the desk closes."""
         while True:
             self.wake.clear()
             is_level = await self.take_others()
@@ -80,7 +90,8 @@ class Feed:
             if is_level:
                 await self.wake.wait()
 
-    async def pump_questions(self):
+    async def pump_questions(self) -> None:
+        """Empties the queue of questions, until the desk closes."""
         while not self.is_closing or self.questions:
             if self.questions:
                 await self.let_changes_go()
@@ -90,14 +101,14 @@ class Feed:
                 self.question_wake.clear()
                 await self.question_wake.wait()
 
-    async def let_changes_go(self):
+    async def let_changes_go(self) -> None:
         """Waits twice as long as the last question took, where changes are under way: questions have a third of the
         time."""
         until = self.over + min(2 * self.took, MOST_HELD)
         while self.desk.is_busy and time.monotonic() < until and not self.is_closing:
             await asyncio.sleep(REST / 20)
 
-    async def answered(self, ask):
+    async def answered(self, ask: Ask) -> None:
         """Gives a question over, and waits until it is answered."""
         begun, future, self.asking = time.monotonic(), ask.wait(), [ask]
         await self.give([ask])
@@ -108,14 +119,14 @@ class Feed:
         self.over = time.monotonic()
         self.took = self.over - begun
 
-    async def give(self, asks):
+    async def give(self, asks: Sequence[Ask]) -> None:
         """Gives statements over to the planner."""
         for ask in asks:
             await self.desk.planner.room.wait()
             async with self.hold:
                 await self.desk.planner.give(ask)
 
-    async def take_others(self):
+    async def take_others(self) -> bool:
         """Gives over what others appended; whether all of it was."""
         try:
             while entries := await self.log.others():
@@ -129,13 +140,14 @@ class Feed:
             return False
         return True
 
-    def log_is_late(self):
+    def log_is_late(self) -> bool:
         """Whether those who wait have waited long enough for the log."""
         return bool(self.queue) and self.queue[0].begun + PATIENCE < time.monotonic()
 
-    async def next_batch(self):
+    async def next_batch(self) -> list[Ask]:
         """The next statements; one with a condition stands alone, and only where its state is that of the plan."""
-        batch, size = [], 0
+        batch: list[Ask] = []
+        size = 0
         while self.queue and self.queue[0].condition is None and len(batch) < log.MOST_TOGETHER and size < BATCH_BYTES:
             batch.append(self.queue.popleft())
             size += batch[-1].size
@@ -146,7 +158,7 @@ class Feed:
             if await self.log.ask_last(time.monotonic() + PATIENCE) != self.log.given:
                 return []  # what others appended comes first
             await self.desk.planner.idle_or_stopped()
-            if not (self.desk.state.is_state(ask.condition) or await self.is_done(ask)):
+            if not (self.desk.state.is_state(ask.condition or "") or await self.is_done(ask)):
                 why = Refused(412, "the plan has changed since it was looked at; nothing was done")
         except LogUnwritable as error:
             why = Refused(503, f"{error}; nothing was done")
@@ -157,9 +169,9 @@ class Feed:
             self.drop_all([ask], why)
         return [] if why is not None else [ask]
 
-    async def is_done(self, ask):
+    async def is_done(self, ask: Ask) -> bool:
         """Whether a change stands in the log under its key, and is answered as it was. Raises Unwritable."""
-        if ask.is_again or ask.wanted.key is None:
+        if ask.is_again or ask.wanted is None or ask.wanted.key is None:
             return ask.is_again
         known = self.known_since(ask) or (await self.log.used([ask.wanted])).get(0)
         if known is None or known.text != ask.wanted.text(known.job):
@@ -167,18 +179,18 @@ class Feed:
         ask.stands_for(known)
         return True
 
-    async def enter(self, batch):
+    async def enter(self, batch: Sequence[Ask]) -> bool:
         """Whether the changes of a batch stand in the log; where they don't, those who wait are told."""
         changes = [ask for ask in batch if ask.is_change]
         if not changes:
             return True
-        if self.log.is_shared and (used := {place: None for place, ask in enumerate(changes) if self.is_used(ask)}):
-            await self.not_entered(batch, changes, log.Used(used))
+        if self.log.is_shared and (used := [place for place, ask in enumerate(changes) if self.is_used(ask)]):
+            await self.not_entered(batch, changes, log.Used(dict.fromkeys(used)))
             return False
         replies = self.desk.state.unkept()
         try:
-            entries = await self.log.append([ask.wanted for ask in changes], self.desk.replies_of(replies),
-                                            time.monotonic() + PATIENCE)
+            entries = await self.log.append([ask.wanted for ask in changes if ask.wanted is not None],
+                                            self.desk.replies_of(replies), time.monotonic() + PATIENCE)
         except (LogUnwritable, log.Behind, log.Used) as why:
             await self.not_entered(batch, changes, why)
             return False
@@ -187,7 +199,7 @@ class Feed:
             ask.text, ask.entry = one.text, one
         return True
 
-    async def not_entered(self, batch, changes, why):
+    async def not_entered(self, batch: Sequence[Ask], changes: Sequence[Ask], why: Exception) -> None:
         """Has the statements of a batch, none of which stands in the log, tried again, or sends away who waits."""
         if isinstance(why, log.Unsure):
             self.drop_all(batch, Refused(503, str(why)))
@@ -196,7 +208,7 @@ class Feed:
         if isinstance(why, LogUnwritable):
             self.drop_all(batch, Refused(503, f"{why}; nothing was done"))
             return
-        found = why.found if isinstance(why, log.Used) else {}
+        found: Mapping[int, Entry | None] = why.found if isinstance(why, log.Used) else {}
         if isinstance(why, log.Behind):
             await self.take_others()
             found = {place: known for place, ask in enumerate(changes) if (known := self.known_since(ask)) is not None}
@@ -205,22 +217,23 @@ class Feed:
             ask = changes[place]
             if ask not in self.queue:
                 continue  # it went with one of its stream
+            assert ask.wanted is not None
             if one is None or one.text != ask.wanted.text(one.job):
                 self.queue.remove(ask)
                 self.drop_all([ask], used_otherwise(ask.wanted.key))
             else:
                 ask.stands_for(one)
 
-    def is_used(self, ask):
+    def is_used(self, ask: Ask) -> bool:
         """Whether the key of a change stands for another stream by now, at another desk."""
         wanted = ask.wanted
-        if wanted.key is None or wanted.stream is None:
+        if wanted is None or wanted.key is None or wanted.stream is None:
             return False
         return self.log.stream_of(wanted.who, wanted.key.partition("#")[0]) not in (None, wanted.stream)
 
-    def known_since(self, ask):
+    def known_since(self, ask: Ask) -> Entry | None:
         """The Entry that the key of a change stands for by now, at another desk, or None."""
-        if ask.wanted.key is None:
+        if ask.wanted is None or ask.wanted.key is None:
             return None
         other = self.desk.state.known(ask.wanted.who, ask.wanted.key)
         if other is not None and other is not ask and other.entry is not None:
@@ -229,27 +242,30 @@ class Feed:
 
     # Who is sent away.
 
-    def drop_queue(self, error):
+    def drop_queue(self, error: Exception) -> None:
         """Sends all away who wait in the queue."""
         queue, self.queue = list(self.queue), collections.deque()
         self.drop_all(queue, error)
 
-    def drop_questions(self, error):
+    def drop_questions(self, error: Exception) -> None:
         """Sends those away who wait for no change."""
         while self.questions:
             self.drop(self.questions.popleft(), error)
 
-    def drop_all(self, asks, error):
+    def drop_all(self, asks: Sequence[Ask], error: Exception) -> None:
         """Sends those away who wait for statements that aren't in the log, and for what their streams have behind them:
         nothing of a stream is done before what stands before it."""
         while asks:
             for ask in asks:
                 self.drop(ask, error)
-            left, self.queue, asks = self.queue, collections.deque(), []
-            for ask in left:
-                (asks if any(one.is_broken for one in ask.streams) else self.queue).append(ask)
+            broken: list[Ask] = []
+            left: collections.deque[Ask] = collections.deque()
+            for ask in self.queue:
+                (broken if any(one.is_broken for one in ask.streams) else left).append(ask)
+            self.queue, asks = left, broken
 
-    def drop(self, ask, error):
+    def drop(self, ask: Ask, error: Exception) -> None:
+        """Sends those away who wait for a statement."""
         for one in ask.streams:
             one.is_broken = True
         self.desk.forget(ask)

@@ -1,5 +1,6 @@
 """Who may ask a desk for what: hosts, origins, an own header, tokens, users and roles."""
 
+import asyncio
 import contextlib
 import hashlib
 import hmac
@@ -10,10 +11,13 @@ import secrets
 import socket
 import time
 import weakref
+from collections.abc import Awaitable, Callable, Sequence
+from typing import Generic, NamedTuple, TypeVar
 
 from aiohttp import web
 
 from opcplan.desk import peers, routes
+from opcplan.desk.settings import Settings
 from opcplan.errors import Error
 from opcplan.rules.statements import Role
 
@@ -24,23 +28,55 @@ LOGIN_HEADER = "X-Forwarded-User"
 COOKIE, SESSION_SECONDS = "opcplan-desk", 12 * 3600
 MOST_SESSIONS = 10_000
 EVERYONE, NOBODY = "*", "nobody"
+Handler = Callable[[web.Request], Awaitable[web.StreamResponse]]
+Value = TypeVar("Value")
+
+
+class Bearer(NamedTuple):
+    """Who has a token, and what that one may."""
+
+    who: str
+    role: int
+
+
+class Caller(NamedTuple):
+    """Who asks, what that one may, and whether a browser's page may be behind it."""
+
+    who: str
+    role: int
+    is_page: bool
+
+
+class Session(NamedTuple):
+    """The token that a cookie stands for, and until when, by the steady clock."""
+
+    digest: str
+    until: float
+
+
+class Listing(NamedTuple, Generic[Value]):
+    """What a line lists under a name, or under the hash of a token."""
+
+    name: str
+    value: Value
 
 
 class Wrong(Error):
     """What is wrong with a file of users or tokens."""
 
 
-class Listed:
+class Listed(Generic[Value]):
     """A file of lines `NAME ROLE` or `HASH NAME ROLE`, read again where it changed; a faulty one lists nobody."""
 
-    def __init__(self, path, read):
-        self.path, self.read = path, read
-        self.stamp, self.found, self.wrong = None, {}, ""
+    def __init__(self, path: str, read: Callable[[Sequence[str]], Listing[Value]]) -> None:
+        self.path, self.read, self.wrong = path, read, ""
+        self.stamp: tuple[int, int, int] | None = None  # what changes where the file does
+        self.found: dict[str, Value] = {}
         self.now()
         if self.wrong:
             raise Wrong(self.wrong)
 
-    def now(self):
+    def now(self) -> dict[str, Value]:
         """What the file lists now."""
         try:
             stat = os.stat(self.path)
@@ -54,7 +90,8 @@ class Listed:
             self.stamp, self.found, self.wrong = None, {}, f"{self.path}: {error}"
         return self.found
 
-    def of_file(self):
+    def of_file(self) -> dict[str, Value]:
+        """What stands in the file. Raises Wrong, OSError and UnicodeDecodeError."""
         found = {}
         with open(self.path, encoding="utf-8") as file:
             for number, line in enumerate(file, 1):
@@ -69,42 +106,43 @@ class Listed:
         return found
 
 
-def user_line(words):
-    """The name and role of `NAME ROLE`."""
+def user_line(words: Sequence[str]) -> Listing[int]:
+    """What `NAME ROLE` lists. Raises ValueError and KeyError."""
     name, role = words
-    return name, ROLES[role]
+    return Listing(name, ROLES[role])
 
 
-def token_line(words):
-    """The hash of `HASH NAME ROLE`, and name and role."""
+def token_line(words: Sequence[str]) -> Listing[Bearer]:
+    """What `HASH NAME ROLE` lists. Raises ValueError and KeyError."""
     digest, name, role = words
     if not re.fullmatch("[0-9a-f]{64}", digest):
         raise ValueError
-    return digest, (name, ROLES[role])
+    return Listing(digest, Bearer(name, ROLES[role]))
 
 
 class Guard:
-    """Says who asks and what that one may. `given` has the words of the command."""
+    """Says who asks and what that one may."""
 
-    def __init__(self, given):
+    def __init__(self, given: Settings) -> None:
         self.users = Listed(given.users, user_line) if given.users else None
         self.tokens = Listed(given.tokens, token_line) if given.tokens else None
-        self.proxy_address, self.proxy_user = proxy_of(given.proxy)
-        self.hosts = {host.lower() for host in given.host}
-        self.sessions = {}
-        self.users_of = weakref.WeakKeyDictionary()  # by connection
-        self.lesser = {}  # by route: the handler for callers who lack its role
+        self.proxy = proxy_of(given.proxy)
+        self.hosts = {host.lower() for host in given.hosts}
+        self.sessions: dict[str, Session] = {}  # by cookie
+        self.users_of: weakref.WeakKeyDictionary[asyncio.BaseTransport, int | None] = weakref.WeakKeyDictionary()
+        self.lesser: dict[routes.Route, Handler] = {}  # for callers who lack the role of the route
 
-    def add_listener(self, host, port):
+    def add_listener(self, host: str, port: int) -> None:
         """Takes the names of an address that is listened on among the hosts."""
         shown = f"[{host}]" if ":" in host else host
         names = {shown, "localhost"} if ipaddress.ip_address(host).is_loopback else {shown}
         self.hosts |= {f"{name}:{port}" for name in names}
 
     @web.middleware
-    async def middleware(self, request, handler):
+    async def middleware(self, request: web.Request, handler: Handler) -> web.StreamResponse:
         """Asks who the caller is and that this one has the role of the route, for each route alike."""
-        request["who"], request["role"] = self.caller_of(request)
+        caller = self.caller_of(request)
+        request["who"], request["role"] = caller.who, caller.role
         route = routes.of_request(request)
         if route is not None and request["role"] < route.role:
             if route not in self.lesser:
@@ -116,21 +154,21 @@ class Guard:
             response.headers.setdefault("X-Content-Type-Options", "nosniff")
         return response
 
-    def caller_of(self, request):
-        """Who asks, and the role of that one. Raises HTTPForbidden and HTTPUnauthorized."""
+    def caller_of(self, request: web.Request) -> Caller:
+        """Who asks. Raises HTTPForbidden and HTTPUnauthorized."""
         peer = request.transport.get_extra_info("socket") if request.transport else None
         if peer is None:
             raise web.HTTPForbidden(text="the caller is gone\n")
         by_socket = peer.family == socket.AF_UNIX
-        who, role, is_page = self.by_socket(request, peer) if by_socket else self.by_address(request)
-        if not role and not is_open(request):
-            raise web.HTTPForbidden(text=f"{who} may not use this desk\n")
-        self.check_origin(request, is_page)
+        caller = self.by_socket(request, peer) if by_socket else self.by_address(request)
+        if not caller.role and not is_open(request):
+            raise web.HTTPForbidden(text=f"{caller.who} may not use this desk\n")
+        self.check_origin(request, caller.is_page)
         if request.method not in ("GET", "HEAD") and request.headers.get(OWN_HEADER) != OWN_VALUE:
             raise web.HTTPForbidden(text=f"a change has the header `{OWN_HEADER}: {OWN_VALUE}`\n")
-        return who, role
+        return caller
 
-    def check_origin(self, request, is_page):
+    def check_origin(self, request: web.Request, is_page: bool) -> None:
         """Asks that a page of this desk asks, and not one of another place, or of another name for this one."""
         if is_page and request.headers.get("Host", "").lower() not in self.hosts:
             raise web.HTTPForbidden(text="the desk isn't known under the host of this request; --host names one\n")
@@ -140,92 +178,94 @@ class Guard:
 
     # By a Unix socket.
 
-    def by_socket(self, request, peer):
-        """Who asks by the socket, the role, and whether a browser's page may be behind it."""
+    def by_socket(self, request: web.Request, peer: socket.socket) -> Caller:
+        """Who asks by the socket. Raises HTTPUnauthorized."""
         uid = peers.of_socket(peer)
         who = peers.name_of(uid)
-        if self.proxy_user is not None and who == self.proxy_user:
+        if self.proxy.user is not None and who == self.proxy.user:
             name = request.headers.get(LOGIN_HEADER, "")
             if not re.fullmatch(r"[!-~]{1,100}", name) or name == EVERYONE:
                 raise web.HTTPUnauthorized(text=f"the proxy names no user by {LOGIN_HEADER}\n")
-            return name, self.role_of(name, 0), True
-        return who, self.role_of(who, PLAN if peers.is_own(uid) else 0), False
+            return Caller(name, self.role_of(name, 0), True)
+        return Caller(who, self.role_of(who, PLAN if peers.is_own(uid) else 0), False)
 
-    def role_of(self, who, usual):
+    def role_of(self, who: str, usual: int) -> int:
         """The role of a user by the file of users, 0 where there is none."""
         listed = self.users.now() if self.users else {}
         return listed.get(who) or usual or listed.get(EVERYONE, 0)
 
     # By an address.
 
-    def by_address(self, request):
-        """Who asks by TCP, the role, and that a browser's page may be behind it."""
-        remote = ipaddress.ip_address(request.remote.partition("%")[0])
+    def by_address(self, request: web.Request) -> Caller:
+        """Who asks by TCP; a browser's page may be behind it. Raises HTTPForbidden and HTTPUnauthorized."""
+        remote = ipaddress.ip_address((request.remote or "").partition("%")[0])
         remote = getattr(remote, "ipv4_mapped", None) or remote
-        if not remote.is_loopback and remote != self.proxy_address:
+        if not remote.is_loopback and remote != self.proxy.address:
             raise web.HTTPForbidden(text="this address isn't that of the proxy\n")
         if self.tokens is None:
-            who, usual = self.user_of(request)
-            return who, self.role_of(who, usual), True
+            user = self.user_of(request)
+            return Caller(user.who, self.role_of(user.who, user.role), True)
         found = self.of_token(request) or self.of_session(request)
         if found is None and is_open(request):
-            return NOBODY, 0, True
+            return Caller(NOBODY, 0, True)
         if found is None:
             raise web.HTTPUnauthorized(text="a token is wanted: `Authorization: Bearer TOKEN`\n",
                                        headers={"WWW-Authenticate": "Bearer"})
-        return *found, True
+        return Caller(found.who, found.role, True)
 
-    def meet(self, transport):
+    def meet(self, transport: asyncio.BaseTransport) -> None:
         """Notes whose connection begins: once it ends, the system doesn't tell any more."""
         peer = transport.get_extra_info("socket")
         if self.tokens is None and peer is not None and peer.family != socket.AF_UNIX:
             with contextlib.suppress(OSError):
                 self.users_of[transport] = peers.of_address(peer)
 
-    def user_of(self, request):
+    def user_of(self, request: web.Request) -> Bearer:
         """The user of this machine that asks by a connection, and the role where the file of users has none. Raises
         HTTPForbidden."""
-        uid = self.users_of.get(request.transport)
+        uid = None if request.transport is None else self.users_of.get(request.transport)
         if uid is None:
             raise web.HTTPForbidden(text="this machine doesn't tell whose connection this is: take --tokens\n")
-        return peers.name_of(uid), PLAN if peers.is_own(uid) else 0
+        return Bearer(peers.name_of(uid), PLAN if peers.is_own(uid) else 0)
 
-    def of_token(self, request):
-        """Name and role of the bearer of a token, or None."""
+    def of_token(self, request: web.Request) -> Bearer | None:
+        """The bearer of the token that a request has, or None."""
         kind, _, token = request.headers.get("Authorization", "").partition(" ")
         return self.of_text(token.strip()) if kind.lower() == "bearer" else None
 
-    def of_text(self, token):
-        """Name and role of a token's bearer, or None."""
+    def of_text(self, token: str) -> Bearer | None:
+        """A token's bearer, or None."""
         digest = hashlib.sha256(token.encode("utf-8", "surrogateescape")).hexdigest()
         found = None
-        for known, bearer in self.tokens.now().items():
+        for known, bearer in (self.tokens.now() if self.tokens else {}).items():
             if hmac.compare_digest(known, digest):
                 found = bearer
         return found
 
-    def of_session(self, request):
-        """Name and role of a cookie's session, as long as its token is listed, or None."""
-        digest, until = self.sessions.get(request.cookies.get(COOKIE, ""), ("", 0))
-        return self.tokens.now().get(digest) if time.monotonic() < until else None
+    def of_session(self, request: web.Request) -> Bearer | None:
+        """Whose session a cookie is, as long as its token is listed, or None."""
+        session = self.sessions.get(request.cookies.get(COOKIE, ""))
+        if self.tokens is None or session is None or time.monotonic() >= session.until:
+            return None
+        return self.tokens.now().get(session.digest)
 
-    async def begin_session(self, request):
+    async def begin_session(self, request: web.Request) -> web.StreamResponse:
         """POST /session: a cookie in place of the token, for pages."""
         if self.tokens is None or self.of_token(request) is None:
             raise web.HTTPUnauthorized(text="a token is wanted: `Authorization: Bearer TOKEN`\n")
         token = request.headers["Authorization"].partition(" ")[2].strip()
         now, name = time.monotonic(), secrets.token_urlsafe(32)
-        self.sessions = {one: held for one, held in self.sessions.items() if held[1] > now}
+        self.sessions = {one: held for one, held in self.sessions.items() if held.until > now}
         if len(self.sessions) >= MOST_SESSIONS:
             raise web.HTTPServiceUnavailable(text="there are too many sessions\n")
         digest = hashlib.sha256(token.encode("utf-8", "surrogateescape")).hexdigest()
-        self.sessions[name] = digest, now + SESSION_SECONDS
+        self.sessions[name] = Session(digest, now + SESSION_SECONDS)
         response = web.json_response({"who": request["who"], "role": role_name(request["role"])})
         is_secure = request.headers.get("X-Forwarded-Proto") == "https"
         response.set_cookie(COOKIE, name, max_age=SESSION_SECONDS, httponly=True, samesite="Strict", secure=is_secure)
         return response
 
-    async def end_session(self, request):
+    async def end_session(self, request: web.Request) -> web.StreamResponse:
         """DELETE /session: the cookie is worth nothing from now on."""
         self.sessions.pop(request.cookies.get(COOKIE, ""), None)
         response = web.Response(status=204)
@@ -233,28 +273,35 @@ class Guard:
         return response
 
 
-def is_open(request):
+def is_open(request: web.Request) -> bool:
     """Whether a request is one that a caller without a token is refused by the role alone, if at all."""
     route = routes.of_request(request)
     return route is not None and route.is_open
 
 
-def role_name(role):
+def role_name(role: int) -> str:
     """The name of a role, or `none`."""
     return next((name for name, value in ROLES.items() if value == role), "none")
 
 
-def proxy_of(text):
+class Proxy(NamedTuple):
     """The address, or the user, of the proxy that is named."""
+
+    address: ipaddress.IPv4Address | ipaddress.IPv6Address | None = None
+    user: str | None = None
+
+
+def proxy_of(text: str | None) -> Proxy:
+    """The Proxy that is named."""
     if text is None:
-        return None, None
+        return Proxy()
     try:
-        return ipaddress.ip_address(text), None
+        return Proxy(ipaddress.ip_address(text))
     except ValueError:
-        return None, text
+        return Proxy(user=text)
 
 
-def needed(request, role, what):
+def needed(request: web.Request, role: int, what: str) -> None:
     """Asks that the caller has a role at least. Raises HTTPForbidden."""
     if request["role"] < role:
         raise web.HTTPForbidden(text=f"{request['who']} may not {what}: it takes the role {role_name(role)}\n")

@@ -4,6 +4,10 @@ import contextlib
 import os
 import socket
 import stat
+from typing import NamedTuple
+
+from opcplan.desk.guard import Guard
+from opcplan.desk.settings import Settings
 
 from opcplan.errors import Error
 
@@ -12,8 +16,15 @@ class Unable(Error):
     """Why a desk doesn't begin."""
 
 
-def listeners_of(given, the_guard):
-    """The sockets that are listened on, each with its name. Raises Unable."""
+class Listener(NamedTuple):
+    """A socket that is listened on, and its name."""
+
+    bound: socket.socket
+    name: str
+
+
+def listeners_of(given: Settings, the_guard: Guard) -> list[Listener]:
+    """The sockets that are listened on. Raises Unable."""
     found = []
     if given.listen:
         host, port = given.listen
@@ -23,13 +34,13 @@ def listeners_of(given, the_guard):
             raise Unable(f"{host}:{port}: it can't be listened on: {error.strerror}") from None
         port = listener.getsockname()[1]
         the_guard.add_listener(host, port)
-        found.append((listener, f"http://[{host}]:{port}" if ":" in host else f"http://{host}:{port}"))
+        found.append(Listener(listener, f"http://[{host}]:{port}" if ":" in host else f"http://{host}:{port}"))
     if given.socket:
-        found.append((by_socket(given.socket), given.socket))
+        found.append(Listener(by_socket(given.socket), given.socket))
     return found
 
 
-def by_socket(path):
+def by_socket(path: str) -> socket.socket:
     """A Unix socket at a path, which whoever may be may reach: the guard asks who it is. Raises Unable."""
     listener = socket.socket(socket.AF_UNIX, socket.SOCK_STREAM)
     try:
@@ -44,7 +55,7 @@ def by_socket(path):
     return listener
 
 
-def check_left(path):
+def check_left(path: str) -> None:
     """Asks that what stands at a path is a socket that nobody listens on. Raises Unable."""
     if not stat.S_ISSOCK(os.lstat(path).st_mode):
         raise Unable(f"{path}: it is no socket; name another path")

@@ -1,5 +1,7 @@
 """Of which parts the live page and the page that asks for a token are put together."""
 
+from collections.abc import Sequence
+
 from opcplan.webpage import page_html
 
 STYLES = [*page_html.STYLES, "live.css"]
@@ -9,13 +11,13 @@ SIGN_STYLES, SIGN_SCRIPTS = ["colours.css", "sign_in.css"], ["sign_in.js"]
 MORE = "connect-src 'self'; "
 
 
-def policy(styles, scripts):
+def policy(styles: Sequence[str], scripts: Sequence[str]) -> str:
     """What a browser lets a page of these parts do, as its header says it."""
     alone = "frame-ancestors 'none'; base-uri 'none'; form-action 'none'"
     return f"{page_html.policy_of(styles, scripts, MORE)}; {alone}"
 
 
-def sign_in():
+def sign_in() -> str:
     """The page that asks for a token; it says nothing of the plan."""
     return page_html.filled("sign_in.html", {
         "policy": page_html.policy_of(SIGN_STYLES, SIGN_SCRIPTS, MORE),

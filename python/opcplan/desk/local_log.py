@@ -1,46 +1,49 @@
 """The log of one machine: its journal."""
 
 import secrets
+from collections.abc import Sequence
 
 from opcplan.desk import log
 from opcplan.plans import chain, entry
+from opcplan.plans.journal import Journal
 
 
 class Alone(log.Log):
     """The log of a desk that shares its plan with no other."""
 
-    def __init__(self, journal):
+    def __init__(self, journal: Journal) -> None:
         super().__init__(journal)
         self.known = journal.position()
         self.own = secrets.token_hex(4)
 
     @property
-    def life(self):
+    def life(self) -> str:
         return self.own
 
     @property
-    def given(self):
+    def given(self) -> int:
         return self.known
 
     @property
-    def trouble(self):
+    def trouble(self) -> str:
         return self.unwritten
 
-    def chain_at(self, position):
+    def chain_at(self, position: int) -> str | None:
         base = self.journal.first() - 1
         return self.journal.digest_at(position, base, chain.chain_of("journal", base))
 
-    async def append(self, batch, replies, until):
+    async def append(self, batch: Sequence[entry.Wanted], replies: Sequence[log.Kept],
+                     until: float) -> list[entry.Entry]:
         entries = entry.placed(batch, self.known)
         await self.keep(entries, replies)
         self.known = entries[-1].seq
         return entries
 
-    async def others(self):
+    async def others(self) -> list[entry.Entry]:
         return []
 
-    async def ask_last(self, until):
+    async def ask_last(self, until: float) -> int:
         return self.known
 
-    async def used(self, wanted):
+    async def used(self, wanted: Sequence[entry.Wanted]) -> dict[int, entry.Entry | None]:
         return {}

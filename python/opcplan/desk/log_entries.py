@@ -3,7 +3,8 @@
 import base64
 import hashlib
 import json
-from typing import NamedTuple
+from collections.abc import Mapping, Sequence
+from typing import Any, NamedTuple
 
 from opcplan.plans import entry
 
@@ -12,34 +13,58 @@ class Batch(NamedTuple):
     """Entries that were appended together, with the mark of who appended them."""
 
     mark: str
-    entries: list
+    entries: list[entry.Entry]
+
+    @property
+    def last(self) -> int:
+        """The number of its last entry."""
+        return self.entries[-1].seq
 
 
-def in_base64(text):
+class KeyHolder(NamedTuple):
+    """The entry that a caller's key stands for, as etcd has it: its number, job, time, the sum of its text, and the
+    digest of the stream, where there is one."""
+
+    seq: int
+    job: int
+    at: str
+    sum: str
+    stream: str | None = None
+
+    @property
+    def text(self) -> str:
+        """How it stands in etcd."""
+        return json.dumps({name: value for name, value in self._asdict().items() if value is not None})
+
+
+def in_base64(text: str | bytes) -> str:
+    """A text as etcd's gateway takes it."""
     return base64.b64encode(text if isinstance(text, bytes) else text.encode()).decode()
 
 
-def of_base64(text):
+def of_base64(text: str | None) -> bytes:
+    """What etcd's gateway has under a name, which it leaves out where that is empty."""
     return base64.b64decode(text or "")
 
 
-def number_of(kv):
+def number_of(kv: Mapping[str, str]) -> int:
+    """The number with which a key ends."""
     return int(of_base64(kv["key"])[-10:])
 
 
-def batch_text(mark, entries):
+def batch_text(mark: str, entries: Sequence[entry.Entry]) -> str:
     """Entries as they stand in etcd."""
     told = [{"at": one.at, "who": one.who, "key": one.key, "job": one.job, **stream_value(one), **text_value(one.text)}
             for one in entries]
     return json.dumps({"mark": mark, "batch": told}, ensure_ascii=False, separators=(",", ":"))
 
 
-def stream_value(one):
+def stream_value(one: entry.Entry) -> dict[str, str]:
     """The stream that an entry's key stands for, as JSON has it where there is one."""
     return {} if one.stream is None else {"stream": one.stream}
 
 
-def text_value(data):
+def text_value(data: bytes) -> dict[str, str]:
     """A statement's text as JSON has it, in the shorter of two ways."""
     try:
         text = data.decode("utf-8")
@@ -50,18 +75,27 @@ def text_value(data):
     return {"base64": base64.b64encode(data).decode()}
 
 
-def batch_of(kv):
+def batch_of(kv: Mapping[str, str]) -> Batch:
     """The Batch of a key and its value."""
-    first, told = number_of(kv), json.loads(of_base64(kv["value"]))
+    first = number_of(kv)
+    told: dict[str, Any] = json.loads(of_base64(kv["value"]))
     return Batch(told["mark"], [
         entry.Entry(first + place, one["at"], one["who"], one["key"], one["job"],
                     one["text"].encode() if "text" in one else base64.b64decode(one["base64"]), None, one.get("stream"))
         for place, one in enumerate(told["batch"])])
 
 
-def key_value(one):
-    return {"seq": one.seq, "job": one.job, "at": one.at, "sum": text_sum(one.text), **stream_value(one)}
+def holder_of(one: entry.Entry) -> KeyHolder:
+    """An entry as its key stands for it."""
+    return KeyHolder(one.seq, one.job, one.at, text_sum(one.text), one.stream)
 
 
-def text_sum(text):
+def holder_in(text: bytes) -> KeyHolder:
+    """What stands in etcd under a caller's key. Raises ValueError, TypeError."""
+    found = json.loads(text)
+    return KeyHolder(**{name: found[name] for name in KeyHolder._fields if name in found})
+
+
+def text_sum(text: bytes) -> str:
+    """The sum by which a text is compared."""
     return hashlib.sha256(text).hexdigest()

@@ -1,9 +1,12 @@
 """What ./plan log does to a log in etcd, and the lines that it shows."""
 
 import os
+from collections.abc import Sequence
+from typing import Protocol
 
 from opcplan.desk import bootstrap, log_words
-from opcplan.desk.etcd import Away, Wrong
+from opcplan.desk.etcd import Away, Member, Wrong
+from opcplan.desk.store import State, Store
 from opcplan.desk.versions import Unfit, different, first_line, version_at, version_of
 from opcplan.plans import journal
 
@@ -11,45 +14,78 @@ from opcplan.plans import journal
 LONGEST = 120
 
 
-async def done(given, program):
-    """The lines that say what was done, or what stands there. Raises Unfit and Unreadable."""
+class Words(log_words.EtcdWords, Protocol):
+    """What ./plan log is asked."""
+
+    @property
+    def log(self) -> log_words.Where:
+        """The log."""
+
+    @property
+    def begin(self) -> str | None:
+        """The plan behind which it begins."""
+
+    @property
+    def journal(self) -> str | None:
+        """The journal of that plan."""
+
+    @property
+    def version(self) -> bool:
+        """Whether another program is to answer."""
+
+    @property
+    def trim(self) -> bool:
+        """Whether old entries go."""
+
+    @property
+    def keep(self) -> int:
+        """How many of the last ones stay at least."""
+
+    @property
+    def forget(self) -> Sequence[str]:
+        """The desks that are gone for good."""
+
+
+async def done(given: Words, program: str | None) -> list[str]:
+    """The lines that say what was done, or what stands there; with `begin` and `version` by a program. Raises Unfit and
+    Unreadable."""
     async with bootstrap.opened(given.log, log_words.access_of(given)) as store:
-        if given.begin:
-            return await begin(store, given, program)
+        if given.begin and program:
+            return await begin(store, given.begin, given.journal, program)
         state = await store.state()
         if state is None:
             raise Unfit(f"{given.log}: there is no such log in etcd")
-        if given.version:
+        if given.version and program:
             return await move_version(store, state, program)
         if given.trim:
             return await trim(store, state, given.keep, given.forget)
         return await shown(store, state)
 
 
-async def shown(store, state):
+async def shown(store: Store, state: State) -> list[str]:
     """What stands there."""
-    entries, size = await store.size()
-    lines = [f"log {store.where.name}", f"head {state.head.last}", f"first {state.first}", f"entries {entries}",
-             f"bytes {size}", f"begun behind {state.base}",
+    size = await store.size()
+    lines = [f"log {store.where.name}", f"head {state.head.last}", f"first {state.first}", f"entries {size.entries}",
+             f"bytes {size.bytes}", f"begun behind {state.base}",
              *(f"version from {since}: {', '.join(version.splitlines())}"
                for since, version in sorted(state.versions.items()))]
     for name, told in sorted((await store.desks()).items()):
-        behind = state.head.last - told["position"]
-        lines.append(f"desk {name}: position {told['position']}, {behind} behind, as of {told['at']}")
+        behind = state.head.last - told.position
+        lines.append(f"desk {name}: position {told.position}, {behind} behind, as of {told.at}")
     for endpoint in store.etcd.endpoints:
-        one = await store.etcd.standing(endpoint)
-        lines.append(f"member {endpoint}: {of_member(one)}")
+        lines.append(f"member {endpoint}: {of_member(await store.etcd.standing(endpoint))}")
     return lines
 
 
-def of_member(one):
-    if not one["answers"]:
-        return f"doesn't answer: {one['why']}"
-    quota = f" of {one['quota']}" if one["quota"] else ""
-    return f"{one['bytes']} bytes{quota}, {one['in use']} in use{', leads' if one['leads'] else ''}"
+def of_member(one: Member) -> str:
+    """What is said of a node."""
+    if not one.answers:
+        return f"doesn't answer: {one.why}"
+    quota = f" of {one.quota}" if one.quota else ""
+    return f"{one.bytes} bytes{quota}, {one.in_use} in use{', leads' if one.leads else ''}"
 
 
-async def trim(store, state, kept, gone_for_good):
+async def trim(store: Store, state: State, kept: int, gone_for_good: Sequence[str]) -> list[str]:
     """Takes old entries away: none that a desk lacks which said how far it is and isn't gone for good, and never the
     last one."""
     told = await store.desks()
@@ -59,20 +95,20 @@ async def trim(store, state, kept, gone_for_good):
     for name in gone_for_good:
         await store.forget(name)
     desks = sorted(((name, one) for name, one in told.items() if name not in gone_for_good),
-                   key=lambda one: one[1]["position"])
+                   key=lambda one: one[1].position)
     wanted = state.head.last - max(kept, 1) + 1
-    least = min([wanted, *(told["position"] for _, told in desks)])
+    least = min([wanted, *(one.position for _, one in desks)])
     batch = await store.holding(least) if least > state.first else None  # one that has older entries too stays whole
     before = batch.entries[0].seq if batch else state.first
-    gone, revision = await store.trim(state.first, before)
-    lines = [f"{before - state.first} entries went, in {gone} batches; the first one is {before}"]
+    trimmed = await store.trim(state.first, before)
+    lines = [f"{before - state.first} entries went, in {trimmed.gone} batches; the first one is {before}"]
     if least < wanted:
-        lines.append(f"desk {desks[0][0]} has no more than entry {least}, as of {desks[0][1]['at']}; what is behind "
+        lines.append(f"desk {desks[0][0]} has no more than entry {least}, as of {desks[0][1].at}; what is behind "
                      "that stays")
-    return lines + await room(store, revision)
+    return lines + await room(store, trimmed.revision)
 
 
-async def room(store, revision):
+async def room(store: Store, revision: int) -> list[str]:
     """Has etcd forget what was before a revision, and its nodes give the room back."""
     etcd = store.etcd
     try:
@@ -81,12 +117,12 @@ async def room(store, revision):
         if "compacted" not in str(why):
             raise
     lines = []
-    for before in sorted([await etcd.standing(one) for one in etcd.endpoints], key=lambda one: one.get("leads", False)):
-        endpoint = before["endpoint"]  # the leader comes last: a node answers nothing meanwhile
+    for before in sorted([await etcd.standing(one) for one in etcd.endpoints], key=lambda one: one.leads):
+        endpoint = before.endpoint  # the leader comes last: a node answers nothing meanwhile
         try:
             await etcd.at(endpoint, "/v3/maintenance/defragment", {}, LONGEST)
             after = await etcd.standing(endpoint)
-            lines.append(f"member {endpoint}: {before.get('bytes', 0)} bytes before, {of_member(after)} now")
+            lines.append(f"member {endpoint}: {before.bytes} bytes before, {of_member(after)} now")
         except (Away, Wrong) as why:
             lines.append(f"member {endpoint}: it isn't defragmented: {why}")
     alarms = (await etcd.post("/v3/maintenance/alarm", {"action": "GET"})).get("alarms", ())
@@ -97,32 +133,32 @@ async def room(store, revision):
     return lines
 
 
-async def move_version(store, state, program):
+async def move_version(store: Store, state: State, program: str) -> list[str]:
     """Has a program answer from the next entry on."""
     version = version_of(program)
     old = version_at(state.versions, state.head.last + 1)
     if old == version:
         return [f"the log is answered by {first_line(version)} already"]
     while not await store.move_version(state.head, version):
-        state = await store.state()
+        state = await store.state() or state
     since = state.head.last + 1
     lines = [f"from entry {since} on the log is answered by {first_line(version)}{different(version, old)}; "
              f"start each desk with it, once it has entry {since - 1}"]
     for name, told in sorted((await store.desks()).items()):
-        if told["position"] < since - 1:
-            lines.append(f"desk {name} has no more than entry {told['position']} yet, as of {told['at']}")
+        if told.position < since - 1:
+            lines.append(f"desk {name} has no more than entry {told.position} yet, as of {told.at}")
     return lines
 
 
-async def begin(store, given, program):
-    """Makes a log behind a plan."""
-    path = os.path.realpath(given.journal or journal.beside(given.begin))
+async def begin(store: Store, plan: str, kept_by: str | None, program: str) -> list[str]:
+    """Makes a log behind a plan, which has this journal or the usual one."""
+    path = os.path.realpath(kept_by or journal.beside(plan))
     version = version_of(program)
     if await store.state() is not None:
         raise Unfit(f"{store.where}: there is such a log already; name another one")
-    record = journal.for_desk(path, given.begin)
+    record = journal.for_desk(path, plan)
     try:
-        with journal.at_rest(given.begin) as held:
+        with journal.at_rest(plan) as held:
             position = record.position()
             if record.unanswered():
                 raise Unfit(f"{path}: it has entries that weren't answered; start the plan's desk once more, end it, "
@@ -131,4 +167,4 @@ async def begin(store, given, program):
                 raise Unfit(f"{store.where}: another one made such a log meanwhile")
     finally:
         record.close()
-    return [f"{store.where} begins behind entry {position} of {given.begin}"]
+    return [f"{store.where} begins behind entry {position} of {plan}"]

@@ -3,7 +3,7 @@
 import argparse
 import re
 import ssl
-from typing import NamedTuple
+from typing import NamedTuple, Protocol
 
 from opcplan.cli import words
 from opcplan.errors import Unreadable
@@ -18,14 +18,14 @@ MOST_ENDPOINTS = 9
 class Where(NamedTuple):
     """Where a log stands: its endpoints, HOST:PORT, and its name."""
 
-    endpoints: tuple
+    endpoints: tuple[str, ...]
     name: str
 
-    def __str__(self):
+    def __str__(self) -> str:
         return f"{SCHEME}{','.join(self.endpoints)}/{self.name}"
 
 
-def address(text):
+def address(text: str) -> Where:
     """A log in etcd, for `type=`."""
     hosts, slash, name = text.removeprefix(SCHEME).partition("/")
     if not text.startswith(SCHEME) or not slash or not hosts:
@@ -42,7 +42,27 @@ def address(text):
     return Where(endpoints, name)
 
 
-def add_etcd(parser):
+class EtcdWords(Protocol):
+    """The options that say how etcd is reached, as a command has them."""
+
+    @property
+    def etcd_ca(self) -> str | None:
+        """Who signed the certificates of etcd's nodes."""
+
+    @property
+    def etcd_cert(self) -> str | None:
+        """The own certificate."""
+
+    @property
+    def etcd_key(self) -> str | None:
+        """Its key."""
+
+    @property
+    def etcd_user(self) -> str | None:
+        """A file with `USER PASSWORD`."""
+
+
+def add_etcd(parser: argparse.ArgumentParser) -> None:
     """The options that say how etcd is reached."""
     parser.add_argument("--etcd-ca", type=words.file, metavar="FILE",
                         help="who signed the certificates of etcd's nodes; with it TLS is spoken")
@@ -52,21 +72,28 @@ def add_etcd(parser):
                         help="a file with `USER PASSWORD`, where etcd has users")
 
 
-def wrong_etcd(given):
+def wrong_etcd(given: EtcdWords) -> str:
     """What is wrong with these options together, or nothing."""
     if bool(given.etcd_cert) != bool(given.etcd_key):
         return "--etcd-cert and --etcd-key go together"
     return ""
 
 
+class User(NamedTuple):
+    """A user of etcd."""
+
+    name: str
+    password: str
+
+
 class Access(NamedTuple):
     """How etcd is reached: whether by TLS, and as whom."""
 
     tls: ssl.SSLContext | None
-    user: tuple | None
+    user: User | None
 
 
-def access_of(given):
+def access_of(given: EtcdWords) -> Access:
     """The Access that options name. Raises Unreadable."""
     tls = None
     if given.etcd_ca or given.etcd_cert:
@@ -79,8 +106,8 @@ def access_of(given):
     return Access(tls, user_of(given.etcd_user) if given.etcd_user else None)
 
 
-def user_of(path):
-    """User and password of a file. Raises Unreadable."""
+def user_of(path: str) -> User:
+    """The User of a file. Raises Unreadable."""
     try:
         with open(path, encoding="utf-8") as file:
             found = file.read().split()
@@ -88,4 +115,4 @@ def user_of(path):
         raise Unreadable(f"{path}: it can't be read: {getattr(error, 'strerror', None) or error}") from None
     if len(found) != 2:
         raise Unreadable(f"{path}: it is no file of one line, `USER PASSWORD`")
-    return tuple(found)
+    return User(*found)

@@ -2,6 +2,11 @@
 
 import collections
 import time
+from typing import TYPE_CHECKING
+
+if TYPE_CHECKING:
+    from opcplan.desk.core import Desk
+    from opcplan.desk.planner import Ask
 
 BOUNDS = (0.001, 0.002, 0.005, 0.01, 0.02, 0.05, 0.1, 0.2, 0.5, 1, 2, 5, 10, 30)
 
@@ -9,16 +14,19 @@ BOUNDS = (0.001, 0.002, 0.005, 0.01, 0.02, 0.05, 0.1, 0.2, 0.5, 1, 2, 5, 10, 30)
 class Metrics:
     """Answers by statement and by the first word of the reply, and how long they took."""
 
-    def __init__(self):
-        self.answers, self.took, self.seconds = collections.Counter(), collections.Counter(), 0.0
+    def __init__(self) -> None:
+        self.answers: collections.Counter[tuple[str | None, str]] = collections.Counter()  # by statement and word
+        self.took: collections.Counter[str] = collections.Counter()  # by the bound below which it is
+        self.seconds = 0.0
 
-    def count(self, ask, reply):
+    def count(self, ask: "Ask", reply: str) -> None:
+        """Counts an answer of a statement that somebody asked for."""
         took = time.monotonic() - ask.begun
         self.answers[ask.name, reply.partition(" ")[0]] += 1
-        self.took[next((bound for bound in BOUNDS if took <= bound), "+Inf")] += 1
+        self.took[next((str(bound) for bound in BOUNDS if took <= bound), "+Inf")] += 1
         self.seconds += took
 
-    def text(self, desk):
+    def text(self, desk: "Desk") -> str:
         """All that is counted of a desk."""
         planner = desk.planner
         lines = []
@@ -39,10 +47,11 @@ class Metrics:
             lines.append(f'opcplan_desk_answers_total{{statement="{statement}",reply="{word}"}} {count}')
         return "\n".join([*lines, *self.seconds_lines()]) + "\n"
 
-    def seconds_lines(self):
+    def seconds_lines(self) -> list[str]:
+        """How long answers took, as a histogram."""
         name, total = "opcplan_desk_answer_seconds", 0
         lines = [f"# TYPE {name} histogram"]
-        for bound in (*BOUNDS, "+Inf"):
+        for bound in (*map(str, BOUNDS), "+Inf"):
             total += self.took[bound]
             lines.append(f'{name}_bucket{{le="{bound}"}} {total}')
         return [*lines, f"{name}_sum {self.seconds:.6f}", f"{name}_count {total}"]

@@ -13,7 +13,8 @@ from opcplan.webpage import page_data, page_html
 OUTSIDE = "The clock of this machine is outside this plan, so it is shown as of the end of its current plan."
 
 
-def main(copy, name, moment):
+def main(copy: str, name: str, moment: str) -> int:
+    """Prints the parts of the page; the exit status."""
     gc.disable()
     try:
         data = page_data.data_of(copy, None if moment == "-" else int(moment))
@@ -21,7 +22,7 @@ def main(copy, name, moment):
         print(error, file=sys.stderr)
         return 1
     stands = moment != "-" or bool(data["note"])
-    data |= {"file": name, "sample": True, "note": OUTSIDE if data["note"] else ""}
+    data.update({"file": name, "sample": True, "note": OUTSIDE if data["note"] else ""})
     begin, end = page_html.framed(data, "\0", live_parts.STYLES, live_parts.SCRIPTS, live_parts.MORE).split("\0")
     parts = "1" if stands else "0", begin, page_html.data_text(data), end
     sys.stdout.buffer.write("\0".join(parts).encode("utf-8", "replace"))

@@ -9,13 +9,13 @@ TABLES = {socket.AF_INET: "/proc/net/tcp", socket.AF_INET6: "/proc/net/tcp6"}
 ESTABLISHED = "01"
 
 
-def of_socket(peer):
+def of_socket(peer: socket.socket) -> int:
     """The user at the other end of a Unix socket."""
     _, uid, _ = struct.unpack("3i", peer.getsockopt(socket.SOL_SOCKET, socket.SO_PEERCRED, 12))
-    return uid
+    return int(uid)
 
 
-def of_address(peer):
+def of_address(peer: socket.socket) -> int | None:
     """The user at the other end of a TCP connection from this machine, or None where the system doesn't tell."""
     wanted = [spelled(peer.family, peer.getpeername()), spelled(peer.family, peer.getsockname()), ESTABLISHED]
     try:
@@ -29,14 +29,14 @@ def of_address(peer):
     return None
 
 
-def spelled(family, address):
+def spelled(family: int, address: tuple[str, int]) -> str:
     """An address and its port as the system's tables spell them: each 32 bits as a number of this machine."""
     packed = socket.inet_pton(family, address[0].partition("%")[0])
     numbers = struct.unpack(f"={len(packed) // 4}I", packed)
     return "".join(f"{number:08X}" for number in numbers) + f":{address[1]:04X}"
 
 
-def name_of(uid):
+def name_of(uid: int) -> str:
     """The name of a user."""
     try:
         return pwd.getpwuid(uid).pw_name
@@ -44,6 +44,6 @@ def name_of(uid):
         return f"uid:{uid}"
 
 
-def is_own(uid):
+def is_own(uid: int) -> bool:
     """Whether a user is the desk's own, or root."""
     return uid in (0, os.getuid())

@@ -11,9 +11,16 @@ import re
 import sys
 import tempfile
 import time
+from collections.abc import Callable, Iterator, Sequence
+from typing import NamedTuple, TYPE_CHECKING, TypeVar
 
 from opcplan.desk import state
+from opcplan.desk.held_files import HeldFiles
 from opcplan.errors import Error
+from opcplan.plans.entry import Entry, Wanted
+
+if TYPE_CHECKING:
+    from opcplan.desk.body import Body
 
 PROBE = b"desk-opens\n"  # no statement: `refused 10` tells that the plan is open
 OPEN = b"refused 10\n"
@@ -38,47 +45,69 @@ class Stopped(Error):
     """Why the planner answers nothing for now."""
 
 
+class Talk(NamedTuple):
+    """What came of a life of opcplan: whether it opened the plan, and the fault that it told."""
+
+    opened: bool
+    fault: str
+
+
+class Taken(NamedTuple):
+    """What is left of opcplan's output behind its whole lines, and a fault where one was told."""
+
+    rest: bytes
+    fault: str
+
+
 class Ask:
     """A statement, and what becomes of it: a change has an Entry once it stands in the log."""
 
-    def __init__(self, name, text=None, wanted=None):
-        self.name, self.text, self.wanted = name, text, wanted
-        self.entry = None
+    def __init__(self, name: str | None, text: bytes | None = None, wanted: Wanted | None = None) -> None:
+        self.name, self.text, self.wanted = name, text, wanted  # no name where another desk was asked
+        self.entry: Entry | None = None
         self.is_again = False  # its entry was answered before, at this desk or another one
-        self.condition = None  # the tag of the state that it asks for
-        self.streams = []  # that wait for it
+        self.condition: str | None = None  # the tag of the state that it asks for
+        self.streams: list["Body"] = []  # that wait for it
         self.begun = time.monotonic()
         self.tries = 0
-        self.rows, self.row_bytes = None, 0
-        self.reply = None
-        self.tag, self.position = None, 0  # of the state in which it was answered
-        self.wrong = None  # why its rows can't be had
-        self.waiting = []
+        self.rows: tempfile.SpooledTemporaryFile[bytes] | None = None
+        self.row_bytes = 0
+        self.reply: str | None = None
+        self.tag: str | None = None  # with the position, of the state in which it was answered
+        self.position = 0
+        self.wrong: str | None = None  # why its rows can't be had
+        self.waiting: list[asyncio.Future["Ask"]] = []
 
     @property
-    def is_change(self):
+    def line(self) -> bytes:
+        """The line of its reply."""
+        assert self.reply is not None
+        return self.reply.encode("ascii") + b"\n"
+
+    @property
+    def is_change(self) -> bool:
         """Whether it has to stand in the log, and doesn't yet."""
         return self.wanted is not None and self.entry is None
 
     @property
-    def size(self):
+    def size(self) -> int:
         """How many bytes it takes in the log, without its line."""
         return len(self.wanted.data or b"") if self.wanted is not None else 0
 
-    def stands_for(self, one):
+    def stands_for(self, one: Entry) -> None:
         """It stands for an Entry that was answered before, and is answered so again."""
         self.text, self.entry, self.is_again = one.text, one, True
 
-    def wait(self):
+    def wait(self) -> asyncio.Future["Ask"]:
         """A future of this Ask once it is answered; it raises what `fail` is told."""
-        future = asyncio.get_running_loop().create_future()
+        future: asyncio.Future[Ask] = asyncio.get_running_loop().create_future()
         if self.reply is None:
             self.waiting.append(future)
         else:
             future.set_result(self)
         return future
 
-    def take_rows(self, data):
+    def take_rows(self, data: bytes) -> None:
         """Keeps whole lines of rows, on the disk where they are many."""
         if self.wrong is not None or not data:
             return
@@ -91,13 +120,13 @@ class Ask:
             self.forget_rows()
             self.wrong = f"its rows can't be kept: {error.strerror}"
 
-    def forget_rows(self):
+    def forget_rows(self) -> None:
         """Lets the rows go that a life of opcplan gave that didn't end them."""
         if self.rows is not None:
             self.rows.close()
         self.rows, self.row_bytes, self.wrong = None, 0, None
 
-    def pieces(self):
+    def pieces(self) -> Iterator[bytes]:
         """The lines of its rows, by and by, some at a time; several may read them at once."""
         place = 0
         while self.rows is not None and place < self.row_bytes:
@@ -107,19 +136,21 @@ class Ask:
             place += len(data)
             yield data
 
-    def answer(self, reply):
+    def answer(self, reply: str) -> None:
+        """Has those hear its reply who wait for it."""
         self.reply = reply
-        self.tell(lambda future: future.set_result(self))
+        for future in self.left_waiting():
+            future.set_result(self)
 
-    def fail(self, error):
+    def fail(self, error: Exception) -> None:
         """Sends those away who wait for it; it may be answered all the same, later."""
-        self.tell(lambda future: future.set_exception(error))
+        for future in self.left_waiting():
+            future.set_exception(error)
 
-    def tell(self, how):
+    def left_waiting(self) -> list[asyncio.Future["Ask"]]:
+        """Those who wait, who don't any more from now on."""
         waiting, self.waiting = self.waiting, []
-        for future in waiting:
-            if not future.done():
-                how(future)
+        return [future for future in waiting if not future.done()]
 
 
 class Planner:
@@ -127,7 +158,9 @@ class Planner:
     their order; `why_not` says why the program may not be run for now, or nothing. It may say nothing for `limit`
     seconds while something is asked."""
 
-    def __init__(self, program, files, the_state, on_answer, on_stop, why_not, limit=LIMIT):
+    def __init__(self, program: str, files: HeldFiles, the_state: state.State[Ask],
+                 on_answer: Callable[[state.Answer[Ask]], None], on_stop: Callable[[str], None],
+                 why_not: Callable[[], str], limit: float = LIMIT) -> None:
         self.words = [program, "--db", files.plan]
         self.files, self.state, self.limit = files, the_state, limit
         self.on_answer, self.on_stop, self.why_not = on_answer, on_stop, why_not
@@ -135,20 +168,21 @@ class Planner:
         self.halted = ""  # why it is never run again
         self.is_over = asyncio.Event()  # the desk has to end
         self.room, self.idle = asyncio.Event(), asyncio.Event()
-        self.process = None
+        self.process: asyncio.subprocess.Process | None = None
         self.is_open, self.closing = False, asyncio.Event()
-        self.open_since = None  # seconds since 1970
+        self.open_since: float | None = None  # seconds since 1970
         self.lives = 0
         self.said = ""  # what opcplan said of itself in its last life
         self.why = ""  # why the last life ended
         self.stopped = ""  # why nothing is answered for now
-        self.task = None
+        self.task: asyncio.Task[None] | None = None
 
-    def start(self):
+    def start(self) -> None:
+        """Begins."""
         self.count_flight()
         self.task = asyncio.create_task(self.keep())
 
-    async def keep(self):
+    async def keep(self) -> None:
         """Runs opcplan again and again until the desk closes."""
         rest, unopened, since = SHORTEST_REST, 0, time.monotonic()
         while not self.closing.is_set():
@@ -177,7 +211,7 @@ class Planner:
             with contextlib.suppress(asyncio.TimeoutError):
                 await asyncio.wait_for(self.closing.wait(), rest)
 
-    def stop(self, why):
+    def stop(self, why: str) -> None:
         """Sends away all who wait. What stands in the log is asked again; questions alone go."""
         self.stopped = why
         for drop in self.state.stopped():
@@ -185,14 +219,14 @@ class Planner:
         self.count_flight()
         self.on_stop(why)
 
-    def halt(self, why):
+    def halt(self, why: str) -> None:
         """Ends opcplan for good: nothing is answered any more."""
         self.halted = self.stopped = self.halted or why
         if self.process is not None:
             with contextlib.suppress(ProcessLookupError):
                 self.process.kill()
 
-    def look_at_files(self):
+    def look_at_files(self) -> bool:
         """Whether the files have their places; else nothing is answered any more, and the desk has to end."""
         if why := self.files.moved():
             self.halt(f"{why}; end whoever did that, and start the desk again")
@@ -200,30 +234,35 @@ class Planner:
         return not self.halted
 
     @property
-    def silent(self):
+    def pid(self) -> int | None:
+        """The process id of the opcplan that has the plan open, None where there is none."""
+        return self.process.pid if self.is_open and self.process is not None else None
+
+    @property
+    def silent(self) -> float:
         """For how many seconds it hasn't answered."""
         is_asked = self.process is not None and (self.state.flight or not self.is_open)
         return time.monotonic() - self.heard if is_asked else 0.0
 
     @property
-    def trouble(self):
+    def trouble(self) -> str:
         """Why nothing is answered, or nothing is for now."""
         if not self.stopped and self.silent > self.limit / 2:
             return (f"opcplan has said nothing for {self.silent:.0f} s; after {self.limit:g} s it is killed, and asked "
                     "again what it hasn't answered")
         return self.stopped
 
-    async def watch(self):
+    async def watch(self, process: asyncio.subprocess.Process) -> None:
         """Kills opcplan where it stands still."""
         while True:
             await asyncio.sleep(min(1.0, self.limit / 4))
             if self.silent > self.limit:
                 self.kills += 1
                 with contextlib.suppress(ProcessLookupError):
-                    self.process.kill()
+                    process.kill()
                 return
 
-    async def life(self):
+    async def life(self) -> bool:
         """One life of opcplan: whether it opened the plan. Raises Broken."""
         self.files.forget_log()
         if why := self.why_not():
@@ -231,7 +270,7 @@ class Planner:
             return False
         self.files.forget_log()
         try:
-            self.process = await asyncio.create_subprocess_exec(
+            self.process = process = await asyncio.create_subprocess_exec(
                 *self.words, stdin=asyncio.subprocess.PIPE, stdout=asyncio.subprocess.PIPE,
                 stderr=asyncio.subprocess.PIPE, start_new_session=True)
         except OSError as error:
@@ -239,53 +278,43 @@ class Planner:
             return False
         self.lives += 1
         if self.closing.is_set():
-            self.process.stdin.close()
-        told, self.heard = asyncio.create_task(self.process.stderr.read()), time.monotonic()
-        watch = asyncio.create_task(self.watch())
+            piped(process.stdin).close()
+        told, self.heard = asyncio.create_task(piped(process.stderr).read()), time.monotonic()
+        watch = asyncio.create_task(self.watch(process))
         try:
-            opened, fault = await self.talk()
+            talk = await self.talk(process)
         finally:
             watch.cancel()
             self.files.forget_log()
             self.is_open, self.open_since = False, None
         self.state.ended()
-        status = await self.ended()
+        status = await ended(process)
         self.said = (await told).decode("utf-8", "replace").strip().split("\n")[0].removeprefix("opcplan: ")
-        self.why = self.said or fault or f"opcplan ended with status {status}"
-        return opened
+        self.why = self.said or talk.fault or f"opcplan ended with status {status}"
+        return talk.opened
 
-    async def ended(self):
-        """The exit status of opcplan, which has said what it had to; it is killed where it doesn't end."""
-        self.process.stdin.close()
-        with contextlib.suppress(asyncio.TimeoutError):
-            return await asyncio.wait_for(self.process.wait(), LONGEST_END)
-        with contextlib.suppress(ProcessLookupError):
-            self.process.kill()
-        return await self.process.wait()
-
-    async def talk(self):
-        """Gives what is in flight, and takes answers until the program ends: whether it opened the plan, and its
-        fault."""
+    async def talk(self, process: asyncio.subprocess.Process) -> Talk:
+        """Gives what is in flight, and takes answers until the program ends. Raises Broken."""
         data, opened = b"", False
         with contextlib.suppress(ConnectionResetError, BrokenPipeError):
-            self.process.stdin.write(PROBE)
-            while piece := await self.process.stdout.read(PIECE):
+            piped(process.stdin).write(PROBE)
+            while piece := await piped(process.stdout).read(PIECE):
                 data, self.heard = data + piece, time.monotonic()
                 if not self.look_at_files():
-                    return opened, self.halted
+                    return Talk(opened, self.halted)
                 if not opened:
                     if b"\n" not in data:
                         continue
                     if not data.startswith(OPEN):
-                        return False, data.split(b"\n")[0].decode("ascii", "replace")
+                        return Talk(False, data.split(b"\n")[0].decode("ascii", "replace"))
                     opened, data = True, data[len(OPEN) :]
                     self.opened()
                 data, fault = self.take(data)
                 if fault:
-                    return True, fault
-        return opened, ""
+                    return Talk(True, fault)
+        return Talk(opened, "")
 
-    def opened(self):
+    def opened(self) -> None:
         """Asks what wasn't answered again, in its order."""
         self.is_open, self.open_since = True, time.time()
         if self.state.is_idle:
@@ -295,15 +324,14 @@ class Planner:
             self.state.flight[0].tries += 1
         self.do(commands)
 
-    def do(self, commands):
+    def do(self, commands: Sequence[state.Send[Ask] | state.Answer[Ask]]) -> None:
         """Does what the state says."""
         for one in commands:
             if isinstance(one, state.Send):
                 if len(self.state.flight) == 1:
                     self.heard = time.monotonic()
                 one.item.forget_rows()
-                with contextlib.suppress(ConnectionResetError, BrokenPipeError):  # it is asked again in the next life
-                    self.process.stdin.write(one.item.text)
+                self.write(one.item)
             else:
                 self.stopped = ""
                 self.on_answer(one)
@@ -311,13 +339,19 @@ class Planner:
             self.state.flight[0].tries = max(self.state.flight[0].tries, 1)
         self.count_flight()
 
-    def take(self, data):
-        """Takes whole lines: the rest of the data, and a fault where one is told."""
+    def write(self, item: Ask) -> None:
+        """Gives opcplan the text of a statement; where it has ended, it is asked again in its next life."""
+        assert item.text is not None and self.process is not None
+        with contextlib.suppress(ConnectionResetError, BrokenPipeError):
+            piped(self.process.stdin).write(item.text)
+
+    def take(self, data: bytes) -> Taken:
+        """Takes whole lines."""
         begin = 0
         for found in REPLY.finditer(data):
             line = found.group()[:-1].decode("ascii", "replace")
             if line.startswith("fault") or not self.state.flight:
-                return b"", line
+                return Taken(b"", line)
             self.state.flight[0].take_rows(data[begin : found.start()])
             begin = found.end()
             self.do(self.state.replied(line))
@@ -325,9 +359,9 @@ class Planner:
         if end > begin and self.state.flight:
             self.state.flight[0].take_rows(data[begin:end])
             begin = end
-        return data[begin:], ""
+        return Taken(data[begin:], "")
 
-    def count_flight(self):
+    def count_flight(self) -> None:
         """Tells whether there is room for more, and whether nothing is left."""
         for event, holds in ((self.room, self.state.has_room), (self.idle, self.state.is_idle)):
             if holds:
@@ -335,24 +369,44 @@ class Planner:
             else:
                 event.clear()
 
-    async def give(self, ask):
+    async def give(self, ask: Ask) -> None:
         """Gives a statement over once there is room."""
         await self.room.wait()
         self.do(self.state.appended([ask]) if state.is_change(ask) else self.state.asked(ask))
-        if self.is_open:
+        if self.is_open and self.process is not None:
             with contextlib.suppress(ConnectionResetError, BrokenPipeError):
-                await self.process.stdin.drain()
+                await piped(self.process.stdin).drain()
 
-    async def close(self):
+    async def close(self) -> None:
         """Lets it answer what it has and ends it: the file has the plan alone then."""
         await self.idle_or_stopped()
         self.closing.set()
         if self.process is not None:
-            self.process.stdin.close()
-        await self.task
+            piped(self.process.stdin).close()
+        if self.task is not None:
+            await self.task
 
-    async def idle_or_stopped(self):
+    async def idle_or_stopped(self) -> None:
         """Waits until nothing is in flight, or nothing is answered for now."""
         while not self.state.is_idle and not self.stopped:
             with contextlib.suppress(asyncio.TimeoutError):
                 await asyncio.wait_for(self.idle.wait(), 0.2)
+
+
+Stream = TypeVar("Stream", asyncio.StreamReader, asyncio.StreamWriter)
+
+
+def piped(stream: Stream | None) -> Stream:
+    """A pipe to a process that was begun with pipes."""
+    assert stream is not None
+    return stream
+
+
+async def ended(process: asyncio.subprocess.Process) -> int:
+    """The exit status of opcplan, which has said what it had to; it is killed where it doesn't end."""
+    piped(process.stdin).close()
+    with contextlib.suppress(asyncio.TimeoutError):
+        return await asyncio.wait_for(process.wait(), LONGEST_END)
+    with contextlib.suppress(ProcessLookupError):
+        process.kill()
+    return await process.wait()

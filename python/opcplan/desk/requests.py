@@ -32,7 +32,7 @@ class Asked:
         return statements.KINDS[self.name].role if self.changes else statements.Role.READ
 
 
-def of_stream(body):
+def of_stream(body: bytes) -> list[Asked]:
     """What a stream asks, in its order. Raises Wrong."""
     found = []
     try:
@@ -47,7 +47,7 @@ def of_stream(body):
     return found
 
 
-def of_item(item):
+def of_item(item: stream.Item) -> Asked:
     """What an item asks. Raises Wrong."""
     statement, lacks_job = item.statement, False
     if statement is None:

@@ -3,6 +3,7 @@
 import functools
 import json
 import re
+from collections.abc import Mapping
 
 from opcplan.errors import Error
 from opcplan.rules import columns, moments
@@ -23,7 +24,7 @@ class Wrong(Error):
 class Selection:
     """Which rows of which list are asked for, from the words of a query. Raises Wrong."""
 
-    def __init__(self, query):
+    def __init__(self, query: Mapping[str, str]) -> None:
         for word in query:
             if word not in WORDS:
                 raise Wrong(f"there is no word `{word[:40]}`, but {', '.join(WORDS)}")
@@ -43,18 +44,18 @@ class Selection:
             raise Wrong("`status` is letters of W, S, E, C and D, of the lists cp and history")
 
     @property
-    def text(self):
+    def text(self) -> bytes:
         """The statement that shows the list."""
         return (f"list {self.name}" + (f" --app {self.app}" if self.app else "")).encode("ascii") + b"\n"
 
-    def lines(self, data):
+    def lines(self, data: bytes) -> bytes:
         """The lines of JSON that whole lines of the list are."""
         fields = [(name, begin, end) for name, (begin, end) in self.fields.items()]
         form = "{" + ", ".join(f'"{name}": %s' for name in self.fields) + "}\n"
         return "".join(form % tuple(json_of(name, line[begin:end]) for name, begin, end in fields)
                        for line in data.decode("ascii").splitlines() if self.has(line)).encode("ascii")
 
-    def has(self, line):
+    def has(self, line: str) -> bool:
         """Whether a line's row is asked for; days are those of its input arrival."""
         if not (self.first or self.last or self.status):
             return True
@@ -65,7 +66,7 @@ class Selection:
 
 
 @functools.lru_cache(1 << 16)
-def json_of(name, text):
+def json_of(name: str, text: str) -> str:
     """The value of a field as JSON, null where it is blank."""
     text = text.strip()
     if name in MOMENTS:
@@ -75,7 +76,7 @@ def json_of(name, text):
     return str(int(text)) if name in NUMBERS and text.isdigit() else json.dumps(text)
 
 
-def is_fresh(query):
+def is_fresh(query: Mapping[str, str]) -> bool:
     """Whether what is shown has to have all that any desk answered till now. Raises Wrong."""
     text = query.get("fresh", "0")
     if text not in ("0", "1"):
@@ -83,7 +84,8 @@ def is_fresh(query):
     return text == "1"
 
 
-def day_of(query, word):
+def day_of(query: Mapping[str, str], word: str) -> str | None:
+    """The day that a word of a query names, or None. Raises Wrong."""
     text = query.get(word)
     if text is not None and moments.day_of(text) is None:
         raise Wrong(f"`{word}` is no day like 2026-11-25")

@@ -9,7 +9,9 @@ import re
 import signal
 import sys
 import time
+from collections.abc import Callable, Iterator, Sequence
 from operator import attrgetter
+from typing import Any
 
 from aiohttp import web
 
@@ -17,9 +19,13 @@ from opcplan.cli import signals, version
 from opcplan.desk import body, bootstrap, connections, core, guard, local_log, log_words, openapi, page, requests
 from opcplan.desk import routes, rows, snapshot, versions
 from opcplan.desk.errors import Refused
+from opcplan.desk.guard import Handler
 from opcplan.desk.held_files import HeldFiles
 from opcplan.desk.listeners import Unable, listeners_of
-from opcplan.desk.planner import Stopped
+from opcplan.desk.log import Log
+from opcplan.desk.planner import Ask, Stopped
+from opcplan.desk.requests import Asked
+from opcplan.desk.settings import Settings
 from opcplan.errors import LogUnwritable
 from opcplan.plans import journal, locks
 
@@ -35,13 +41,15 @@ KEY = re.compile(routes.KEY)
 class Server:
     """A desk, and who asks it by HTTP."""
 
-    def __init__(self, given, desk, the_guard):
+    def __init__(self, given: Settings, desk: core.Desk, the_guard: guard.Guard) -> None:
         self.given, self.desk, self.guard = given, desk, the_guard
-        self.streams, self.lists = set(), collections.defaultdict(asyncio.Lock)
+        self.streams: set[asyncio.Task[None]] = set()
+        self.lists: collections.defaultdict[str, asyncio.Lock] = collections.defaultdict(asyncio.Lock)
         self.connections = connections.Connections()
         self.page = page.Page(desk, given.plan, the_guard.tokens is not None)
 
-    def application(self):
+    def application(self) -> web.Application:
+        """What answers requests, by the table of routes."""
         app = web.Application(middlewares=[self.guard.middleware, self.met, told], client_max_size=MOST_BYTES)
         app.add_routes([
             web.route(route.method, route.path, attrgetter(route.handler)(self)) if route.method != "GET" else
@@ -51,7 +59,7 @@ class Server:
         return app
 
     @web.middleware
-    async def met(self, request, handler):
+    async def met(self, request: web.Request, handler: Handler) -> web.StreamResponse:
         """Knows the connections of those who may look at the plan."""
         if request["role"] >= guard.READ and request.transport is not None:
             self.connections.know(request.transport)
@@ -59,7 +67,7 @@ class Server:
 
     # Statements.
 
-    async def statements(self, request):
+    async def statements(self, request: web.Request) -> web.StreamResponse:
         """POST /statements."""
         stream = body.Body(self.desk, await self.asked_of(request), request["who"], key_of(request), None)
         stream.condition = condition_of(request, stream.asked)
@@ -72,11 +80,11 @@ class Server:
         response = web.StreamResponse(headers={"Content-Type": kind, **SAFE})
         try:
             for place in range(len(stream.asked)):
-                one, ask = await stream.next()
+                one = await stream.next()
                 if place == 0:
-                    response.headers.update(state_of(ask))
+                    response.headers.update(state_of(one.ask))
                     await response.prepare(request)
-                for data in (body.as_json if is_json else body.as_text)(one, ask):
+                for data in (body.as_json if is_json else body.as_text)(one):
                     await response.write(data)
         except (Refused, Stopped):
             if not response.prepared:
@@ -91,7 +99,7 @@ class Server:
         await response.write_eof()
         return response
 
-    async def asked_of(self, request):
+    async def asked_of(self, request: web.Request) -> list[Asked]:
         """What the body of a request asks, where its caller may. Raises Refused and HTTPForbidden."""
         data = await connections.body_of(request, MOST_BYTES)
         try:
@@ -104,7 +112,7 @@ class Server:
 
     # What is looked at.
 
-    async def rows(self, request):
+    async def rows(self, request: web.Request) -> web.StreamResponse:
         """GET /rows."""
         try:
             selection = rows.Selection(request.query)
@@ -130,7 +138,7 @@ class Server:
         await response.write_eof()
         return response
 
-    async def journal(self, request):
+    async def journal(self, request: web.Request) -> web.StreamResponse:
         """GET /journal."""
         begin = request.query.get("from", "1")
         if not re.fullmatch("[0-9]{1,15}", begin):
@@ -144,27 +152,28 @@ class Server:
         await response.write_eof()
         return response
 
-    async def snapshot(self, request):
+    async def snapshot(self, request: web.Request) -> web.StreamResponse:
+        """GET /snapshot."""
         return await snapshot.handle(self.desk, self.given.plan, request)
 
-    async def metrics(self, request):
+    async def metrics(self, request: web.Request) -> web.StreamResponse:
         """GET /metrics."""
         return web.Response(body=self.desk.metrics.text(self.desk).encode(),
                             headers={"Content-Type": "text/plain; version=0.0.4; charset=utf-8"})
 
-    async def openapi(self, request):
+    async def openapi(self, request: web.Request) -> web.StreamResponse:
         """GET /openapi.json."""
         return web.json_response(openapi.document(version.lines()[0].split(" ")[1]))
 
-    async def health(self, request):
+    async def health(self, request: web.Request) -> web.StreamResponse:
         """GET /health; whoever may not read hears no more than the status."""
         desk, planner = self.desk, self.desk.planner
         wrong = [listed.wrong for listed in (self.guard.users, self.guard.tokens) if listed and listed.wrong]
         why = "; ".join(filter(None, [desk.trouble, *wrong]))
-        told = {"status": "stopped" if desk.trouble else "ok"}
+        told: dict[str, Any] = {"status": "stopped" if desk.trouble else "ok"}
         if request["role"] >= guard.READ:
             told |= {
-                "why": why, "position": desk.position, "planner": planner.process.pid if planner.is_open else None,
+                "why": why, "position": desk.position, "planner": planner.pid,
                 "running since": planner.open_since, "starts": planner.lives,
                 "waiting": len(desk.feed.queue) + len(desk.state.line) + len(desk.state.flight),
                 "journal": self.given.journal,
@@ -172,7 +181,7 @@ class Server:
             }
         return web.json_response(told, status=503 if desk.trouble else 200)
 
-    async def end(self):
+    async def end(self) -> None:
         """Lets the streams that are under way end, for a while."""
         if self.streams:
             await asyncio.wait(self.streams, timeout=LAST_SECONDS)
@@ -183,7 +192,7 @@ SAFE = {"Cache-Control": "no-store", "X-Content-Type-Options": "nosniff"}
 
 
 @web.middleware
-async def told(request, handler):
+async def told(request: web.Request, handler: Handler) -> web.StreamResponse:
     """Tells in a sentence why something isn't done."""
     try:
         return await handler(request)
@@ -197,16 +206,17 @@ async def told(request, handler):
         return web.Response(status=413, text=f"the stream has more than {MOST_BYTES >> 20} MiB; nothing was done\n")
 
 
-def after(status):
+def after(status: int) -> dict[str, str]:
+    """The headers that say when something may be sent again."""
     return {"Retry-After": "1"} if status == 503 else {}
 
 
-def state_of(ask):
+def state_of(ask: Ask) -> dict[str, str]:
     """The headers that name the state in which something was answered."""
     return {"ETag": f'"{ask.tag}"', "X-Opcplan-Position": str(ask.position)} if ask.tag else {}
 
 
-def key_of(request):
+def key_of(request: web.Request) -> str | None:
     """The key of a stream, or None. Raises Refused."""
     key = request.headers.get("Idempotency-Key")
     if key is not None and not KEY.fullmatch(key):
@@ -214,7 +224,7 @@ def key_of(request):
     return key
 
 
-def condition_of(request, found):
+def condition_of(request: web.Request, found: Sequence[Asked]) -> str | None:
     """The tag of the state that a change asks for, or None. Raises Refused."""
     text = request.headers.get("If-Match")
     if text is None:
@@ -224,7 +234,7 @@ def condition_of(request, found):
     return text.strip().strip('"')
 
 
-def in_parts(data, lines=200):
+def in_parts(data: bytes, lines: int = 200) -> Iterator[bytes]:
     """Whole lines, some at a time."""
     found = data.splitlines(keepends=True)
     for begin in range(0, len(found), lines):
@@ -234,7 +244,7 @@ def in_parts(data, lines=200):
 # The beginning and the end of a desk.
 
 
-def serve(given, program):
+def serve(given: Settings, program: str) -> None:
     """Runs a desk until it is to end. Raises Unable, Unreadable, Wrong and Unfit."""
     the_guard = guard.Guard(given)
     with contextlib.closing(HeldFiles(given.plan, given.journal)) as files:
@@ -246,20 +256,21 @@ def serve(given, program):
             raise Unable(f"{path}: another desk has it") from None
 
 
-async def served(given, program, the_guard, files):
+async def served(given: Settings, program: str, the_guard: guard.Guard, files: HeldFiles) -> None:
     """A desk over held files. Raises Unable, Unreadable and Unfit."""
-    why_not = files.moved
+    the_log: Log
+    why_not: Callable[[], str] = files.moved
     async with contextlib.AsyncExitStack() as left:
         if given.log is None:
             the_log = local_log.Alone(journal.for_desk(given.journal, given.plan))
         else:
             store = await left.enter_async_context(bootstrap.opened(given.log, log_words.access_of(given)))
-            the_log = await bootstrap.joined(store, given.plan, given.journal, program)
-            why_not = versions.of_version(program, the_log.version, why_not)
+            shared = the_log = await bootstrap.joined(store, given.plan, given.journal, program)
+            why_not = versions.of_version(program, shared.version, why_not)
         await run(given, the_guard, core.Desk(program, files, the_log, why_not, given.limit))
 
 
-async def run(given, the_guard, desk):
+async def run(given: Settings, the_guard: guard.Guard, desk: core.Desk) -> None:
     """Has a desk answer until it is to end."""
     stop = asyncio.Event()
     for one in signals.SIGNALS:
@@ -269,17 +280,17 @@ async def run(given, the_guard, desk):
     listeners = listeners_of(given, the_guard)
     runner = web.AppRunner(server.application(), access_log=None)
     await runner.setup()
-    meet_all(runner.server, the_guard)
-    server.connections.start(runner.server)
+    assert runner.server is not None  # `setup` has made it
+    server.connections.start(runner.server, the_guard.meet)
     desk.start()
-    sites = [web.SockSite(runner, listener, shutdown_timeout=5) for listener, _ in listeners]
-    for site, (_, name) in zip(sites, listeners):
+    sites = [web.SockSite(runner, listener.bound, shutdown_timeout=5) for listener in listeners]
+    for site, listener in zip(sites, listeners):
         await site.start()
-        print(f"desk: listening on {name}", file=sys.stderr, flush=True)
+        print(f"desk: listening on {listener.name}", file=sys.stderr, flush=True)
     over = asyncio.create_task(desk.planner.is_over.wait())
     await asyncio.wait([over, asyncio.create_task(stop.wait())], return_when=asyncio.FIRST_COMPLETED)
-    for listener, _ in listeners:
-        asyncio.get_running_loop().remove_reader(listener)  # nobody else is taken
+    for listener in listeners:
+        asyncio.get_running_loop().remove_reader(listener.bound)  # nobody else is taken
     await server.end()
     server.connections.close()
     await runner.cleanup()
@@ -289,14 +300,3 @@ async def run(given, the_guard, desk):
     if over.done():
         raise Unable(desk.planner.halted)
     over.cancel()
-
-
-def meet_all(server, the_guard):
-    """Has the guard meet each connection when it begins."""
-    begin = server.connection_made
-
-    def connection_made(handler, transport):
-        the_guard.meet(transport)
-        begin(handler, transport)
-
-    server.connection_made = connection_made

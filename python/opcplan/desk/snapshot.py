@@ -4,6 +4,7 @@ import asyncio
 import contextlib
 import os
 import sqlite3
+from typing import NamedTuple, TYPE_CHECKING
 
 from aiohttp import web
 
@@ -11,23 +12,36 @@ from opcplan.desk.held_files import Moved
 from opcplan.errors import Unreadable
 from opcplan.plans import plan_file, tempfiles
 
+if TYPE_CHECKING:
+    from opcplan.desk.core import Desk
+
 PIECE = 1 << 18
 
 
-async def handle(desk, path, request):
+class Position(NamedTuple):
+    """The state of a plan that was copied: its last entry, its tag, and the digest of the log up to that entry, where
+    it is known."""
+
+    position: int
+    tag: str
+    digest: str | None
+
+
+async def handle(desk: "Desk", path: str, request: web.Request) -> web.StreamResponse:
     """GET /snapshot."""
     with tempfiles.folder("desk-") as folder:
         copy = os.path.join(folder, "plan.db")
         try:
-            position, tag, digest = await copied(desk, path, copy)
+            stands = await copied(desk, path, copy)
             await asyncio.to_thread(in_one_file, copy)
         except (OSError, sqlite3.Error, Unreadable, Moved) as error:
             raise web.HTTPServiceUnavailable(text=f"there is no copy: {error}\n") from None
         response = web.StreamResponse(headers={
             "Content-Type": "application/vnd.sqlite3", "Content-Disposition": "attachment; filename=plan.db",
-            "Content-Length": str(os.path.getsize(copy)), "X-Opcplan-Position": str(position), "ETag": f'"{tag}"',
+            "Content-Length": str(os.path.getsize(copy)), "X-Opcplan-Position": str(stands.position),
+            "ETag": f'"{stands.tag}"',
             "Cache-Control": "no-store", "X-Content-Type-Options": "nosniff",
-            **({"X-Opcplan-Digest": digest} if digest else {}),
+            **({"X-Opcplan-Digest": stands.digest} if stands.digest else {}),
             **({"X-Opcplan-Log": desk.log.life} if desk.log.is_shared else {})})
         await response.prepare(request)
         with open(copy, "rb") as file:
@@ -37,20 +51,20 @@ async def handle(desk, path, request):
         return response
 
 
-async def copied(desk, path, copy):
-    """Copies the plan and its log while no statement is in flight: position, tag and digest of what was copied. Where
-    the planner is stopped, the plan may have more than that. Raises Moved, Unreadable and OSError."""
+async def copied(desk: "Desk", path: str, copy: str) -> Position:
+    """Copies the plan and its log while no statement is in flight. Where the planner is stopped, the plan may have more
+    than the position says. Raises Moved, Unreadable and OSError."""
     async with desk.feed.hold:
         await desk.planner.idle_or_stopped()
         if desk.planner.halted:
             raise Moved(desk.planner.halted)
-        found = desk.position, desk.tag(), desk.state.chain
+        found = Position(desk.position, desk.tag(), desk.state.chain)
         await asyncio.to_thread(plan_file.copied, os.path.realpath(path), copy)
         desk.files.check()
     return found
 
 
-def in_one_file(copy):
+def in_one_file(copy: str) -> None:
     """Puts the log of a copy into it."""
     with contextlib.closing(sqlite3.connect(copy)) as db:
         db.execute("PRAGMA wal_checkpoint(TRUNCATE)")

@@ -13,7 +13,7 @@ from opcplan.plans import journal, plan_file
 LEAST = 64
 
 
-def take(source, plan, path):
+def take(source: str, plan: str, path: str) -> None:
     """Makes a plan of what another desk has, and a journal that goes on behind it. Raises Unfit and Unreadable."""
     for tail in plan_file.TAILS[1:]:
         if os.path.exists(plan + tail) and os.path.getsize(plan + tail) > LEAST:  # it would be a part of the new plan
@@ -40,16 +40,16 @@ def take(source, plan, path):
             os.remove(part.name)
 
 
-def begin(path, log_id, position, jobs, digest):
+def begin(path: str, log_id: str, position: int, jobs: int, digest: str | None) -> None:
     """Has a journal go on behind an entry of a log: a new one, or one that the same log had before. Raises Unfit."""
     with contextlib.closing(journal.Journal(path)) as record:
         known = record.begun()
-        if known[0] != log_id if known else record.position():
+        if known is None and record.position() or known is not None and known[0] != log_id:
             raise Unfit(f"{path}: {bootstrap.OTHER_JOURNAL}")
         record.begin(log_id, position, jobs, digest)
 
 
-def sync(folder):
+def sync(folder: str) -> None:
     """Puts the names of a folder on the disk."""
     number = os.open(folder, os.O_RDONLY)
     try:

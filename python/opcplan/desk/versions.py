@@ -3,6 +3,8 @@
 import contextlib
 import os
 import subprocess
+from collections.abc import Callable, Mapping
+from typing import NamedTuple
 
 from opcplan.errors import Error
 
@@ -10,25 +12,35 @@ from opcplan.errors import Error
 LONGEST = 30
 
 
+class Stamp(NamedTuple):
+    """What changes where another file has a program's place."""
+
+    device: int
+    inode: int
+    changed: int  # nanoseconds
+    size: int
+
+
 class Unfit(Error):
     """Why a plan and a log don't go together, and what to do."""
 
 
-def version_at(versions, seq):
+def version_at(versions: Mapping[int, str], seq: int) -> str:
     """The opcplan that answers an entry, of those from each entry on at which it was moved."""
     return versions[max((since for since in versions if since <= seq), default=min(versions))]
 
 
-def first_line(version):
+def first_line(version: str) -> str:
+    """How a version is called in a sentence."""
     return version.split("\n", 1)[0]
 
 
-def different(theirs, own):
+def different(theirs: str, own: str) -> str:
     """What tells two versions apart whose first line is the same."""
     return " of other sources" if first_line(theirs) == first_line(own) else ""
 
 
-def version_of(program):
+def version_of(program: str) -> str:
     """Which opcplan a program is, as it says itself. Raises Unfit."""
     try:
         ran = subprocess.run([program, "--version"], stdin=subprocess.DEVNULL, capture_output=True, check=False,
@@ -40,11 +52,12 @@ def version_of(program):
     return ran.stdout.strip()
 
 
-def of_version(program, version, why_not):
+def of_version(program: str, version: str, why_not: Callable[[], str]) -> Callable[[], str]:
     """A question that says what is wrong, by another one, or once a program isn't that opcplan any more."""
     seen = stamp(program)
 
-    def asked():
+    def asked() -> str:
+        """What is wrong now, or nothing."""
         nonlocal seen
         if why := why_not():
             return why
@@ -63,9 +76,9 @@ def of_version(program, version, why_not):
     return asked
 
 
-def stamp(program):
-    """What changes where another file has a program's place."""
+def stamp(program: str) -> Stamp | None:
+    """The Stamp of a program, None where there is no such file."""
     with contextlib.suppress(OSError):
         found = os.stat(program)
-        return found.st_dev, found.st_ino, found.st_mtime_ns, found.st_size
+        return Stamp(found.st_dev, found.st_ino, found.st_mtime_ns, found.st_size)
     return None

@@ -4,6 +4,7 @@ import contextlib
 import dataclasses
 import datetime
 import re
+from collections.abc import Sequence
 
 from opcplan.errors import LogUnwritable
 
@@ -22,6 +23,10 @@ class Wanted:
     job: int | None  # the caller's own number
     at: str
     stream: str | None = None  # the digest of the whole stream that the key stands for
+
+    def is_like(self, other: "Wanted") -> bool:
+        """Whether another one is the same statement."""
+        return (self.words, self.data, self.job) == (other.words, other.data, other.job)
 
     def text(self, job: int) -> bytes:
         """Its text as opcplan gets it, under a job number."""
@@ -55,7 +60,7 @@ class Entry:
                 "at": self.at, "key": self.key, "who": self.who}
 
 
-def placed(batch: list[Wanted], last: int) -> list[Entry]:
+def placed(batch: Sequence[Wanted], last: int) -> list[Entry]:
     """The Entries that a list of Wanted are behind the last one. Raises Unwritable."""
     found = []
     for seq, wanted in enumerate(batch, last + 1):
