@@ -90,21 +90,27 @@ class Walk:
         self.found: dict[tuple[str, About, int | None], Finding] = {}
         # the line of the last statement that changed a definition since findings were looked for
         self.changed: int | None = None
+        # what these changed: by kind the names; and how far the plans reached when findings were looked for
+        self.names: dict[str, set[str]] = {kind: set() for kind in (*stream_state.HELD, "options")}
+        self.first, self.bounds = now.definitions_alone(), now.bounds
+        self.span = lint_checks.window(self.first)
+        self.held = lint_checks.Held()
 
     @functools.cached_property
     def before(self) -> set[tuple[str, About]]:
         """What is found in the plan by itself."""
         if self.now.plan is None:
             return set()
-        now = stream_state.of_plan(self.now.plan)
-        found = {(one.kind, one.about) for one in lint_checks.all_of(now)}
-        return found | {(one.kind, one.about) for one in shortfalls(now)}
+        found = {(one.kind, one.about) for one in lint_checks.all_of(self.first, self.held)}
+        self.held.forget(None)
+        return found | {(one.kind, one.about) for one in shortfalls(self.first)}
 
     def take(self, item: Item, reply: str) -> None:
         """Takes an item and what it was answered."""
         is_done = reply.startswith("ok") and item.statement is not None and not self.now.is_repeated(item)
         if is_done and item.asked.name in ("define", "undefine"):
             self.changed = item.line
+            self.note(item)
             for finding in losses(self.now, item):
                 self.found[finding.kind, finding.about, finding.line] = finding
         planned = self.now.bounds
@@ -114,9 +120,29 @@ class Walk:
         if is_done and item.asked.name in PLANNING:
             self.look()
 
-    def look_ahead(self, line: int, first: int | None = None) -> None:
+    def note(self, item: Item) -> None:
+        """Notes the names that a statement changes."""
+        if item.statement is not None and item.statement.name == "undefine":
+            self.names[item.statement.kind].add(item.statement.values["name"])
+        elif (block := block_of(item)) is not None:
+            self.names[block.kind] |= {"options"} if block.kind == "options" else set(block.defined)
+
+    def touched(self) -> set[str] | None:
+        """The applications of which something may be new since findings were looked for; None for all of them."""
+        names, defined = self.names, self.now.defined
+        if names["options"] or self.bounds != self.now.bounds or self.span != lint_checks.window(self.now):
+            return None
+        found = names["applications"] | names["run-cycles"] | names["predecessors"]
+        if names["calendars"]:
+            found |= {app for app in defined.applications if defined.calendar_name(app) in names["calendars"]}
+        if names["periods"]:
+            found |= {app for app, cycles in defined.run_cycles.items()
+                      if any(cycle.period in names["periods"] for cycle in cycles.values())}
+        return found
+
+    def look_ahead(self, line: int, first: int | None = None, only: set[str] | None = None) -> None:
         """Looks for what ends before the long-term plan, whose days from `first` on are new."""
-        for one in shortfalls(self.now, first):
+        for one in shortfalls(self.now, first, only):
             if (one.kind, one.about) not in self.before:
                 self.found.setdefault((one.kind, one.about, None), Finding(one.kind, one.about, line, one.text))
 
@@ -124,13 +150,17 @@ class Walk:
         """Looks for findings, if a definition has changed since that was done last."""
         if self.changed is None:
             return
-        self.look_ahead(self.changed)
-        for one in lint_checks.all_of(self.now):
-            if one.line is None and (one.kind, one.about) in self.before:
+        before, only = self.before, self.touched()
+        self.held.forget(only)
+        self.look_ahead(self.changed, only=only)
+        for one in lint_checks.all_of(self.now, self.held, only):
+            if one.line is None and (one.kind, one.about) in before:
                 continue
             one = lint_checks.Finding(one.kind, one.about, one.line or self.changed, one.text)
             self.found.setdefault((one.kind, one.about, one.line), one)
-        self.changed = None
+        self.changed, self.bounds, self.span = None, self.now.bounds, lint_checks.window(self.now)
+        for names in self.names.values():
+            names.clear()
 
     def ended(self) -> list[Finding]:
         """All that was found, by line, once the stream has ended."""
@@ -138,12 +168,12 @@ class Walk:
         return sorted(self.found.values(), key=lambda finding: (finding.line, finding.kind, finding.about))
 
 
-def shortfalls(now: Known, first: int | None = None) -> list[reaches.Shortfall]:
+def shortfalls(now: Known, first: int | None = None, only: set[str] | None = None) -> list[reaches.Shortfall]:
     """What ends before the long-term plan, whose days from `first` on are new: all of them in a plan that is new."""
     if now.bounds is None:
         return []
     first = now.bounds.plan_end // moments.DAY if first is None else first
-    return reaches.shortfalls(now.defined, first, now.bounds.last_day)
+    return reaches.shortfalls(now.defined, first, now.bounds.last_day, only)
 
 
 def losses(now: Known, item: Item) -> Iterator[Finding]:
@@ -186,4 +216,10 @@ def block_of(item: Item) -> blocks.Block | None:
     """What the data of an item are read as, or None where it has none that can be read as a block."""
     if not item.has_data or not item.is_whole or item.data is None:
         return None
-    return blocks.read(item.asked.kind, item.data)
+    return read(item.asked.kind, item.data)
+
+
+@functools.lru_cache(1)
+def read(kind: str, data: bytes) -> blocks.Block:
+    """A block, which is asked for several times."""
+    return blocks.read(kind, data)

@@ -67,8 +67,7 @@ def difference(before: Plan, after: Plan, most: int | None = None) -> list[str]:
     most."""
     lines = definition_lines(plan_definitions.of_plan(before), plan_definitions.of_plan(after))
     lines += bound_lines(before.meta, after.meta)
-    rows_before, rows_after = ({row.serial: row for row in waits.rows_where(plan, "1")} for plan in (before, after))
-    lines += occurrence_lines(rows_before, rows_after, most)
+    lines += occurrence_lines(changed_rows(before, after), most)
     return lines or ["", "Nothing would be different but the jobs that are kept."]
 
 
@@ -112,20 +111,56 @@ def bound_lines(before: sqlite3.Row, after: sqlite3.Row) -> list[str]:
     return ["", "Plans:", *lines] if lines else []
 
 
-def occurrence_lines(before: dict[int, Row], after: dict[int, Row], most: int | None = None) -> list[str]:
+# What was complete in history or deleted before stays so. So it is enough to look at what was open, and at new serials.
+MOVED = """INSERT INTO temp.moved SELECT one.serial FROM before.{0} AS one LEFT JOIN main.{0} AS same USING (serial)
+    WHERE same.serial IS NULL"""
+NEW = "serial IN (SELECT serial FROM temp.moved) OR serial > :issued"
+OTHERWISE = """serial IN (SELECT one.serial FROM before.{0} AS one JOIN main.{0} AS same USING (serial)
+    WHERE (one.deadline, one.run_cycle, {1}) IS NOT (same.deadline, same.run_cycle, {2}))"""
+OPEN = {"ltp_row": ("'L'", "'L'", "'L'"), "cp_row": ("one.status", "same.status", "status")}
+
+
+def changed_rows(before: Plan, after: Plan) -> list[tuple[Row | None, Row]]:
+    """The occurrences that are new, stand elsewhere, or are due or named otherwise, by input arrival, application and
+    serial: as they were before, None if they weren't, and as they are."""
+    ask = after.db.execute
+    ask("ATTACH ? AS before", (before.db.execute("PRAGMA database_list").fetchone()["file"],))
+    try:
+        ask("CREATE TEMP TABLE moved (serial INTEGER PRIMARY KEY)")
+        for table in OPEN:
+            ask(MOVED.format(table))
+        otherwise = [f" OR {OTHERWISE.format(table, *cells[:2])}" for table, cells in OPEN.items()]
+        texts = [f"{text.replace('FROM ', 'FROM main.')} WHERE {NEW}{more}"
+                 for text, more in zip(waits.SETS, [otherwise[1], otherwise[0], "", ""])]
+        changed = [Row(*row) for row in ask(" UNION ALL ".join(texts) + " ORDER BY ia, app, serial",
+                                            {"issued": before.meta["issued"]})]
+        return [(row_before(after, row.serial), row) for row in changed]
+    finally:
+        ask("DROP TABLE IF EXISTS temp.moved")
+        ask("DETACH before")
+
+
+def row_before(after: Plan, serial: int) -> Row | None:
+    """An open row as it was before, in the database that is attached, or None."""
+    for table, (_, _, place) in OPEN.items():
+        found = after.db.execute(f"SELECT {waits.COLUMNS}, {place} FROM before.{table} WHERE serial = ?", (serial,))
+        if (row := found.fetchone()) is not None:
+            return Row(*row)
+    return None
+
+
+def occurrence_lines(changed: list[tuple[Row | None, Row]], most: int | None = None) -> list[str]:
     """How many occurrences come to stand elsewhere, from where to where, and then each of them, or the first of them
     and how many more."""
-    changed = [row for serial, row in after.items() if is_other(before.get(serial), row)]
-    changed.sort(key=lambda row: (row.ia, row.app, row.serial))
     if not changed:
         return []
-    counts = collections.Counter((place_of(before.get(row.serial)), place_of(row)) for row in changed)
+    counts = collections.Counter((place_of(old), place_of(new)) for old, new in changed)
     wide = len(f"{len(changed)}")
     lines = ["", f"Occurrences: {len(changed)}"]
     for (old, new), count in sorted(counts.items()):
         lines.append(f"  {count:{wide}}  {f'{old}, due or named otherwise' if old == new else f'{old} -> {new}'}")
     table: list[tuple[str, ...]] = [("serial", "application", "arrives", "before", "then", "due")]
-    table += [occurrence_cells(before.get(row.serial), row) for row in changed[:most]]
+    table += [occurrence_cells(old, new) for old, new in changed[:most]]
     widths = [max(map(len, column)) for column in zip(*table)]
     for serial, *cells in table:
         padded = "  ".join(f"{cell:{width}}" for cell, width in zip(cells, widths[1:]))
@@ -133,11 +168,6 @@ def occurrence_lines(before: dict[int, Row], after: dict[int, Row], most: int | 
     more = len(changed) - len(table) + 1
     lines.insert(-len(table), "")
     return lines + ([f"  and {more} more, which `./plan what-if` shows"] if more else [])
-
-
-def is_other(old: Row | None, new: Row) -> bool:
-    """Whether an occurrence is new, stands elsewhere, or is due or named otherwise."""
-    return old is None or (old.place, old.deadline, old.cycle) != (new.place, new.deadline, new.cycle)
 
 
 def place_of(row: Row | None) -> str:

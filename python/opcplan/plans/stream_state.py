@@ -4,6 +4,7 @@ It is known by the statements up to there, and by the plan that the stream is ru
 it what isn't known may be there all the same: a stream that goes on with the plan of a file stands on more than it
 says itself."""
 
+import dataclasses
 import re
 from collections.abc import Callable, Mapping
 from typing import NamedTuple
@@ -48,6 +49,14 @@ class Known:
         self.is_remade = self.is_daily = False  # whether these statements made or withdrew rows, or moved them
         # application and arrival, in words, of a serial that the stream gave, where its rows are at hand
         self.made: Callable[[int], str | None] | None = None
+
+    def definitions_alone(self) -> "Known":
+        """What is known here of definitions and bounds, as it is now."""
+        found, defined = Known(self.is_whole), self.defined
+        found.defined = dataclasses.replace(defined, indexes=defined.indexes, **{
+            name: dict(getattr(defined, name)) for name in HELD.values()})
+        found.bounds = self.bounds
+        return found
 
     def is_repeated(self, item: Item) -> bool:
         """Whether the job of a statement was asked before, so that it isn't done again."""

@@ -47,14 +47,14 @@ def tried(
         raise Unreadable(f"{path}: it is no plan, and {name} may be one: are they exchanged?")
     with tempfiles.folder("trial-") as folder:
         text, copy, said = (os.path.join(folder, name) for name in ("stream.in", "plan.db", "said"))
-        with plan_file.opened(new_plan(program, folder) if path is None else path) as plan:
+        with plan_file.opened(path or new_plan(program, folder), is_own=path is None) as plan:
             copy_stream(name, text)
             copy_plan(plan, copy)
             before = stream_state.of_plan(plan)
             with contextlib.ExitStack() as held:
                 before.made = MadeRows(copy, held).key_of
                 found, status = answered(program, copy, text, said, lambda items, output: take(items, output, before))
-            with plan_file.opened(copy) as after, open(said, "rb") as file:
+            with plan_file.opened(copy, is_own=True) as after, open(said, "rb") as file:
                 yield Trial(plan, after, found, status, file.read(MOST_SAID).decode(errors="replace"), text, program)
 
 
@@ -75,7 +75,7 @@ class MadeRows:
         if found is None and self.left:
             self.left -= 1
             with contextlib.suppress(Unreadable):
-                self.plan = self.held.enter_context(plan_file.opened(self.path))
+                self.plan = self.held.enter_context(plan_file.opened(self.path, is_own=True))
             found = self.found(serial)
         return found
 

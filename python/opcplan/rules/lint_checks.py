@@ -2,10 +2,10 @@
 
 import bisect
 import dataclasses
-from collections.abc import Iterator
+from collections.abc import Collection, Iterator
 
 from opcplan.rules import loops, naming
-from opcplan.rules.definitions import FIRST_DAY, LAST_DAY, Interval, Period, RunCycle
+from opcplan.rules.definitions import FIRST_DAY, LAST_DAY, Interval, Period, RunCycle, WorkDays
 from opcplan.rules.known import Known
 from opcplan.rules.moments import DAY, day_text, minute_text, moment_text
 from opcplan.rules.naming_words import count_text, few, meant_text
@@ -26,7 +26,10 @@ KINDS_BY_PLAN = {  # those that show beside what a plan defines
     "lacking": "a calendar, a period or an application that isn't defined and that something names",
     "pending": "a predecessor that is pending",
 }
+About = tuple[object, ...]
 Arrivals = dict[str, list[tuple[int, int]]]  # by application: its arrivals with their deadlines
+# what the days of a run cycle depend on: its period and work days, by their places in memory, and its own fields
+Pattern = tuple[int, int, str, tuple[int, ...], int, int | None]
 WINDOW = 42  # days over which arrivals are compared
 NIGHT = 6 * 60  # minutes within which a later predecessor belongs to the same night
 
@@ -42,16 +45,58 @@ class Finding:
     text: str
 
 
-def all_of(now: Known) -> list[Finding]:
-    """All findings over what is known."""
+@dataclasses.dataclass
+class Held:
+    """What was worked out before: arrivals within a span of days, until `forget` drops them; days and offsets of run
+    cycles, as long as there are the same periods and calendars, which are held with them; who is on a loop of lists."""
+
+    arrivals: Arrivals = dataclasses.field(default_factory=dict)
+    span: range = range(0)
+    looped: set[object] = dataclasses.field(default_factory=set)
+    days: dict[Pattern, tuple[Period, WorkDays, list[int]]] = dataclasses.field(default_factory=dict)
+    offsets: dict[object, tuple[Period, WorkDays | None, list[tuple[str, About, str]]]] = dataclasses.field(
+        default_factory=dict
+    )
+
+    def look_at(self, span: range) -> None:
+        """From here on arrivals within a span of days are worked out."""
+        if span != self.span:
+            self.span = span
+            self.forget(None)
+            self.days.clear()
+
+    def forget(self, apps: Collection[str] | None) -> None:
+        """Drops the arrivals of some applications, or of all."""
+        for app in list(self.arrivals) if apps is None else apps:
+            self.arrivals.pop(app, None)
+
+
+def all_of(now: Known, held: Held | None = None, only: set[str] | None = None) -> list[Finding]:
+    """All findings over what is known; where `only` some applications have changed since that was asked last, those
+    that may be new."""
+    held = Held() if held is None else held
     found: list[Finding] = []
-    for app in sorted(now.defined.run_cycles):
+    for app in chosen(now.defined.run_cycles, only):
         for name, cycle in sorted(now.defined.run_cycles[app].items()):
             line = now.line_of("run-cycles", app, name)
-            for kind, about, text in run_cycle_checks(now, app, cycle):
+            for kind, about, text in run_cycle_checks(now, app, cycle, held):
                 found.append(Finding(kind, (app, name, *about), line, f"run cycle {name} of {app}: {text}"))
-    found += idle_applications(now) + default_calendar(now) + predecessors(now) + loops_of_lists(now)
-    return found + lacking(now) if now.is_whole else found
+    found += idle_applications(now, only) + default_calendar(now) + predecessors(now, held, only)
+    if only is None or is_near_a_loop(now, held, only):
+        found += loops_of_lists(now)
+        held.looped = {app for one in found if one.kind == "loop" for app in one.about}
+    return found + lacking(now, only) if now.is_whole else found
+
+
+def chosen(names: Collection[str], only: set[str] | None) -> list[str]:
+    """Some names in order: all, or those of them that are in `only`."""
+    return sorted(names if only is None else (name for name in only if name in names))
+
+
+def is_near_a_loop(now: Known, held: Held, only: set[str]) -> bool:
+    """Whether one of some applications is on a loop of lists, or was."""
+    lists = now.defined.predecessors
+    return any(app in held.looped or app in lists and loops.is_on_one(lists, app) for app in only)
 
 
 def elsewhere(now: Known) -> str:
@@ -59,8 +104,11 @@ def elsewhere(now: Known) -> str:
     return "" if now.is_whole else " in this stream"
 
 
-def run_cycle_checks(now: Known, app: str, cycle: RunCycle) -> Iterator[tuple[str, tuple[object, ...], str]]:
+def run_cycle_checks(
+    now: Known, app: str, cycle: RunCycle, held: Held | None = None
+) -> Iterator[tuple[str, About, str]]:
     """Kind, further names and text of what is found of one run cycle."""
+    held = Held() if held is None else held
     if cycle.out_effect is not None and cycle.out_effect <= cycle.in_effect:
         out, since = day_text(cycle.out_effect), day_text(cycle.in_effect)
         yield "effect", (), f"it is out of effect from {out} on and in effect from {since} on, so it never names a day"
@@ -73,12 +121,15 @@ def run_cycle_checks(now: Known, app: str, cycle: RunCycle) -> Iterator[tuple[st
         yield "exclusion", (), f"it excludes {minute_text(cycle.time)}, at which no other one arrives ({others})"
     period = now.defined.periods.get(cycle.period)
     if period is not None and (app not in now.defined.applications or not now.defined.lacks_calendar(app)):
-        yield from offset_checks(now, app, cycle, period)
+        work = now.defined.work_days(app) if app in now.defined.applications else None
+        key = (id(period), id(work), cycle.period, cycle.rule, tuple(cycle.offsets), cycle.in_effect, cycle.out_effect,
+               now.bounds, now.is_whole)
+        if key not in held.offsets:
+            held.offsets[key] = period, work, list(offset_checks(now, app, cycle, period))
+        yield from held.offsets[key][2]
 
 
-def offset_checks(
-    now: Known, app: str, cycle: RunCycle, period: Period
-) -> Iterator[tuple[str, tuple[object, ...], str]]:
+def offset_checks(now: Known, app: str, cycle: RunCycle, period: Period) -> Iterator[tuple[str, About, str]]:
     """What is found of a run cycle's offsets."""
     offsets = list(dict.fromkeys(cycle.offsets))
     if period.kind == "W":
@@ -129,22 +180,24 @@ def is_beyond(now: Known, span: Interval) -> bool:
     return now.bounds is not None and now.bounds[1] < span[0]
 
 
-def idle_applications(now: Known) -> list[Finding]:
+def idle_applications(now: Known, only: set[str] | None) -> list[Finding]:
     """Active applications without run cycles."""
     none = elsewhere(now)
     return [
         Finding("idle", (app,), now.line_of("applications", app), f"{app} is active, and has no run cycles{none}")
-        for app, application in sorted(now.defined.applications.items())
-        if application.is_active and not now.defined.run_cycles.get(app)
+        for app in chosen(now.defined.applications, only)
+        if now.defined.applications[app].is_active and not now.defined.run_cycles.get(app)
     ]
 
 
 def default_calendar(now: Known) -> list[Finding]:
     """A default calendar that isn't defined, where some active application goes by it."""
     name = now.defined.default_calendar
+    if name in now.defined.calendars:
+        return []
     users = [app for app, application in sorted(now.defined.applications.items())
              if application.is_active and application.calendar in (None, name)]
-    if name in now.defined.calendars or not users:
+    if not users:
         return []
     given = now.lines.get(("options", None), {}).get(())
     line = now.gone.get(("calendars", name)) or given
@@ -155,12 +208,15 @@ def default_calendar(now: Known) -> list[Finding]:
     return [Finding("calendar", (name,), line, text)]
 
 
-def predecessors(now: Known) -> list[Finding]:
+def predecessors(now: Known, held: Held | None = None, only: set[str] | None = None) -> list[Finding]:
     """Predecessors that aren't defined, and those that arrive later in the same night."""
+    held = Held() if held is None else held
+    held.look_at(window(now))
     found: list[Finding] = []
-    arrivals: Arrivals = {}
-    for app, listed in sorted(now.defined.predecessors.items()):
-        for other, within in listed.items():
+    lists = now.defined.predecessors
+    near = None if only is None else {app for app in lists if app in only or not only.isdisjoint(lists[app])}
+    for app in chosen(lists, near):
+        for other, within in lists[app].items():
             line = now.line_of("predecessors", app, other)
             if other not in now.defined.applications:
                 line = line or now.gone.get(("applications", other))
@@ -172,7 +228,7 @@ def predecessors(now: Known) -> list[Finding]:
                 text = f"{app} waits for {other}, which is pending, so that no more of it is planned"
                 found.append(Finding("pending", (app, other), line, text))
             elif other != app:
-                both = (arrivals_of(now, name, arrivals) for name in (app, other))
+                both = (arrivals_of(now, name, held) for name in (app, other))
                 text = later_text(app, other, within, *both)
                 text += f"{', by this stream alone' if text and not now.is_whole else ''}"
                 found += [Finding("later", (app, other), line, text)] if text else []
@@ -192,18 +248,32 @@ def loops_of_lists(now: Known) -> list[Finding]:
     return found
 
 
-def lacking(now: Known) -> list[Finding]:
+def lacking(now: Known, only: set[str] | None) -> list[Finding]:
     """Calendars, periods and applications that aren't defined and that something names."""
+    return [*lacking_calendars(now, only), *lacking_of_run_cycles(now, only), *lacking_of_lists(now, only)]
+
+
+def lacking_calendars(now: Known, only: set[str] | None) -> list[Finding]:
+    """Calendars that aren't defined and that applications name."""
     found: list[Finding] = []
     defined = now.defined
-    for app, application in sorted(defined.applications.items()):
+    for app in chosen(defined.applications, only):
+        application = defined.applications[app]
         if defined.lacks_calendar(app) and application.calendar is not None:
             text = f"{app} names the calendar {application.calendar}, which isn't defined"
             text += meant_text(application.calendar, defined.calendars)
             text += f": planning is refused 22 {app}" if application.is_active else ""
             line = now.line_of("applications", app) or now.gone.get(("calendars", application.calendar))
             found.append(Finding("lacking", (app, application.calendar), line, text))
-    for app, cycles in sorted(defined.run_cycles.items()):
+    return found
+
+
+def lacking_of_run_cycles(now: Known, only: set[str] | None) -> list[Finding]:
+    """Applications of run cycles, and periods, that aren't defined."""
+    found: list[Finding] = []
+    defined = now.defined
+    for app in chosen(defined.run_cycles, only):
+        cycles = defined.run_cycles[app]
         is_active = app in defined.applications and defined.applications[app].is_active
         if app not in defined.applications:
             lines = [now.line_of("run-cycles", app, name) for name in cycles] + [now.gone.get(("applications", app))]
@@ -217,9 +287,16 @@ def lacking(now: Known) -> list[Finding]:
                 text += f": planning is refused 23 {app}" if is_active else ""
                 line = now.line_of("run-cycles", app, name) or now.gone.get(("periods", cycle.period))
                 found.append(Finding("lacking", (app, name), line, text))
-    for app, listed in sorted(defined.predecessors.items()):
+    return found
+
+
+def lacking_of_lists(now: Known, only: set[str] | None) -> list[Finding]:
+    """Applications of lists of predecessors that aren't defined."""
+    found: list[Finding] = []
+    defined = now.defined
+    for app in chosen(defined.predecessors, only):
         if app not in defined.applications:
-            lines = [now.line_of("predecessors", app, other) for other in listed]
+            lines = [now.line_of("predecessors", app, other) for other in defined.predecessors[app]]
             lines.append(now.gone.get(("applications", app)))
             text = f"{app} has a list of predecessors, and isn't defined as an application"
             text += meant_text(app, defined.applications)
@@ -227,16 +304,41 @@ def lacking(now: Known) -> list[Finding]:
     return found
 
 
-def arrivals_of(now: Known, app: str, held: Arrivals) -> list[tuple[int, int]]:
+def arrivals_of(now: Known, app: str, held: Held) -> list[tuple[int, int]]:
     """The arrivals of an application within the window, each with its deadline, in order."""
-    if app not in held:
-        held[app] = []
-        if naming.obstacle_of(now.defined, app) is None:
-            for day in window(now):
-                for named in naming.names(now.defined, app, day).times:
-                    if not named.excluded_by:
-                        held[app].append((day * DAY + named.time, named.deadline))
-    return held[app]
+    if app not in held.arrivals:
+        held.arrivals[app] = [] if naming.obstacle_of(now.defined, app) else arrivals_within(now, app, held)
+    return held.arrivals[app]
+
+
+def arrivals_within(now: Known, app: str, held: Held) -> list[tuple[int, int]]:
+    """The same, worked out from the days of each run cycle: of those that name a time of a day the one with the least
+    name gives the deadline, and one that excludes the time takes it away."""
+    by_time: dict[int, RunCycle] = {}
+    gone: set[int] = set()
+    for _, cycle in sorted(now.defined.run_cycles.get(app, {}).items()):
+        for day in days_of(now, app, cycle, held):
+            if cycle.excludes:
+                gone.add(day * DAY + cycle.time)
+            else:
+                by_time.setdefault(day * DAY + cycle.time, cycle)
+    return [(moment, deadline_of(by_time[moment], moment)) for moment in sorted(by_time.keys() - gone)]
+
+
+def deadline_of(cycle: RunCycle, moment: int) -> int:
+    """When an arrival that a run cycle names is due."""
+    assert cycle.due is not None, "a run cycle that excludes nothing has a deadline"
+    return (moment // DAY + cycle.due.days) * DAY + cycle.due.minute
+
+
+def days_of(now: Known, app: str, cycle: RunCycle, held: Held) -> list[int]:
+    """The days of the window that a run cycle names or excludes."""
+    period, work = now.defined.periods[cycle.period], now.defined.work_days(app)
+    key = id(period), id(work), cycle.rule, tuple(cycle.offsets), cycle.in_effect, cycle.out_effect
+    if key not in held.days:
+        days = [day for day in held.span if naming.answer(cycle, period, work, day).names]
+        held.days[key] = period, work, days
+    return held.days[key][2]
 
 
 def window(now: Known) -> range:

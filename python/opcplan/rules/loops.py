@@ -46,6 +46,20 @@ def knots(lists: Lists) -> list[set[str]]:
     return found
 
 
+def is_on_one(lists: Lists, app: str) -> bool:
+    """Whether an application waits for itself over others."""
+    seen, left = {app}, [app]
+    while left:
+        here = left.pop()
+        for other in lists.get(here, ()):
+            if other == app and here != app:
+                return True
+            if other not in seen:
+                seen.add(other)
+                left.append(other)
+    return False
+
+
 def ring_of(lists: Lists, app: str) -> list[str]:
     """The shortest way from an application over others back to it, or nothing."""
     before: dict[str, str] = {}

@@ -3,7 +3,7 @@
 import bisect
 import datetime
 from collections import defaultdict
-from collections.abc import Callable
+from collections.abc import Callable, Collection
 from typing import NamedTuple
 
 from opcplan.rules import naming
@@ -37,12 +37,16 @@ class Last(NamedTuple):
     is_by_period: bool
 
 
-def shortfalls(defined: Definitions, first: int, last: int) -> list[Shortfall]:
-    """All that ends before the last day of a plan, whose days from `first` on are new or still to come."""
-    lasts = [one for app in sorted(defined.applications) if naming.obstacle_of(defined, app) is None
-             for one in lasts_of(defined, app, last)]
-    ends = {app: end_of(defined, app, lasts) for app in {one.app for one in lasts}}
-    return [*of_periods(defined, lasts, ends, last), *of_calendars(defined, first, last),
+def shortfalls(defined: Definitions, first: int, last: int, only: Collection[str] | None = None) -> list[Shortfall]:
+    """All that ends before the last day of a plan, whose days from `first` on are new or still to come; where `only`
+    some applications have changed since that was asked last, what may be new."""
+    apps = sorted(defined.applications if only is None else (app for app in only if app in defined.applications))
+    lasts = [one for app in apps if naming.obstacle_of(defined, app) is None for one in lasts_of(defined, app, last)]
+    by_app: dict[str, list[Last]] = defaultdict(list)
+    for one in lasts:
+        by_app[one.app].append(one)
+    ends = {app: end_of(defined, app, ended) for app, ended in by_app.items()}
+    return [*of_periods(defined, lasts, ends, last), *of_calendars(defined, apps, first, last),
             *of_run_cycles(lasts, ends, first, last)]
 
 
@@ -95,8 +99,8 @@ def last_counted(cycle: RunCycle, work: WorkDays, first: int) -> int:
 
 
 def end_of(defined: Definitions, app: str, lasts: list[Last]) -> int | None:
-    """The last day on which an application can have an occurrence; None where one of its run cycles goes on."""
-    ended = {one.cycle.name: one.day for one in lasts if one.app == app}
+    """The last day on which an application can have an occurrence, whose run cycles end so; None where one goes on."""
+    ended = {one.cycle.name: one.day for one in lasts}
     going = [cycle for name, cycle in defined.run_cycles[app].items() if not cycle.excludes and name not in ended
              and (cycle.out_effect is None or cycle.in_effect < cycle.out_effect)]
     return None if going else max(ended.values())
@@ -171,11 +175,11 @@ NEXT: dict[str, Callable[[int], int]] = {
 }
 
 
-def of_calendars(defined: Definitions, first: int, last: int) -> list[Shortfall]:
-    """The calendars whose dates end before a plan, with who goes by them."""
+def of_calendars(defined: Definitions, apps: list[str], first: int, last: int) -> list[Shortfall]:
+    """The calendars whose dates end before a plan, with those of some applications that go by them."""
     users: dict[str, list[str]] = defaultdict(list)
-    for app, application in sorted(defined.applications.items()):
-        if application.is_active and defined.run_cycles.get(app):
+    for app in apps:
+        if defined.applications[app].is_active and defined.run_cycles.get(app):
             users[defined.calendar_name(app)].append(app)
     found = []
     for name, apps in sorted(users.items()):
