@@ -264,7 +264,7 @@ class Export(unittest.TestCase):
         """A calendar of occurrences with such names, whatever a plan takes."""
         found = [export.Occurrence(number, name, 28401120, 28401180, name, "cp", "W", "")
                  for number, name in enumerate(names, 1)]
-        return export.calendar_text(SimpleNamespace(path=str(self.room / "none.db")), found).encode()
+        return "".join(export.calendar_texts(SimpleNamespace(path=str(self.room / "none.db")), found)).encode()
 
     def test_name_of_any_text_makes_no_line(self):
         events = events_of(self.calendar_of(NAMES))

@@ -12,7 +12,7 @@ from support.plans import plain
 
 from opcplan.cli import words as module_words
 from opcplan.commands import late
-from opcplan.plans import plan_file
+from opcplan.plans import plan_file, waits
 from opcplan.rules import moments
 from opcplan.webpage import page_model
 
@@ -31,10 +31,13 @@ def texts():
 
 def lines_at(plan, now):
     """What is printed of a plan at a moment."""
-    rows, pairs = late.unfinished(plan)
-    model = page_model.of_rows(rows, pairs, now)
-    places = late.in_order(rows, model)
-    return late.late_lines(rows, model, places, plain.moment_text(now), now) if places else []
+    found = []
+    for rows, pairs in (waits.late_with_waits(plan, now), late.unfinished(plan)):
+        model = page_model.of_waits(rows, pairs, now)
+        places = late.in_order(rows, model)
+        found.append(late.late_lines(rows, model, places, plain.moment_text(now), now) if places else [])
+    assert found[0] == found[1], "what is late and what it waits for is enough"
+    return found[0]
 
 
 class Late(unittest.TestCase):

@@ -1,6 +1,11 @@
-"""What the tests have in common. To import it makes the package opcplan and the reference planner importable."""
+"""What the tests have in common. To import it makes the package opcplan and the reference planner importable, and puts
+what commands keep between runs into a folder that goes when the tests end."""
 
+import atexit
+import os
+import shutil
 import sys
+import tempfile
 from pathlib import Path
 
 TOP = Path(__file__).resolve().parents[2]
@@ -8,3 +13,7 @@ sys.dont_write_bytecode = True
 for folder in (TOP / "tools" / "reference", TOP / "python"):
     if str(folder) not in sys.path:
         sys.path.insert(0, str(folder))
+
+CACHE = tempfile.mkdtemp(prefix="cache-")
+atexit.register(shutil.rmtree, CACHE, ignore_errors=True)
+os.environ["XDG_CACHE_HOME"] = CACHE

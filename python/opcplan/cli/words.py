@@ -8,6 +8,7 @@ from collections.abc import Sequence
 from typing import NoReturn
 
 from opcplan.errors import WrongWords
+from opcplan.plans import kept_checks
 from opcplan.rules import hints, moments, printable
 
 CALLED = "./plan"  # by make install as the command is called there
@@ -93,8 +94,17 @@ def file(text: str) -> str:
 
 
 def add_plan(parser: argparse.ArgumentParser) -> None:
-    """The word that names the plan's file, as `words.plan`."""
+    """The word that names the plan's file, as `words.plan`, and the option that has it checked anew."""
     parser.add_argument("plan", metavar="PLAN.db", type=file, help="the file that opcplan --db keeps")
+    parser.add_argument("--again", action=Again, nargs=0,
+                        help="check PLAN.db anew, even if it was checked and hasn't changed since")
+
+
+class Again(argparse.Action):
+    """Has each file checked anew."""
+
+    def __call__(self, *_: object, **__: object) -> None:
+        kept_checks.distrust()
 
 
 def add_stream(parser: argparse.ArgumentParser) -> None:

@@ -1,9 +1,11 @@
-"""./plan export: occurrences for a calendar, a spreadsheet or a program."""
+"""./plan export: occurrences for a calendar, a spreadsheet or a program. They are printed as they are read."""
 
 import argparse
 import csv
 import datetime
+import functools
 import io
+import itertools
 import json
 import os
 import sqlite3
@@ -33,6 +35,7 @@ PLACES = {"ltp": "long-term plan", "cp": "current plan", "history": "history", "
 COLUMNS = "serial application set status reason arrives due run_cycle added".split()
 # of a line of iCalendar, without its end
 MOST_OCTETS = 75
+AT_ONCE = 1000  # rows of which the text, or what they wait for, is made at once
 # a spreadsheet takes a cell that begins with one of these for a formula, or looks behind it for one
 FORMULA_SIGNS = ("=", "+", "-", "@", "\t", "\r")
 
@@ -67,10 +70,11 @@ def add_words(parser: words.Parser) -> None:
     words.add_journal(parser)
     words.add_now(parser)
     form = parser.add_mutually_exclusive_group(required=True)
-    form.add_argument("--ics", dest="form", action="store_const", const=calendar_text, help="iCalendar, an event each")
-    form.add_argument("--csv", dest="form", action="store_const", const=csv_text,
+    form.add_argument("--ics", dest="form", action="store_const", const=calendar_texts,
+                      help="iCalendar, an event each")
+    form.add_argument("--csv", dest="form", action="store_const", const=csv_texts,
                       help="a table with a line of names; a cell that begins as a formula has an apostrophe before it")
-    form.add_argument("--json", dest="form", action="store_const", const=json_text, help="with what each waits for")
+    form.add_argument("--json", dest="form", action="store_const", const=json_texts, help="with what each waits for")
     parser.add_argument("--raw", action="store_true", help="with --csv: cells as they are, for what is no spreadsheet")
     parser.add_argument("--set", dest="sets", action="append", choices=list(SETS), help="a set; may stand repeatedly")
     parser.add_argument("--app", type=words.name, help="of this application alone")
@@ -80,42 +84,57 @@ def add_words(parser: words.Parser) -> None:
 
 def run(given: argparse.Namespace) -> int:
     """Does what the words ask for; the exit status."""
-    if given.raw and given.form is not csv_text:
+    if given.raw and given.form is not csv_texts:
         raise WrongWords("--raw goes with --csv alone")
     if given.now is not None and given.journal is None:
         raise WrongWords("--now says as of when ends are expected, so it goes with --journal")
-    form = raw_csv_text if given.raw else given.form
+    form = raw_csv_texts if given.raw else given.form
+    begin = None if given.first is None else given.first * moments.DAY
+    end = None if given.last is None else (given.last + 1) * moments.DAY - 1
     with plan_file.opened(given.plan) as plan:
-        found = occurrences(plan.db, given.sets or USUAL, given.app, given.first, given.last)
+        found = occurrences(plan.db, given.sets or USUAL, given.app, begin, end)
+        one = next(found, None)
+        if one is None:
+            raise Error(f"{given.plan}: it has no such occurrence")
         ran = export_actual.of_journal(given.journal, plan, given.now) if given.journal else None
-        text = form(plan, found, ran) if found else None
-    if text is None:
-        raise Error(f"{given.plan}: it has no such occurrence")
-    sys.stdout.flush()
-    sys.stdout.buffer.write(text.encode())
+        sys.stdout.flush()
+        for text in form(plan, itertools.chain([one], found), ran):
+            sys.stdout.buffer.write(text.encode())
     return 0
 
 
 def occurrences(
-    db: sqlite3.Connection, sets: Collection[str], app: str | None, first: int | None, last: int | None
-) -> list[Occurrence]:
-    """The rows of these sets, in the order of lists: by input arrival, application and serial."""
-    texts = [
-        f"SELECT serial, app, ia, deadline, run_cycle, '{name}', {SETS[name][1]} FROM {SETS[name][0]} "
-        "WHERE (?1 IS NULL OR app = ?1) AND ia >= ?2 AND ia < ?3"
-        for name in SETS
-        if name in sets
-    ]
-    begin = 0 if first is None else first * moments.DAY
-    end = 1 << 40 if last is None else (last + 1) * moments.DAY
-    rows = db.execute(" UNION ALL ".join(texts) + " ORDER BY 3, 2, 1", (app, begin, end))
-    return [Occurrence(*row) for row in rows]
+    db: sqlite3.Connection, sets: Collection[str], app: str | None, begin: int | None, end: int | None
+) -> Iterator[Occurrence]:
+    """The rows of these sets, one at a time, in the order of lists: by input arrival, application and serial. They are
+    of an application, and arrive from a moment on up to another one, where these are named."""
+    named = {"app": ("app = :app", app), "begin": ("ia >= :begin", begin), "end": ("ia <= :end", end)}
+    values = {name: value for name, (_, value) in named.items() if value is not None}
+    where = " AND ".join(["1", *(named[name][0] for name in values)])
+    texts = [f"SELECT serial, app, ia, deadline, run_cycle, '{name}', {state} FROM {table} WHERE {where}"
+             for name, (table, state) in SETS.items() if name in sets]
+    cursor = db.cursor()
+    cursor.row_factory = None
+    return itertools.starmap(Occurrence, cursor.execute(" UNION ALL ".join(texts) + " ORDER BY 3, 2, 1", values))
+
+
+def batches(found: Iterable[Occurrence]) -> Iterator[list[Occurrence]]:
+    """The same, some at a time."""
+    rows = iter(found)
+    while some := list(itertools.islice(rows, AT_ONCE)):
+        yield some
 
 
 def iso(moment: int, between: str = "T") -> str:
     """A moment by ISO 8601, without a zone."""
     day, minute = divmod(moment, moments.DAY)
-    return f"{moments.day_text(day)}{between}{minute // 60:02}:{minute % 60:02}"
+    return f"{day_text(day)}{between}{minute // 60:02}:{minute % 60:02}"
+
+
+@functools.lru_cache(1000)
+def day_text(day: int) -> str:
+    """`YYYY-MM-DD`."""
+    return moments.day_text(day)
 
 
 # A table. Spreadsheets take moments with a blank in them for moments.
@@ -126,28 +145,33 @@ def spaced(moment: int) -> str:
     return iso(moment, " ")
 
 
-def csv_text(_: Plan, found: list[Occurrence], ran: Ran | None = None) -> str:
+def csv_texts(_: Plan, found: Iterable[Occurrence], ran: Ran | None = None) -> Iterator[str]:
     """A table for a spreadsheet."""
-    return table_text(ran, ([cell(value) for value in row] for row in cells_of(found, ran)))
+    return table_texts(ran, ([cell(value) for value in row] for row in cells_of(found, ran)))
 
 
-def raw_csv_text(_: Plan, found: list[Occurrence], ran: Ran | None = None) -> str:
+def raw_csv_texts(_: Plan, found: Iterable[Occurrence], ran: Ran | None = None) -> Iterator[str]:
     """A table of the cells as they are."""
-    return table_text(ran, cells_of(found, ran))
+    return table_texts(ran, cells_of(found, ran))
 
 
-def cells_of(found: list[Occurrence], ran: Ran | None) -> Iterator[list[object]]:
+def cells_of(found: Iterable[Occurrence], ran: Ran | None) -> Iterator[list[object]]:
     """The values of the rows of a table."""
     return ([*one.values(spaced), *(ran.values(one, " ") if ran else ())] for one in found)
 
 
-def table_text(ran: Ran | None, rows: Iterable[list[object]]) -> str:
-    """The text of a table, with a line of names."""
+def table_texts(ran: Ran | None, rows: Iterator[list[object]]) -> Iterator[str]:
+    """The text of a table, with a line of names, in pieces."""
+    yield rows_text([[*COLUMNS, *(export_actual.COLUMNS if ran else ())]])
+    while some := list(itertools.islice(rows, AT_ONCE)):
+        yield rows_text(some)
+
+
+def rows_text(rows: Iterable[Iterable[object]]) -> str:
+    """The text of some rows of a table."""
     text = io.StringIO()
     table = csv.writer(text, lineterminator="\n")
-    table.writerow([*COLUMNS, *(export_actual.COLUMNS if ran else ())])
-    for values in rows:
-        table.writerow([int(value) if isinstance(value, bool) else value for value in values])
+    table.writerows([int(value) if isinstance(value, bool) else value for value in values] for values in rows)
     return text.getvalue()
 
 
@@ -159,11 +183,8 @@ def cell(value: object) -> object:
 # For programs: an object, an occurrence on each line of its list.
 
 
-def json_text(plan: Plan, found: list[Occurrence], ran: Ran | None = None) -> str:
-    """An object, with a list of occurrences."""
-    waits_for: dict[int, list[int]] = {}
-    for row in plan.db.execute("SELECT successor, predecessor FROM dependency ORDER BY successor, predecessor"):
-        waits_for.setdefault(row["successor"], []).append(row["predecessor"])
+def json_texts(plan: Plan, found: Iterable[Occurrence], ran: Ran | None = None) -> Iterator[str]:
+    """An object, with a list of occurrences, in pieces."""
     meta = plan.meta
     head: dict[str, object] = {
         "plan": os.path.basename(plan.path),
@@ -172,25 +193,39 @@ def json_text(plan: Plan, found: list[Occurrence], ran: Ran | None = None) -> st
         "plan_end": iso(meta["plan_end"]),
         **({"durations": ran.durations} if ran else {}),
     }
-    lines = []
-    for one in found:
-        values = dict(zip(COLUMNS, one.values(iso)))
-        more = dict(zip(export_actual.COLUMNS, ran.values(one, "T"))) if ran else {}
-        lines.append(json.dumps({**values, "waits_for": waits_for.get(one.serial, []), **more}))
-    begin = json.dumps(head, indent=1).removesuffix("\n}")
-    return begin + ',\n "occurrences": [\n' + ",\n".join("  " + line for line in lines) + "\n ]\n}\n"
+    yield json.dumps(head, indent=1).removesuffix("\n}") + ',\n "occurrences": [\n'
+    between = ""
+    for some in batches(found):
+        waits_for = predecessors_of(plan.db, some)
+        lines = []
+        for one in some:
+            values = dict(zip(COLUMNS, one.values(iso)))
+            more = dict(zip(export_actual.COLUMNS, ran.values(one, "T"))) if ran else {}
+            lines.append(json.dumps({**values, "waits_for": waits_for.get(one.serial, []), **more}))
+        yield between + ",\n".join("  " + line for line in lines)
+        between = ",\n"
+    yield "\n ]\n}\n"
+
+
+def predecessors_of(db: sqlite3.Connection, rows: Iterable[Occurrence]) -> dict[int, list[int]]:
+    """By serial the serials of what some occurrences have pairs with, in order."""
+    waits_for: dict[int, list[int]] = {}
+    asked = ("SELECT pair.successor, pair.predecessor FROM json_each(?) AS one CROSS JOIN dependency AS pair "
+             "ON pair.successor = one.value")
+    for successor, predecessor in db.execute(asked, (json.dumps([row.serial for row in rows]),)):
+        waits_for.setdefault(successor, []).append(predecessor)
+    return {serial: sorted(others) for serial, others in waits_for.items()}
 
 
 # iCalendar, RFC 5545: an event from input arrival to deadline, in floating local time.
 
 
-def calendar_text(plan: Plan, found: list[Occurrence], ran: Ran | None = None) -> str:
-    """A calendar, with an event for each occurrence."""
+def calendar_texts(plan: Plan, found: Iterable[Occurrence], ran: Ran | None = None) -> Iterator[str]:
+    """A calendar, with an event for each occurrence, in pieces."""
     stamp = last_written(plan.path).strftime("%Y%m%dT%H%M%SZ")
     lines = ["BEGIN:VCALENDAR", "VERSION:2.0", "PRODID:-//opcplan//plan export//EN", "CALSCALE:GREGORIAN"]
-    for one in found:
-        lines += event_lines(one, stamp, ran)
-    return "".join(folded(line) + "\r\n" for line in [*lines, "END:VCALENDAR"])
+    for some in itertools.chain([lines], (event_lines(one, stamp, ran) for one in found), [["END:VCALENDAR"]]):
+        yield "".join([f"{folded(line)}\r\n" for line in some])
 
 
 def last_written(path: str) -> datetime.datetime:
@@ -229,6 +264,8 @@ def description(one: Occurrence) -> str:
 
 def escaped(text: str) -> str:
     """A value of type TEXT: line ends are written `\\n`, other controls as their numbers."""
+    if text.isalnum():
+        return text
     if not text.replace("\n", "").isprintable():
         text = printable.text(text.replace("\r\n", "\n").replace("\r", "\n").split("\n"))
     for sign, written in (("\\", "\\\\"), (";", "\\;"), (",", "\\,"), ("\n", "\\n")):
@@ -239,6 +276,8 @@ def escaped(text: str) -> str:
 def folded(line: str) -> str:
     """A line cut so that no piece has more octets than it may, each character whole; each further piece begins behind
     a blank, which counts."""
+    if len(line) <= MOST_OCTETS and line.isascii():
+        return line
     octets, begin = line.encode("utf-8"), 0
     pieces: list[bytes] = []
     if len(octets) <= MOST_OCTETS:

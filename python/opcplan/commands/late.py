@@ -31,18 +31,24 @@ def add_words(parser: words.Parser) -> None:
 def run(given: argparse.Namespace) -> int:
     """Does what the words ask for; the exit status."""
     now = moments.now() if given.now is None else given.now
-    with plan_file.opened(given.plan) as plan:
-        rows, pairs = unfinished(plan)
-        notes = notes_on(plan, now)
-        model = page_model.of_rows(rows, pairs, now)
-        known = actual.of_journal(given.journal, plan)
-        ends = late_ends.of_plan(plan, rows, pairs, known, now) if known else None
-    late, moment = in_order(rows, model), moments.moment_text(now)
-    lines = late_lines(rows, model, late, moment, now, ends) if late else [f"Nothing is late at {moment}."]
-    print(printable.text([*lines, *(ends.lines if ends else [])]))
+    lines, notes, is_late = plan_file.answer(given.plan, lambda plan: found(plan, given.journal, now))
+    print(printable.text(lines))
     for note in notes:
         words.tell(note)
-    return 0 if late or ends and ends.is_late else 1
+    return 0 if is_late else 1
+
+
+def found(plan: Plan, journal: str | None, now: int) -> tuple[list[str], list[str], bool]:
+    """The lines on a plan at a moment, what is to be said of the moment, and whether something is late, ended late or
+    is going to."""
+    known = actual.of_journal(journal, plan)
+    rows, pairs = unfinished(plan) if known else waits.late_with_waits(plan, now)
+    model = page_model.of_waits(rows, pairs, now)
+    ends = late_ends.of_plan(plan, rows, pairs, known, now) if known else None
+    late, moment = in_order(rows, model), moments.moment_text(now)
+    lines = late_lines(rows, model, late, moment, now, ends) if late else [f"Nothing is late at {moment}."]
+    is_late = bool(late or ends and ends.is_late)
+    return [*lines, *(ends.lines if ends else [])], notes_on(plan, now), is_late
 
 
 def in_order(rows: list[Row], model: Model) -> list[int]:

@@ -41,9 +41,8 @@ def add_words(parser: words.Parser) -> None:
 def run(given: argparse.Namespace) -> int:
     """Does what the words ask for; the exit status."""
     now = moments.now() if given.now is None else given.now
-    with plan_file.opened(given.plan) as plan:
-        found = of_plan(plan, now, given.app)
-        notes = late.notes_on(plan, now)
+    found, notes = plan_file.answer(
+        given.plan, lambda plan: (of_plan(plan, now, given.app), late.notes_on(plan, now)))
     sys.stdout.write("".join(map(given.form, found)))
     for note in notes:
         words.tell(note)

@@ -1,9 +1,12 @@
 """./plan rows: the rows of a plan as `list` prints them, or those of them that are asked for."""
 
 import argparse
+import itertools
 import json
 import re
 import sys
+from collections.abc import Iterable, Iterator
+from typing import NamedTuple
 
 from opcplan.cli import words
 from opcplan.commands import export, late
@@ -20,6 +23,15 @@ STATUSES = {told: letter for letter, told in export.STATUSES.items()}
 BY_WORD = ", ".join(f"{told.replace(' ', '-')} ({letter})" for told, letter in STATUSES.items())
 # the sets whose rows have a status
 WITH_STATUS = ("cp", "history")
+MOST_HELD = 20_000  # rows that are held, so that a file is read as it is
+
+
+class Found(NamedTuple):
+    """What is printed of some rows, how many they are, and what is to be said."""
+
+    text: str
+    number: int
+    notes: list[str]
 
 
 def add_words(parser: words.Parser) -> None:
@@ -42,9 +54,9 @@ def add_words(parser: words.Parser) -> None:
                         "and neither complete nor deleted")
     words.add_now(parser)
     form = parser.add_mutually_exclusive_group()
-    form.add_argument("--csv", dest="form", action="store_const", const=export.csv_text, help="a table, as of export")
-    form.add_argument("--json", dest="form", action="store_const", const=json_text, help="an object on each line")
-    parser.set_defaults(form=list_text)
+    form.add_argument("--csv", dest="form", action="store_const", const=export.csv_texts, help="a table, as of export")
+    form.add_argument("--json", dest="form", action="store_const", const=json_texts, help="an object on each line")
+    parser.set_defaults(form=list_texts)
     parser.is_mixed = True
 
 
@@ -88,14 +100,40 @@ def run(given: argparse.Namespace) -> int:
     if wrong:
         raise WrongWords(wrong)
     now = moments.now() if given.now is None else given.now
-    with plan_file.opened(given.plan) as plan:
-        found = [one for one in asked_for(plan, given) if is_wanted(one, given, now)]
-        text = given.form(plan, found)
-        notes = notes_on(plan, given, now)
-    sys.stdout.write(text)
+    is_filtered = given.late or any(one is not None for one in (given.app, given.first, given.last, given.status))
+    found = plan_file.answer(given.plan, lambda plan: few(plan, given, now)) if is_filtered else None
+    if found is not None:
+        sys.stdout.write(found.text)
+        count, notes = found.number, found.notes
+    else:
+        with plan_file.opened(given.plan) as plan:
+            seen = Counted(wanted(plan, given, now))
+            for text in given.form(plan, seen):
+                sys.stdout.write(text)
+            count, notes = seen.count, notes_on(plan, given, now)
     for note in notes:
         words.tell(note)
-    return 0 if found else 1
+    return 0 if count else 1
+
+
+class Counted:
+    """Rows that pass, and how many did."""
+
+    def __init__(self, rows: Iterable[Occurrence]) -> None:
+        self.rows, self.count = rows, 0
+
+    def __iter__(self) -> Iterator[Occurrence]:
+        for one in self.rows:
+            self.count += 1
+            yield one
+
+
+def few(plan: Plan, given: argparse.Namespace, now: int) -> Found | None:
+    """What is printed of rows that aren't many, or None."""
+    rows = list(itertools.islice(wanted(plan, given, now), MOST_HELD + 1))
+    if len(rows) > MOST_HELD:
+        return None
+    return Found("".join(given.form(plan, rows)), len(rows), notes_on(plan, given, now))
 
 
 def fault_of(given: argparse.Namespace) -> str | None:
@@ -111,19 +149,17 @@ def fault_of(given: argparse.Namespace) -> str | None:
     return None
 
 
-def asked_for(plan: Plan, given: argparse.Namespace) -> list[Occurrence]:
-    """The rows of the sets, of the application, of the days."""
+def wanted(plan: Plan, given: argparse.Namespace, now: int) -> Iterator[Occurrence]:
+    """The rows of the sets that meet all filters."""
     sets = [given.what] if given.what else ["cp"] if given.late else export.USUAL
-    days = [bound and bound // moments.DAY for bound in (given.first, given.last)]
-    return export.occurrences(plan.db, sets, given.app, *days)
+    found = export.occurrences(plan.db, sets, given.app, given.first, given.last)
+    return (one for one in found if is_wanted(one, given, now))
 
 
 def is_wanted(one: Occurrence, given: argparse.Namespace, now: int) -> bool:
-    """Whether a row meets the other filters."""
+    """Whether a row meets the filters by its status."""
     return bool(
-        (given.first is None or one.arrival >= given.first)
-        and (given.last is None or one.arrival <= given.last)
-        and (not given.status or one.status in given.status)
+        (not given.status or one.status in given.status)
         and (not given.late or one.status in tuple(UNFINISHED) and one.deadline < now)
     )
 
@@ -142,22 +178,31 @@ def notes_on(plan: Plan, given: argparse.Namespace, now: int) -> list[str]:
 def is_known(plan: Plan, app: str) -> bool:
     """Whether an application is defined, or has a row."""
     defined = plan.db.execute("SELECT 1 FROM application WHERE name = ?", (app,)).fetchone()
-    return defined is not None or bool(waits.rows_where(plan, "app = :v0", app))
+    return defined is not None or waits.is_of_a_row(plan, app)
 
 
-def list_text(_: Plan, found: list[Occurrence]) -> str:
-    """The lines that `list` prints."""
-    return printable.text([*map(list_line, found), f"ok rows {len(found)}", ""])
+def list_texts(_: Plan, found: Iterable[Occurrence]) -> Iterator[str]:
+    """The lines that `list` prints, in pieces."""
+    count = 0
+    for one in found:
+        count += 1
+        yield printable.fit(list_line(one)) + "\n"
+    yield f"ok rows {count}\n"
 
 
 def list_line(one: Occurrence) -> str:
     """A row in a list; none of the long-term plan has a letter at its end."""
     origin, cycle = ("A", "") if one.run_cycle is None else ("G", one.run_cycle)
-    times = f"{moments.moment_text(one.arrival)} {moments.moment_text(one.deadline)}"
+    times = f"{moment_text(one.arrival)} {moment_text(one.deadline)}"
     row = f"{one.serial:09} {one.app:16} {origin} {cycle:8} {times}"
     return " ".join(filter(None, [row, one.status or one.reason]))
 
 
-def json_text(_: Plan, found: list[Occurrence]) -> str:
+def moment_text(moment: int) -> str:
+    """`YYYY-MM-DD HH.MM`."""
+    return f"{export.day_text(moment // moments.DAY)} {moments.minute_text(moment % moments.DAY)}"
+
+
+def json_texts(_: Plan, found: Iterable[Occurrence]) -> Iterator[str]:
     """An object a row, each on a line."""
-    return "".join(json.dumps(dict(zip(export.COLUMNS, one.values(export.iso)))) + "\n" for one in found)
+    return (json.dumps(dict(zip(export.COLUMNS, one.values(export.iso)))) + "\n" for one in found)

@@ -43,19 +43,22 @@ def add_words(parser: words.Parser) -> None:
 def run(given: argparse.Namespace) -> int:
     """Does what the words ask for; the exit status."""
     now = moments.now() if given.now is None else given.now
-    with plan_file.opened(given.plan) as plan:
-        found = keys.rows_of(plan, given.key)
-        if found is None:
-            lines = [keys.unknown_text(plan, given.key.serial)]
-        else:
-            app, ia, rows = found
-            lines = row_lines(plan, rows[0], now, given.all) if rows else nowhere_lines(plan, app, ia)
-            known = actual.of_journal(given.journal, plan)
-            if known and rows:
-                lines += run_lines(rows[0], known) + end_lines(plan, rows[0], known, now)
-            lines += earlier_lines(rows[1:]) + job_lines(plan, app, ia)
+    lines, is_found = plan_file.answer(given.plan, lambda plan: lines_of(plan, given, now))
     print(printable.text(lines))
-    return 0 if found and found.rows else 1
+    return 0 if is_found else 1
+
+
+def lines_of(plan: Plan, given: argparse.Namespace, now: int) -> tuple[list[str], bool]:
+    """What is printed of an occurrence at a moment, and whether it stands somewhere."""
+    found = keys.rows_of(plan, given.key)
+    if found is None:
+        return [keys.unknown_text(plan, given.key.serial)], False
+    app, ia, rows = found
+    lines = row_lines(plan, rows[0], now, given.all) if rows else nowhere_lines(plan, app, ia)
+    known = actual.of_journal(given.journal, plan)
+    if known and rows:
+        lines += run_lines(rows[0], known) + end_lines(plan, rows[0], known, now)
+    return lines + earlier_lines(rows[1:]) + job_lines(plan, app, ia), bool(rows)
 
 
 def row_lines(plan: Plan, row: Row, now: int, all_lines: bool) -> list[str]:
@@ -180,7 +183,7 @@ def indent(depth: int) -> str:
 def nowhere_lines(plan: Plan, app: str, ia: int) -> list[str]:
     """Why an occurrence is in no plan, not in history, and not in the deletions."""
     apps = plan_definitions.of_plan(plan).applications
-    if app not in apps and not waits.rows_where(plan, "app = :v0", app):
+    if app not in apps and not waits.is_of_a_row(plan, app):
         return [f"The application {app} isn't defined{meant_text(app, apps)}, and the plan has no occurrence of it."]
     lines = [f"{app} {moments.moment_text(ia)} stands nowhere, and never did."]
     if not plan.is_created:

@@ -34,17 +34,20 @@ def add_words(parser: words.Parser) -> None:
 
 def run(given: argparse.Namespace) -> int:
     """Does what the words ask for; the exit status."""
-    with plan_file.opened(given.plan) as plan:
-        found = keys.rows_of(plan, given.key)
-        if found is None:
-            print(keys.unknown_text(plan, given.key.serial))
-            return 1
-        app, day = found.app, found.ia // moments.DAY
-        defined = plan_definitions.of_plan(plan)
-        said = naming.names(defined, app, day)
-        lines = day_lines(defined, app, day, said) + plan_lines(plan, app, day, said)
+    lines, is_named = plan_file.answer(given.plan, lambda plan: lines_of(plan, given))
     print(printable.text(lines))
-    return 0 if said.is_named else 1
+    return 0 if is_named else 1
+
+
+def lines_of(plan: Plan, given: argparse.Namespace) -> tuple[list[str], bool]:
+    """What is printed of a day, and whether it is named."""
+    found = keys.rows_of(plan, given.key)
+    if found is None:
+        return [keys.unknown_text(plan, given.key.serial)], False
+    app, day = found.app, found.ia // moments.DAY
+    defined = plan_definitions.of_plan(plan)
+    said = naming.names(defined, app, day)
+    return day_lines(defined, app, day, said) + plan_lines(plan, app, day, said), said.is_named
 
 
 def day_lines(defined: Definitions, app: str, day: int, said: naming.DayNames) -> list[str]:

@@ -1,7 +1,11 @@
-"""A plan's file, read without touching it: the file and its log are copied, and the copy is read.
+"""A plan's file, read without touching it.
 
-A reader that has the file open makes `opcplan` end with fault 50, SQLite leaves files beside a file that it only reads,
-and a file without its log is an older plan. So each subcommand reads by `opened` alone."""
+A reader that has the file open as a database makes `opcplan` end with fault 50, SQLite leaves files beside a file that
+it only reads, and a file without its log is an older plan. So the file and its log are copied and the copy is read
+(`opened`), or the file is read as bytes that nobody changes, if nothing is in its log, and the answer counts only if
+nobody has changed them (`answer`). Each subcommand reads by these two alone.
+
+A file is checked before anything of it is shown, and again once it has changed (`kept_checks`)."""
 
 import contextlib
 import os
@@ -9,11 +13,13 @@ import shutil
 import sqlite3
 import stat
 import time
-from collections.abc import Iterator
-from typing import NamedTuple
+from collections.abc import Callable, Iterator
+from typing import NamedTuple, TypeVar
 
 from opcplan.errors import Error, Unreadable
-from opcplan.plans import page_sums, sound_pairs, sound_rows, tempfiles
+from opcplan.plans import kept_checks, page_sums, sound_pairs, sound_rows, tempfiles
+
+T = TypeVar("T")  # what is made of a plan
 
 VERSIONS = (1, 2)  # of the tables, those that are read
 BEGIN = b"SQLite format 3\0"
@@ -21,22 +27,59 @@ TRIES = 5
 # a journal can name any other file, which SQLite then takes away: it is never copied
 JOURNAL = "-journal"
 TAILS = ("", "-wal", JOURNAL)
-# a change that comes this soon after another one may leave the file's time as it was
-COARSE = 0.02
+# a log of so many bytes has no page, whatever they are
+MOST_WITHOUT_PAGES = 32 + 24
+# a change that comes this soon after another one may leave the file's time as it was, or, where times are whole
+# seconds, that soon
+COARSE, WHOLE_SECONDS = 0.02, 2.0
+SECOND = 1_000_000_000
+# of a file its head, which has the counter of changes, and of a log
+OF_HEAD = 100
 
 
 class Stamp(NamedTuple):
-    """What tells one state of a file from another: its tail, size in bytes, time of the last change in ns, inode."""
+    """What tells one state of a file from another: its tail, size in bytes, times of the last change of its bytes and
+    of whatever is known about it in ns, inode, device. The second of the times can't be set by a program."""
 
     tail: str
     size: int
     changed: int
     inode: int
+    device: int
+    touched: int
+
+
+class State(NamedTuple):
+    """What a file and its log are at a moment in ns: their stamps, and how each begins."""
+
+    stamps: tuple[Stamp, ...]
+    heads: tuple[str, ...]
+    moment: int
+
+    @property
+    def written(self) -> float:
+        """When the file or its log was written last, in seconds."""
+        return max(seen.changed for seen in self.stamps) / 1e9
+
+    @property
+    def is_settled(self) -> bool:
+        """Whether any change after the moment shows in the stamps: the last one is older than times are exact."""
+        return all(seen.touched + granule(seen) <= self.moment and seen.changed + granule(seen) <= self.moment
+                   for seen in self.stamps)
+
+    @property
+    def has_log(self) -> bool:
+        """Whether the log may have a page."""
+        return any(seen.tail == TAILS[1] and seen.size > MOST_WITHOUT_PAGES for seen in self.stamps)
+
+    @property
+    def text(self) -> str:
+        """The same in words, without the moment."""
+        return f"{[tuple(seen) for seen in self.stamps]} {list(self.heads)}"
 
 
 class Plan:
-    """A private copy of a plan, whose rows keep the rules; `written` is when its file or log was written last, in
-    seconds."""
+    """A plan that is read; `written` is when its file or log was written last, in seconds."""
 
     def __init__(self, path: str, db: sqlite3.Connection, written: float) -> None:
         self.path = path
@@ -48,36 +91,77 @@ class Plan:
 
 
 @contextlib.contextmanager
-def opened(path: str | os.PathLike[str]) -> Iterator[Plan]:
-    """A Plan of the file; its copy goes when the context ends. Raises Unreadable, also for what is found later."""
+def opened(path: str | os.PathLike[str], is_own: bool = False) -> Iterator[Plan]:
+    """A Plan of a private copy of the file, which goes when the context ends. Raises Unreadable, also for what is found
+    later. The rows of a file of this command's `own`, which opcplan alone has written, aren't checked."""
     path = os.fspath(path)
-    if not os.path.exists(path):
-        raise Unreadable(f"{path}: there is no such file")
-    if not os.path.isfile(path):
-        raise Unreadable(f"{path}: it is no file")
+    real = place_of(path)
     with tempfiles.folder("plan-") as folder:
         copy = os.path.join(folder, "plan.db")
         try:
-            check_begin(os.path.realpath(path))
-            check_room(os.path.realpath(path), folder)
-            written = copied(os.path.realpath(path), copy)
+            check_begin(real)
+            check_room(real, folder)
+            state = copied_as(real, copy)
         except OSError as error:
             raise Unreadable(f"{path}: it can't be read: {error.strerror or error}") from None
         except Unreadable as error:
             raise Unreadable(f"{path}: {error}") from None
         if os.path.getsize(copy) == 0:
             raise Unreadable(f"{path}: it is empty, and no plan")
+        with reading(path), contextlib.closing(sqlite3.connect(copy, isolation_level=None)) as db:
+            prepare(db)
+            yield Plan(path, db, state.written) if is_own else checked(path, db, copy, state)
+
+
+def answer(path: str | os.PathLike[str], make: Callable[[Plan], T]) -> T:
+    """What is made of a Plan, by something that leaves nothing else behind. Where the file was checked before and
+    nothing is in its log, it is read as it is; if it changes meanwhile, the answer is made again, of a copy. Raises
+    Unreadable."""
+    path = os.fspath(path)
+    real = place_of(path)
+    state = kept_state(real)
+    if state is not None and not state.has_log:
         try:
-            with contextlib.closing(sqlite3.connect(copy, isolation_level=None)) as db:
-                db.row_factory = sqlite3.Row
-                yield read(path, db, copy, written)
-        except (NotAPlan, sound_rows.Unsound) as error:
-            raise Unreadable(f"{path}: {error}") from None
-        except sqlite3.Error as error:
-            raise Unreadable(f"{path}: it can't be read as a plan: {error}") from error
-        except UnicodeDecodeError as error:  # SQLite told a name that is no text
-            told = error.object.decode("utf-8", "surrogateescape")
-            raise Unreadable(f"{path}: it can't be read as a plan: {told}") from None
+            with reading(path), contextlib.closing(connected(real)) as db:
+                prepare(db)
+                made = make(Plan(path, db, state.written))
+        except Exception:
+            if is_still(real, state):
+                raise
+        else:
+            if is_still(real, state):
+                return made
+    with opened(path) as plan:
+        return make(plan)
+
+
+def place_of(path: str) -> str:
+    """Where a file is, links followed. Raises Unreadable."""
+    if not os.path.exists(path):
+        raise Unreadable(f"{path}: there is no such file")
+    if not os.path.isfile(path):
+        raise Unreadable(f"{path}: it is no file")
+    return os.path.realpath(path)
+
+
+def connected(path: str) -> sqlite3.Connection:
+    """A file as bytes that nobody changes: SQLite takes no lock then, looks for no log, and leaves nothing behind."""
+    name = "".join(f"%{byte:02x}" for byte in os.fsencode(path))
+    return sqlite3.connect(f"file:{name}?mode=ro&immutable=1", uri=True, isolation_level=None)
+
+
+@contextlib.contextmanager
+def reading(path: str) -> Iterator[None]:
+    """A context of which each error of reading a plan is raised as Unreadable, with the path."""
+    try:
+        yield
+    except (NotAPlan, sound_rows.Unsound) as error:
+        raise Unreadable(f"{path}: {error}") from None
+    except sqlite3.Error as error:
+        raise Unreadable(f"{path}: it can't be read as a plan: {error}") from error
+    except UnicodeDecodeError as error:  # SQLite told a name that is no text
+        text = error.object.decode("utf-8", "surrogateescape")
+        raise Unreadable(f"{path}: it can't be read as a plan: {text}") from None
 
 
 def check_begin(path: str) -> None:
@@ -110,12 +194,42 @@ class NotAPlan(Error):
     """Why a database is no plan that is read here."""
 
 
-def read(path: str, db: sqlite3.Connection, copy: str, written: float) -> Plan:
-    """The Plan of a database, once all of it was looked at."""
+def prepare(db: sqlite3.Connection) -> None:
+    """Sets how a database is read."""
+    db.row_factory = sqlite3.Row
     db.execute("PRAGMA trusted_schema = OFF")
     db.execute("PRAGMA synchronous = OFF")  # nobody needs the copy later
+
+
+def checked(path: str, db: sqlite3.Connection, copy: str, state: State) -> Plan:
+    """The Plan of a copy of a file that was in a state. It is checked, unless it was found sound in that state; what is
+    found is kept, if a later change of the file would show."""
+    kept = kept_checks.of_file(os.path.realpath(path), state.text)
+    if kept is not None and kept_checks.is_there(kept):
+        return Plan(path, db, state.written)
     ask_sums(db, copy)
-    return Plan(path, db, written)
+    plan = Plan(path, db, state.written)
+    sound_rows.ask(db, plan.version)
+    sound_pairs.ask(db, plan.version)
+    if kept is not None and state.is_settled:
+        kept_checks.put(kept)
+    return plan
+
+
+def kept_state(path: str) -> State | None:
+    """The state in which a file is, if it was found sound in it, or None."""
+    with contextlib.suppress(OSError):
+        state = state_of(path)
+        kept = kept_checks.of_file(path, state.text)
+        return state if kept is not None and kept_checks.is_there(kept) else None
+    return None
+
+
+def is_still(path: str, state: State) -> bool:
+    """Whether a file and its log are in a state that they were in."""
+    with contextlib.suppress(OSError):
+        return tuple(stamps(path)) == state.stamps
+    return False
 
 
 def ask_sums(db: sqlite3.Connection, copy: str) -> None:
@@ -129,8 +243,7 @@ def ask_sums(db: sqlite3.Connection, copy: str) -> None:
 
 
 def meta_of(db: sqlite3.Connection) -> sqlite3.Row:
-    """The one row of plan_meta, of a database that has a plan's tables in a version that is read here, and rows that
-    keep the rules of a plan."""
+    """The one row of plan_meta, of a database that has a plan's tables in a version that is read here."""
     found = {row["name"] for row in db.execute("SELECT name FROM sqlite_schema WHERE type = 'table' AND rootpage > 0")}
     if "plan_meta" not in found:
         raise NotAPlan("it is a database, but no plan: it has no table plan_meta")
@@ -144,19 +257,22 @@ def meta_of(db: sqlite3.Connection) -> sqlite3.Row:
     if lacked:
         raise NotAPlan(f"it is no plan: it has no table {lacked[0]}")
     sound_rows.ask_form(db, rows[0]["version"])
-    sound_rows.ask(db, rows[0]["version"])
-    sound_pairs.ask(db, rows[0]["version"])
     return rows[0]
 
 
 def copied(path: str, copy: str) -> float:
     """Copies the file and its log where neither changes meanwhile, and answers when they were written last."""
+    return copied_as(path, copy).written
+
+
+def copied_as(path: str, copy: str) -> State:
+    """The same, and answers the state that was copied."""
     for tried in range(TRIES):
         time.sleep(COARSE * (2**tried - 1))
-        before = stamps(path)
+        before = state_of(path)
         if is_fresh(before):
             time.sleep(COARSE)
-            before = stamps(path)
+            before = state_of(path)
         if has_journal(path):
             continue
         try:
@@ -166,8 +282,8 @@ def copied(path: str, copy: str) -> float:
             if not os.path.exists(path):
                 raise
             continue
-        if before == stamps(path):
-            return max(seen.changed for seen in before) / 1e9
+        if is_still(path, before):
+            return before
     if has_journal(path):
         told = "another program writes to it, or was stopped while it did; opcplan doesn't open it either"
         raise Unreadable(f"{os.path.basename(path)}{JOURNAL} stands beside it: {told}")
@@ -187,16 +303,36 @@ def take(source: str, target: str) -> None:
     shutil.copyfile(source, target)
 
 
+def state_of(path: str) -> State:
+    """The state of a file and of what stands beside it, as of now."""
+    moment = time.time_ns()
+    found = stamps(path)
+    return State(tuple(found), tuple(head_of(path + seen.tail) for seen in found), moment)
+
+
 def stamps(path: str) -> list[Stamp]:
-    """Size, time and place of the file and of what stands beside it."""
+    """Size, times and place of the file and of what stands beside it."""
     found = []
     for tail in TAILS:
-        try:
+        with contextlib.suppress(FileNotFoundError):
             seen = os.stat(path + tail)
-            found.append(Stamp(tail, seen.st_size, seen.st_mtime_ns, seen.st_ino))
-        except FileNotFoundError:
-            pass
+            found.append(Stamp(tail, seen.st_size, seen.st_mtime_ns, seen.st_ino, seen.st_dev, seen.st_ctime_ns))
     return found
+
+
+def head_of(path: str) -> str:
+    """How a file begins, in digits; nothing of what is no file."""
+    if not os.path.isfile(path):
+        return ""
+    with contextlib.suppress(FileNotFoundError), open(path, "rb") as file:
+        return file.read(OF_HEAD).hex()
+    return ""
+
+
+def granule(seen: Stamp) -> int:
+    """How far apart two changes are at least, in ns, of which the times differ."""
+    is_whole = not (seen.changed % SECOND or seen.touched % SECOND)
+    return int((WHOLE_SECONDS if is_whole else COARSE) * SECOND)
 
 
 def has_journal(path: str) -> bool:
@@ -208,6 +344,6 @@ def has_journal(path: str) -> bool:
     return False
 
 
-def is_fresh(found: list[Stamp]) -> bool:
+def is_fresh(state: State) -> bool:
     """Whether the newest change is so young that another one might not show."""
-    return any(0 <= time.time_ns() - seen.changed < COARSE * 1e9 for seen in found)
+    return any(0 <= state.moment - at < COARSE * SECOND for seen in state.stamps for at in (seen.changed, seen.touched))

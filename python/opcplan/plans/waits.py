@@ -35,6 +35,7 @@ class Job(NamedTuple):
 
 Waits = dict[int, list[Row]]  # by serial: what it waits for
 COLUMNS = "serial, app, ia, deadline, run_cycle"
+TABLES = ("ltp_row", "history_row", "cp_row", "deletion_row")
 SETS = (
     f"SELECT {COLUMNS}, status AS place FROM cp_row",
     f"SELECT {COLUMNS}, 'L' AS place FROM ltp_row",
@@ -49,6 +50,12 @@ def rows_where(plan: Plan, condition: str, *values: int | str | None) -> list[Ro
     names = {f"v{number}": value for number, value in enumerate(values)}
     found = plan.db.execute(f"SELECT * FROM ({asked}) ORDER BY ia, app, serial", names).fetchall()
     return [Row(*row) for row in found]
+
+
+def is_of_a_row(plan: Plan, app: str) -> bool:
+    """Whether an application has a row in one of the four sets."""
+    asked = " OR ".join(f"EXISTS (SELECT 1 FROM {table} WHERE app = :app)" for table in TABLES)
+    return bool(plan.db.execute(f"SELECT {asked}", {"app": app}).fetchone()[0])
 
 
 def rows_of_current(plan: Plan, statuses: str) -> list[Row]:
@@ -76,6 +83,31 @@ def predecessors(plan: Plan, serial: int) -> list[Row]:
 def open_predecessors(plan: Plan, serial: int) -> list[Row]:
     """Those of its predecessors that aren't complete."""
     return [row for row in predecessors(plan, serial) if row.place not in statuses.COMPLETE]
+
+
+LATE = """CREATE TEMP TABLE reached (serial INTEGER PRIMARY KEY);
+    INSERT INTO temp.reached WITH RECURSIVE reached (serial) AS (
+        SELECT serial FROM cp_row WHERE status IN ('W', 'S', 'E') AND deadline < :now
+        UNION SELECT earlier.serial FROM reached
+            JOIN cp_row AS later ON later.serial = reached.serial AND later.status = 'W'
+            JOIN dependency AS pair ON pair.successor = later.serial
+            JOIN cp_row AS earlier ON earlier.serial = pair.predecessor AND earlier.status IN ('W', 'S', 'E')
+    ) SELECT serial FROM reached"""
+
+
+def late_with_waits(plan: Plan, now: int) -> tuple[list[Row], list[tuple[int, int]]]:
+    """The rows of the current plan that are late at a moment, with all of the current plan that they wait for, by input
+    arrival, and the pairs of these."""
+    cursor = plan.db.cursor()
+    cursor.row_factory = None
+    cursor.execute("DROP TABLE IF EXISTS temp.reached")
+    for text in LATE.split(";"):
+        cursor.execute(text, {"now": now})
+    asked = f"{SETS[0]} WHERE serial IN (SELECT serial FROM temp.reached) ORDER BY ia, app, serial"
+    rows = [Row(*row) for row in cursor.execute(asked)]
+    pairs = cursor.execute("SELECT successor, predecessor FROM temp.reached JOIN dependency ON successor = serial "
+                           "WHERE predecessor IN (SELECT serial FROM temp.reached)")
+    return rows, pairs.fetchall()
 
 
 OPEN_PAIRS = """reached JOIN dependency ON successor = reached.serial

@@ -37,6 +37,17 @@ def is_late(row: Row, now: int) -> bool:
 
 def of_rows(rows: Sequence[Row], pairs: Iterable[tuple[int, int]], now: int) -> Model:
     """The model of rows, sorted by input arrival, and of their pairs of serials."""
+    model = of_waits(rows, pairs, now)
+    model.at_risk = sorted(
+        place for place, root in model.roots.items()
+        if not model.is_late[place] and (model.states[root] == "E" or model.is_late[root])
+    )
+    find_holds(model, rows)
+    return model
+
+
+def of_waits(rows: Sequence[Row], pairs: Iterable[tuple[int, int]], now: int) -> Model:
+    """The same, without what is at risk and what holds others up."""
     index = {row.serial: place for place, row in enumerate(rows)}
     before: defaultdict[int, list[int]] = defaultdict(list)
     for successor, predecessor in pairs:
@@ -47,11 +58,6 @@ def of_rows(rows: Sequence[Row], pairs: Iterable[tuple[int, int]], now: int) -> 
         if row.place == "W":
             model.states[place] = "F" if row.ia > now else "B" if place in model.waits else "R"
     find_roots(model, rows)
-    model.at_risk = sorted(
-        place for place, root in model.roots.items()
-        if not model.is_late[place] and (model.states[root] == "E" or model.is_late[root])
-    )
-    find_holds(model, rows)
     return model
 
 
