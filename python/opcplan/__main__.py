@@ -13,13 +13,22 @@ from opcplan.errors import Error, WrongWords
 from opcplan.plans import tempfiles
 
 GROUPS = {
-    "What stands in a plan:": ("page", "late", "ready", "rows", "why", "why-day", "export"),
+    "What stands in a plan:": ("status", "page", "late", "ready", "rows", "why", "why-day", "cal", "days", "export"),
     "Job streams, before they are run and after:": ("lint", "check", "what-if", "run", "send", "explain", "next-job"),
-    "Definitions of a plan, as job streams:": ("dump", "edit", "import"),
+    "Definitions of a plan, as job streams:": ("init", "dump", "edit", "import"),
     "One plan for many callers:": ("desk", "log", "journal", "agent"),
     "Copies of a plan:": ("backup", "restore"),
 }
 SUBCOMMANDS = [name for names in GROUPS.values() for name in names]
+# what somebody may call a subcommand
+OTHERWISE = {
+    "list": "rows", "show": "rows", "ls": "rows", "jobs": "journal", "new": "init",
+    "create": "init", "start": "send", "complete": "send", "fail": "send", "reset": "send", "delete": "send",
+    "add": "send", "holidays": "import", "holiday": "edit", "crontab": "import", "cron": "import", "html": "page",
+    "graph": "page", "ics": "export", "csv": "export", "json": "export", "gendays": "days", "calendar": "cal",
+    "year": "cal", "copy": "backup", "diff": "what-if", "try": "what-if", "trial": "what-if", "serve": "desk",
+    "server": "desk", "print": "rows", "today": "status", "summary": "status", "overview": "status",
+}
 WITH_TRACEBACK = "PLAN_TRACEBACK"
 DEFECT = 3
 END = """
@@ -76,6 +85,15 @@ def parser_of(name: str) -> words.Parser:
     return parser
 
 
+def meant_text(word: str) -> str:
+    """` (is NAME meant?)` of a word that is no subcommand, where it is like one or another name for one; else
+    nothing."""
+    from opcplan.rules import naming_words
+
+    other = OTHERWISE.get(word.lower())
+    return f" (is {other} meant?)" if other else naming_words.meant_text(word, SUBCOMMANDS)
+
+
 def ask(name: str, given: list[str]) -> int:
     """The exit status of a subcommand with its words."""
     return module_of(name).run(parser_of(name).parse_args(given))
@@ -83,6 +101,8 @@ def ask(name: str, given: list[str]) -> int:
 
 def main(given: list[str]) -> int:
     """The exit status of the words of a command line."""
+    if given[:1] == ["help"] and len(given) > 1:
+        given = [given[1], "--help"]
     if given[:1] in (["-h"], ["--help"], ["help"]):
         print(help_text())
         return 0
@@ -90,10 +110,7 @@ def main(given: list[str]) -> int:
         print("\n".join(version.lines()))
         return 0
     if not given or given[0] not in SUBCOMMANDS:
-        from opcplan.rules import naming_words
-
-        near = naming_words.meant_text(given[0], SUBCOMMANDS) if given else ""
-        told = f"there is no subcommand {given[0]!r}{near}" if given else "a subcommand is wanted"
+        told = f"there is no subcommand {given[0]!r}{meant_text(given[0])}" if given else "a subcommand is wanted"
         raise WrongWords(f"{told}; ./plan --help lists all")
     return ask(given[0], given[1:])
 

@@ -10,6 +10,10 @@ from pathlib import Path
 
 TOP = Path(__file__).resolve().parents[2]
 sys.dont_write_bytecode = True
+# what ./plan keeps for a user goes with the tests
+STATE = tempfile.mkdtemp(prefix="state-")
+atexit.register(shutil.rmtree, STATE, ignore_errors=True)
+os.environ["XDG_STATE_HOME"] = STATE
 for folder in (TOP / "tools" / "reference", TOP / "python"):
     if str(folder) not in sys.path:
         sys.path.insert(0, str(folder))

@@ -1,10 +1,13 @@
 """The words of a subcommand: what `argparse` asks of them here, and what is told where they are wrong."""
 
 import argparse
+import difflib
+import itertools
 import os
 import re
+import shlex
 import sys
-from collections.abc import Sequence
+from collections.abc import Callable, Sequence
 from typing import NoReturn
 
 from opcplan.errors import WrongWords
@@ -28,18 +31,70 @@ class Parser(argparse.ArgumentParser):
     """A parser that raises WrongWords, in one line."""
 
     is_mixed = False  # whether options may stand between words that belong together
+    typed: Sequence[str] = ()  # the words that it was given
+    likely: Callable[[Sequence[str]], str] | None = None  # what words that aren't taken lack, or nothing
 
     def error(self, message: str) -> NoReturn:
-        raise WrongWords(f"{message}; {self.prog} --help says more")
+        told = self.unknown_option(message) or self.plan_behind() or self.likely and self.likely(self.typed) or message
+        raise WrongWords(f"{told}; {self.prog} --help says more")
+
+    def unknown_option(self, message: str) -> str:
+        """That the words have an option which isn't known, or nothing. What `argparse` misses it says first."""
+        if not message.startswith(("the following arguments are required", "unrecognized arguments")):
+            return ""
+        known = [one for one in self._option_string_actions if one.startswith("--")]
+        for word in itertools.takewhile(lambda word: word != "--", self.typed):
+            option = word.partition("=")[0]
+            if option.startswith("--") and not any(one.startswith(option) for one in known):
+                near = difflib.get_close_matches(option, known, 1)
+                return f"there is no option {option}{f' (is {near[0]} meant?)' if near else ''}"
+        return ""
+
+    def plan_behind(self) -> str:
+        """How the words go where the plan's file is not the first of them, but behind others; or nothing."""
+        if not any(action.dest == "plan" and not action.option_strings for action in self._actions):
+            return ""
+        given = self.words_in_place()
+        behind = next((word for word in given[1:] if is_database(word)), None)
+        if behind is None or os.path.exists(given[0]):
+            return ""
+        rest = list(self.typed)
+        rest.remove(behind)
+        return f"PLAN.db is the first word: {shlex.join([*self.prog.split(), behind, *rest])}"
+
+    def words_in_place(self) -> list[str]:
+        """The words that are neither options nor their values."""
+        found: list[str] = []
+        is_value = False
+        for word in self.typed:
+            action = self._option_string_actions.get(word)
+            if not is_value and action is None and not word.startswith("--"):
+                found.append(word)
+            is_value = action is not None and action.nargs != 0
+        return found
+
+    def parse_known_args(
+        self, args: Sequence[str] | None = None, namespace: argparse.Namespace | None = None
+    ) -> tuple[argparse.Namespace, list[str]]:
+        """Notes the words, so that what is wrong with them can be told."""
+        self.typed = self.typed or list(sys.argv[1:] if args is None else args)
+        return super().parse_known_args(args, namespace)
 
     def parse_args(  # type: ignore[override]  # argparse has overloads, of which these words are all
         self, args: Sequence[str] | None = None, namespace: argparse.Namespace | None = None
     ) -> argparse.Namespace:
         """The words; a day and a time that stand apart, as lists print them, are one moment."""
-        given = joined(sys.argv[1:] if args is None else args)
+        given = self.typed = joined(sys.argv[1:] if args is None else args)
         if self.is_mixed:
             return self.parse_intermixed_args(given, namespace)
         return super().parse_args(given, namespace)
+
+
+def is_database(path: str) -> bool:
+    """Whether a word names a file that is a database."""
+    from opcplan.plans import plan_file
+
+    return plan_file.is_database(path)
 
 
 def joined(given: Sequence[str]) -> list[str]:

@@ -8,7 +8,7 @@ from typing import Any, NamedTuple
 
 from opcplan.cli import words
 from opcplan.errors import Error
-from opcplan.plans import plan_definitions, plan_file
+from opcplan.plans import job_numbers, plan_definitions, plan_file
 from opcplan.plans.plan_file import Plan
 from opcplan.rules import definitions, moments
 from opcplan.rules.definitions import Application, Calendar, Period, RunCycle
@@ -61,8 +61,7 @@ def run(given: argparse.Namespace) -> int:
 def stream_of(plan: Plan, first_job: int | None = None) -> str:
     """The stream whose statements give the definitions of the plan."""
     if first_job is None:
-        (used,) = plan.db.execute("SELECT coalesce(max(number), 0) FROM job").fetchone()
-        first_job = used + 1
+        first_job = job_numbers.after_greatest(plan.db)
     text, number = ["* The definitions of a plan: run over an empty plan, this stream gives them again.\n"], first_job
     for kind, title, blocks in kinds_of(plan):
         text.append(f"\n* {title}\n")
@@ -70,7 +69,7 @@ def stream_of(plan: Plan, first_job: int | None = None) -> str:
             if number > GREATEST_JOB:
                 raise NoRoom(f"no job numbers are left after {GREATEST_JOB}; name a smaller one by --job")
             text.append(f"define {kind} --job {number}\n{block}/*\n")
-            number += 1
+            number = job_numbers.following(number)
     return "".join(text)
 
 

@@ -1,7 +1,10 @@
 """./plan edit: the job stream that makes one change of a plan's definitions."""
 
 import argparse
+import contextlib
+import functools
 import sys
+from collections.abc import Sequence
 from typing import Protocol
 
 from opcplan.cli import words
@@ -9,6 +12,7 @@ from opcplan.commands import (
     edit_application, edit_calendar, edit_change, edit_options, edit_period, edit_predecessor, edit_run_cycle,
     edit_words,
 )
+from opcplan.errors import Unreadable
 from opcplan.plans import plan_definitions, plan_file
 from opcplan.plans.plan_file import Plan
 from opcplan.rules.definitions import Definitions
@@ -28,6 +32,19 @@ class Kind(Protocol):
         """The change that is asked for. Raises Unmade."""
 
 
+# what somebody may call a change, by its first word without an s
+MEANT = {
+    "holiday": "calendar DEFAULT 2027-12-24 free` makes a day a holiday",
+    "day": "calendar DEFAULT 2027-12-24 free` makes a day free",
+    "app": "application NAME ..` changes an application",
+    "runcycle": "run-cycle APP NAME FIELD=VALUE ..` changes a run cycle",
+    "cycle": "run-cycle APP NAME FIELD=VALUE ..` changes a run cycle",
+    "deadline": "run-cycle APP NAME deadline=0/16.00` changes a deadline",
+    "dependency": "predecessor APP add P` lets APP wait for P",
+    "successor": "predecessor APP add P` lets APP wait for P",
+    "option": "options KEY=VALUE ..` changes an option",
+    "month": "period NAME months ..2027-12` lists more months",
+}
 KINDS: dict[str, Kind] = {
     "calendar": edit_calendar,
     "period": edit_period,
@@ -48,12 +65,34 @@ def add_words(parser: words.Parser) -> None:
         "is wrong; then nothing is printed."
     )
     words.add_plan(parser)
+    parser.likely = kind_meant
     kinds = parser.add_subparsers(metavar="WHAT", dest="what", required=True)
     for name, module in KINDS.items():
         about = f"{module.SUMMARY[0].upper()}{module.SUMMARY[1:]}."
         kind = kinds.add_parser(name, help=module.SUMMARY, description=about)
         module.add_words(kind)
+        kind.likely = functools.partial(name_lacked, parser, module)
         edit_words.add_job(kind)
+
+
+def kind_meant(typed: Sequence[str]) -> str:
+    """Which kind of change a word means that is none, or nothing."""
+    what = next(iter([word for word in typed if not word.startswith("-")][1:]), "").lower()
+    if what in KINDS:
+        return ""
+    other = MEANT.get(what.removesuffix("s"))
+    return f"there is no WHAT {what!r}: `./plan edit PLAN.db {other}" if other else ""
+
+
+def name_lacked(parser: words.Parser, module: Kind, typed: Sequence[str]) -> str:
+    """That a name is missing before what was typed, and which names the plan has; or nothing."""
+    plan = next(iter(parser.typed), "")
+    lacks = getattr(module, "name_lacked", None)
+    if lacks is None or not words.is_database(plan):
+        return ""
+    with contextlib.suppress(Unreadable), plan_file.opened(plan) as held:
+        return str(lacks(plan_definitions.of_plan(held), list(typed)))
+    return ""
 
 
 def run(given: argparse.Namespace) -> int:

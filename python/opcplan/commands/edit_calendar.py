@@ -35,6 +35,13 @@ def add_words(parser: Parser) -> None:
                         help="free, work, or unlist: what the weekday says counts then")
 
 
+def name_lacked(found: Definitions, typed: list[str]) -> str:
+    """That the calendar's name is missing before a day, and which calendars a plan has; or nothing."""
+    if not typed or not re.match("[0-9]", typed[0]):
+        return ""
+    return f"the calendar's name is missing before {typed[0]}: the plan has {few(found.calendars) or 'no calendar'}"
+
+
 def entries(text: str) -> list[Entry]:
     """What is meant by an entry: a weekday, a day, or several days."""
     weekday = edit_words.weekday(text.upper())
@@ -142,7 +149,9 @@ def users_told(found: Definitions, name: str, users: list[str]) -> list[str]:
     """Who goes by a calendar, in sentences."""
     is_default = name == found.default_calendar
     counted = ["`dp-extend --count W` counts by it at once."] if is_default else []
-    return [f"By {name} {'go' if len(users) > 1 else 'goes'} {few(users) or 'no application'}.", *counted]
+    if not users:
+        return [f"No application goes by {name}.", *counted]
+    return [f"By {name} {'go' if len(users) > 1 else 'goes'} {few(users)}.", *counted]
 
 
 def early_told(plan: Plan, changed: Wanted) -> list[str]:

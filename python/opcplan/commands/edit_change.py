@@ -4,8 +4,9 @@ import dataclasses
 from collections.abc import Callable, Mapping, Sequence
 from typing import Any
 
-from opcplan.commands import dump, next_job
+from opcplan.commands import dump
 from opcplan.errors import Error, Unreadable
+from opcplan.plans import job_numbers, printed_numbers
 from opcplan.plans.plan_file import Plan
 from opcplan.rules import blocks
 from opcplan.rules.moments import moment_text
@@ -35,7 +36,11 @@ class Change:
 def stream_of(plan: Plan, changes: Sequence[Change], first_job: int | None = None) -> tuple[str, int]:
     """The statements that make changes, and the job number of the last one."""
     found = [statement for change in changes for statement in statements_of(plan, change)]
-    numbers = job_numbers(plan, len(found), first_job)
+    if first_job is None:
+        text, least = "".join(map("".join, found)), job_numbers.after_greatest(plan.db)
+        numbers = printed_numbers.numbered(plan.path, text, least, lambda first: numbers_of(plan, len(found), first))
+    else:
+        numbers = numbers_of(plan, len(found), first_job)
     lines = [f"{statement} --job {number}\n{data}" for (statement, data), number in zip(found, numbers)]
     return "".join(lines), numbers[-1]
 
@@ -84,20 +89,29 @@ def options_text(options: Mapping[str, object]) -> str:
                    for key, value in options.items())
 
 
-def job_numbers(plan: Plan, count: int, first: int | None) -> list[int]:
-    """As many job numbers as are wanted, none of them kept, from a number on; by None from the next one."""
-    number = next_job.after_greatest(plan.db) if first is None else first
-    kept = next_job.kept_from(plan.db, number)
+def numbers_of(plan: Plan, count: int, first: int) -> list[int]:
+    """As many free job numbers as are wanted from one on; after it none that a desk gives."""
+    kept = job_numbers.kept_from(plan.db, first)
     found: list[int] = []
     if first in kept:
         raise Unmade(f"job {first} is kept already; name one that is free, or leave --job away", 2)
-    while len(found) < count and number <= next_job.GREATEST:
+    number = first
+    while len(found) < count and number <= job_numbers.GREATEST:
         if number not in kept:
             found.append(number)
-        number += 1
+        number = job_numbers.following(number)
     if len(found) < count:
         raise Unmade("no job numbers are left behind it; name a smaller one that is free by --job")
     return found
+
+
+def following_free(plan: Plan, job: int) -> int:
+    """The first number after a job's own that isn't kept."""
+    number = job_numbers.following(job)
+    kept = job_numbers.kept_from(plan.db, number)
+    while number in kept:
+        number = job_numbers.following(number)
+    return number
 
 
 def way_into(plan: Plan, changes: Sequence[Change], job: int) -> list[str]:
@@ -107,7 +121,7 @@ def way_into(plan: Plan, changes: Sequence[Change], job: int) -> list[str]:
     if not plan.is_created:
         return ["There is no long-term plan yet: `ltp-create` will go by it."]
     try:
-        number = str(job_numbers(plan, 1, job + 1)[0])
+        number = str(numbers_of(plan, 1, following_free(plan, job))[0])
     except Unmade:
         number = "N"
     ones = {change.one for change in changes}

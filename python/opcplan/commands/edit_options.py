@@ -35,8 +35,9 @@ def change(plan: Plan, found: Definitions, given: argparse.Namespace) -> Change:
     is_modified = name != found.default_calendar
     if is_modified:
         users = [app for app, application in found.applications.items() if application.calendar is None]
-        told.append(f"By the default calendar {'goes' if len(users) == 1 else 'go'} "
-                    f"{few(users) or 'no application'}; `dp-extend --count W` counts by it at once.")
+        going = f"By the default calendar {'goes' if len(users) == 1 else 'go'} {few(users)}" if users \
+            else "No application goes by the default calendar"
+        told.append(f"{going}; `dp-extend --count W` counts by it at once.")
     if after["max_extension_hours"] != before["max_extension_hours"]:
         told.append("`dp-extend` asks for max_extension_hours at once.")
     return Change("options", after, told, None, is_modified)

@@ -10,7 +10,7 @@ from opcplan.plans import stream_state
 from opcplan.plans.plan_file import Plan
 from opcplan.rules import lint_checks, loops
 from opcplan.rules.definitions import Definitions
-from opcplan.rules.naming_words import count_text, few
+from opcplan.rules.naming_words import count_text, few, meant_text
 
 Limits = dict[str, int | None]  # by predecessor: the hours of its limit, or None
 SUMMARY = "adds a predecessor to an application's list, with a limit or none, or removes one"
@@ -51,7 +51,7 @@ def added(found: Definitions, app: str, other: str, hours: int | None, before: L
     """The list with a further name or another limit, and what changes."""
     for name in (app, other):
         if name not in found.applications:
-            raise Unmade(f"there is no application {name}")
+            raise Unmade(f"there is no application {name}{meant_text(name, found.applications)}")
     if before.get(other, 0) == hours:
         raise Unmade(f"{app} waits for {other} already, {limit_text(hours)}: nothing would change")
     ring = loops.ring_of({**found.predecessors, app: {other: hours}}, app)
@@ -70,7 +70,7 @@ def removed(app: str, other: str, hours: int | None, before: Limits) -> tuple[Li
     if hours is not None:
         raise Unmade("hours are for add alone", 2)
     if other not in before:
-        raise Unmade(f"{app} doesn't wait for {other}: its list has "
+        raise Unmade(f"{app} doesn't wait for {other}{meant_text(other, before)}: its list has "
                      f"{few(before) or 'nothing'}")
     after = {name: within for name, within in before.items() if name != other}
     return after, [f"{app} waits no more for {other} ({limit_text(before[other])})."]

@@ -30,6 +30,17 @@ def add_words(parser: Parser) -> None:
                         "value is none")
 
 
+def name_lacked(found: Definitions, typed: list[str]) -> str:
+    """That the run cycle's name is missing before a field, and which ones an application has; or nothing."""
+    if len(typed) < 2 or "=" not in typed[1]:
+        return ""
+    app = typed[0].upper()
+    if app not in found.applications and app not in found.run_cycles:
+        return edit_words.lack("application", app, found.applications)
+    return f"the run cycle's name is missing before {typed[1]}: {app} has " \
+        f"{few(found.run_cycles.get(app, {})) or 'no run cycle'}"
+
+
 def change(plan: Plan, found: Definitions, given: argparse.Namespace) -> Change:
     """The change that is asked for."""
     cycles = found.run_cycles.get(given.app, {})

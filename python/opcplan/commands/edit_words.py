@@ -60,7 +60,9 @@ def add_job(parser: argparse.ArgumentParser) -> None:
 
 def lack(what: str, name: str, known: Iterable[str]) -> str:
     """That a plan has no such definition, and what it has."""
-    return f"there is no {what} {name}; the plan has {naming_words.few(known) or 'none'}"
+    known = list(known)
+    return f"there is no {what} {name}{naming_words.meant_text(name, known)}; the plan has " \
+        f"{naming_words.few(known) or 'none'}"
 
 
 def tell(sentences: Iterable[str]) -> None:

@@ -2,12 +2,14 @@
 
 import argparse
 import contextlib
+import os
 from collections.abc import Iterator
 
 from opcplan.cli import words
 from opcplan.plans import plan_file, stream_file, stream_state
 from opcplan.rules import explanations, stream
 
+MOST_LOOKED_AT = 100_000  # bytes of a file that may be another one than is said
 SUMMARY = "each refusal of a stream's output: its line, its statement, what it means"
 
 
@@ -39,6 +41,22 @@ def known_at_first(path: str | None) -> Iterator[stream_state.Known]:
         yield stream_state.of_plan(plan)
 
 
+def exchanged_text(given: argparse.Namespace) -> str:
+    """That stream and output may be exchanged, where the one looks like the other; else nothing."""
+    if is_answers(given.stream) and not is_answers(given.output):
+        return "; the output comes after the stream: are they exchanged?"
+    return ""
+
+
+def is_answers(path: str) -> bool:
+    """Whether one of the first lines of a file is a reply as opcplan prints it."""
+    if not os.path.isfile(path):
+        return False
+    with open(path, "rb") as file:
+        lines = file.read(MOST_LOOKED_AT).decode("latin-1").splitlines()
+    return any(map(explanations.REPLY.match, lines))
+
+
 def run(given: argparse.Namespace) -> int:
     """Does what the words ask for; the exit status."""
     try:
@@ -46,7 +64,10 @@ def run(given: argparse.Namespace) -> int:
             with stream_file.opened(given.output, explanations.OF_OUTPUT) as output:
                 lines, refused, answered = explanations.explained(stream.items(text), output, now)
     except explanations.Unlike as why:
-        raise explanations.Unlike(f"{given.output} is no output of {given.stream}: {why}") from None
+        raise explanations.Unlike(
+            f"{given.output} is no output of {given.stream}: {why}{exchanged_text(given)}") from None
+    if not answered and (told := exchanged_text(given)):
+        raise explanations.Unlike(f"{given.output} is no output of {given.stream}: it answers nothing{told}")
     count = f"{answered} statement{'' if answered == 1 else 's'}"
     were = "was" if refused == 1 else "were"
     print("\n".join([*lines, f"{refused} of {count} {were} refused." if refused else f"{count}, none refused."]))

@@ -5,7 +5,7 @@ import datetime
 import sys
 
 from opcplan.cli import words
-from opcplan.commands import edit_calendar, edit_change, edit_words, import_cron, import_csv, import_ics
+from opcplan.commands import edit_calendar, edit_change, edit_words, import_cron, import_csv, import_forms, import_ics
 from opcplan.commands.edit_calendar import Entry
 from opcplan.commands.edit_change import Unmade
 from opcplan.commands.imported import Changes
@@ -87,6 +87,9 @@ def taken(plan: Plan, found: Definitions, given: argparse.Namespace) -> Changes:
     """The changes, what is told of them, and what is left out, in sentences."""
     path = given.ics or given.csv or given.cron
     data = bytes_of(path)
+    form = "ics" if given.ics else "csv" if given.csv else "cron"
+    if other := import_forms.other_form(data, form):
+        raise Unmade(f"{path}: {other}", 2)
     if given.cron:
         return import_cron.changes(found, data, path, given.calendar, given.system, *window(plan, given))
     if given.csv:

@@ -14,6 +14,7 @@ from opcplan.rules.moments import EPOCH, day_text, minute_text
 from opcplan.rules.naming_words import count_text, few
 
 MOST_TIMES = 24  # of one line on a day
+MOST_LEFT = 5  # lines that are told where none fits
 EVERY_DAY, EVERY_MONTH, EVERY_WEEKDAY = set(range(1, 32)), set(range(1, 13)), set(range(7))
 LONGEST_MONTHS = dict(enumerate((31, 29, 31, 30, 31, 30, 31, 31, 30, 31, 30, 31), 1))
 MONTHS = [name.upper() for name in crontab.MONTHS]
@@ -44,7 +45,8 @@ def changes(
         except Unfit as why:
             left.append(f"line {number} is left out: {why}: {line[:60]}")
     if not told:
-        raise Unmade(" ".join([f"{path}: it has no line that fits.", *left]))
+        more = [f"and {len(left) - MOST_LEFT:,} more lines"] if len(left) > MOST_LEFT else []
+        raise Unmade(" ".join([f"{path}: it has no line that fits.", *left[:MOST_LEFT], *more]))
     names = few(f"{name} of type {period.kind}" for name, period in made.periods.items())
     told += [
         f"{count_text(len(made.applications), 'application')}; periods made: {names or 'none'}; months are "

@@ -9,6 +9,7 @@ import sys
 from typing import Any, NamedTuple, Optional
 
 from opcplan.cli import interpreter
+from opcplan.commands import import_forms
 from opcplan.commands.edit_change import Unmade
 from opcplan.commands.ics_times import MIDNIGHT, Clock, Unfit, date_of
 from opcplan.commands.imported import Days
@@ -112,6 +113,8 @@ def events_of(data: bytes, path: str) -> list[Event]:
         calendars = icalendar.Calendar.from_ical(data.removeprefix(b"\xef\xbb\xbf"), multiple=True)
     except (ValueError, LookupError, TypeError, AttributeError, ArithmeticError) as error:
         why = str(error).partition("\n")[0][:100]
+        if not import_forms.is_ics(data.decode("utf-8-sig", "replace")):
+            raise Unmade(f"{path}: it is no iCalendar file: such a file begins with BEGIN:VCALENDAR", 2) from None
         raise Unmade(f"{path}: it can't be read as iCalendar: {why}", 2) from None
     if not calendars:
         raise Unmade(f"{path}: it holds no calendar, or ends in the midst of one", 2)

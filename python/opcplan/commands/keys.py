@@ -9,7 +9,7 @@ from opcplan.cli import words
 from opcplan.plans import waits
 from opcplan.plans.plan_file import Plan
 from opcplan.plans.waits import Row
-from opcplan.rules import moments
+from opcplan.rules import hints, moments
 
 HELP = "APP D/HH.MM or APP D HH.MM, or its serial: 123, or '#123' in quotes, since a shell takes # for a remark"
 
@@ -78,7 +78,8 @@ def key_of_day(given: list[str]) -> Key:
     """The key that words spell; where they name a day alone, its first minute is the arrival."""
 
     def moment(text: str) -> int:
-        return words.moment(text) if "." in text or ":" in text else words.day(text) * moments.DAY
+        is_day = hints.turned_day(text) != text or not re.search("[.:]", text)
+        return words.day(text) * moments.DAY if is_day else words.moment(text)
 
     return serial_key(given) or app_key(given, moment)
 

@@ -86,6 +86,8 @@ def statuses(text: str) -> set[str]:
     for word in text.lower().replace("-", " ").split(","):
         if word in STATUSES:
             found.add(STATUSES[word])
+        elif word == "error":
+            found.add("E")
         elif re.fullmatch("[wsecd]+", word):
             found |= set(word.upper())
         else:

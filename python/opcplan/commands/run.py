@@ -67,7 +67,8 @@ def ask_file(path: str, is_new: bool) -> None:
     if not is_new and not os.path.lexists(path):
         folder, name = os.path.split(os.path.abspath(path))
         others = os.listdir(folder) if os.path.isdir(folder) else []
-        near = difflib.get_close_matches(name, others, 1)
+        plans = [other for other in others if plan_file.is_database(os.path.join(folder, other))]
+        near = difflib.get_close_matches(name, plans, 1)
         meant = f" (is {os.path.join(os.path.dirname(path), near[0])} meant?)" if near else ""
         raise Unreadable(f"{path}: there is no such file{meant}; --new makes a new plan there")
 

@@ -20,10 +20,10 @@ from collections.abc import Callable, Iterator
 from typing import NamedTuple
 
 from opcplan.cli import words
-from opcplan.commands import keys, next_job, rows
+from opcplan.commands import keys, rows
 from opcplan.desk import client
 from opcplan.errors import Error, Unreadable, Unwritable, WrongWords
-from opcplan.plans import entry, locks, plan_definitions, plan_file, stream_file, stream_state
+from opcplan.plans import entry, job_numbers, locks, plan_definitions, plan_file, stream_file, stream_state
 from opcplan.plans.program import built_program
 from opcplan.rules import explanations, moments, printable, statement_words, statements, stream
 from opcplan.rules.naming_words import meant_text
@@ -286,8 +286,8 @@ def ask_application(plan: plan_file.Plan, line: str) -> None:
 
 def next_number(path: str, plan: plan_file.Plan) -> int:
     """The next job number of a plan. Raises Unreadable."""
-    number = next_job.after_greatest(plan.db)
-    if number > next_job.GREATEST:
+    number = job_numbers.after_greatest(plan.db)
+    if number > job_numbers.GREATEST:
         raise Unreadable(f"{path}: the greatest job number is used; name a lesser one by --job")
     return number
 

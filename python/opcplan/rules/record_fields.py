@@ -112,7 +112,8 @@ def take_calendar(found: dict[str, Any], texts: Texts, seen: Seen) -> Key:
         kind, day = "date", texts.day("entry")
     else:
         known = ", ".join(WEEKDAYS)
-        wrong = f"it has to be {known} or a day YYYY-MM-DD" + hint(entry, lambda other: other in WEEKDAYS)
+        wrong = f"it has to be {known} or a day YYYY-MM-DD"
+        wrong += hint(entry, lambda other: other in WEEKDAYS or moments.day_of(other) is not None)
         raise Wrong("entry", wrong)
     status = texts.one_of("status", ("WORK", "FREE"))
     again(f"{entry} of {calendar}", seen, (calendar, kind, day))

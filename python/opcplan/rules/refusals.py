@@ -1,7 +1,7 @@
 """What a refusal means, in words, at its place in a stream (docs/rules/STATEMENTS.md, docs/rules/PLANS.md)."""
 
 import re
-from collections.abc import Callable
+from collections.abc import Callable, Mapping
 
 from opcplan.rules import blocks, definitions, hints, loops, moments, statement_words, statements, statuses, stream
 from opcplan.rules.known import Known
@@ -87,7 +87,9 @@ def other_text(item: Item, detail: str, known: Known) -> list[str]:
 
 
 def not_defined(item: Item, detail: str, known: Known) -> list[str]:
-    return [f"of {item.asked.alone} the name {item.asked.values['name']} isn't defined"]
+    name = item.asked.values["name"]
+    known_names: Mapping[str, object] = getattr(known.defined, item.asked.kind.replace("-", "_"))
+    return [f"of {item.asked.alone} the name {name} isn't defined{meant_text(name, known_names)}"]
 
 
 def no_plan(item: Item, detail: str, known: Known) -> list[str]:
@@ -103,15 +105,17 @@ def calendar_undefined(item: Item, detail: str, known: Known) -> list[str]:
     app = known.defined.applications.get(detail)
     if app and app.calendar and app.calendar not in known.defined.calendars:
         where = known.where("applications", detail)
-        return [f"the application {detail} names the calendar {app.calendar} ({where}), which isn't defined"]
+        meant = meant_text(app.calendar, known.defined.calendars)
+        return [f"the application {detail} names the calendar {app.calendar} ({where}), which isn't defined{meant}"]
     return [f"the application {detail} names a calendar that isn't defined"]
 
 
 def period_undefined(item: Item, detail: str, known: Known) -> list[str]:
-    found = []
+    found, defined = [], known.defined.periods
     for name, cycle in sorted(known.defined.run_cycles.get(detail, {}).items()):
-        if cycle.period not in known.defined.periods:
-            found.append(f"{name} names the period {cycle.period} ({known.where('run-cycles', detail, name)})")
+        if cycle.period not in defined:
+            where = known.where("run-cycles", detail, name)
+            found.append(f"{name} names the period {cycle.period} ({where}){meant_text(cycle.period, defined)}")
     which = ": " + ", ".join(found[:5]) if found else ""
     return [f"a run cycle of the application {detail} names a period that isn't defined{which}"]
 
