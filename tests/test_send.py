@@ -3,6 +3,7 @@ file."""
 
 import hashlib
 import os
+import pwd
 import sqlite3
 import subprocess
 import tempfile
@@ -335,13 +336,14 @@ class ToADesk(desks.Case):
         self.end(desk)
 
     def test_an_answer_that_breaks_off_is_asked_again(self):
-        """A stand-in for a desk that is killed: the first answer is cut, the second whole, under one key."""
+        """A stand-in for a desk that is killed: it knows the application, its first answer to the statement is cut, and
+        the second whole, under one key."""
         seen = []
         listener = desks.socket.create_server(("127.0.0.1", 0))
         self.addCleanup(listener.close)
 
         def answer():
-            for body in (b"14\r\nok serial 2 ", b"15\r\nok serial 2 status S\n\r\n0\r\n\r\n"):
+            for body in (b"a\r\nok rows 0\n\r\n0\r\n\r\n", b"14\r\nok serial 2 ", b"15\r\nok serial 2 status S\n\r\n0\r\n\r\n"):
                 one, _ = listener.accept()
                 with one, one.makefile("rb") as lines:
                     heads = list(iter(lines.readline, b"\r\n"))
@@ -355,8 +357,58 @@ class ToADesk(desks.Case):
         ran = self.send("--desk", where, "--wait", "30", "start", "REPORT", "2024-01-01/20.00")
         desk.join(30)
         self.assertEqual((ran.returncode, ran.stdout, ran.stderr), (0, "ok serial 2 status S\n", ""))
-        self.assertEqual(len(seen), 2)
-        self.assertTrue(seen[0] and seen[0] == seen[1], seen)
+        self.assertEqual(len(seen), 3)
+        self.assertTrue(seen[1] and seen[1] == seen[2] != seen[0], seen)
+
+    def test_an_application_that_a_desk_lacks_takes_no_number(self):
+        desk = self.desk()
+        where = ["--desk", desk.socket]
+        ran = self.send(*where, "start", "REPROT", "2024-01-01/20.00")
+        self.assertEqual((ran.returncode, ran.stdout), (2, ""))
+        self.assertIn("the application REPROT isn't defined, or is pending (is REPORT meant?); nothing was sent", ran.stderr)
+        ran = self.send(*where, "start", "REPORT", "2024-01-01/20.00")
+        self.assertEqual(ran.stdout, "ok serial 2 status S\n")
+        self.end(desk)
+        self.assertEqual([number for number, _ in self.kept()], [500_000_001])
+
+    def kept(self):
+        """The jobs that a desk numbered: number and text."""
+        with closing(sqlite3.connect(self.plan)) as db:
+            asked = "SELECT number, CAST(body AS TEXT) FROM job WHERE number > 500000000 ORDER BY number"
+            return db.execute(asked).fetchall()
+
+    def test_a_serial_is_taken_by_a_desk(self):
+        desk = self.desk()
+        for words, status, answer in ((["start", "2"], 0, "ok serial 2 status S\n"), (["fail", "2"], 0, "ok serial 2 status E\n"),
+                                      (["start", "99999"], 2, "")):
+            ran = self.send("--desk", desk.socket, *words)
+            self.assertEqual((ran.returncode, ran.stdout), (status, answer), ran.stderr)
+        self.assertIn("has the serial 99999; nothing was sent", ran.stderr)
+        self.end(desk)
+        self.assertEqual([text for _, text in self.kept()],
+                         [f"cp-{word} --app REPORT --ia 2024-01-01/20.00 --job {500_000_000 + number}"
+                          for number, word in enumerate(("start", "fail"), 1)])
+
+    def test_what_a_desk_refuses_is_told_as_its_plan_is(self):
+        """A status since when and by whom, by the journal; and where an occurrence is instead."""
+        desk = self.desk()
+        where = ["--desk", desk.socket]
+        self.send(*where, "start", "REPORT", "2024-01-01/20.00")
+        ran = self.send(*where, "start", "REPORT", "2024-01-01/20.00")
+        who = pwd.getpwuid(os.geteuid()).pw_name
+        self.assertIn("it has the status S (started)\n", ran.stderr)
+        self.assertRegex(ran.stderr, rf"    it is so since [0-9]{{4}}-[0-9]{{2}}-[0-9]{{2}} [0-9.]{{8}}, by {who} "
+                                     r"\(`cp-start`, job 500000001\)\n$")
+        ran = self.send(*where, "start", "REPORT", "2024-01-01/21.00")
+        self.assertIn("on that day REPORT arrives at 20.00 (is started, in the current plan)", ran.stderr)
+        ran = self.send(*where, "delete", "REPORT", "2024-01-20/20.00")
+        self.assertIn("it stands in the long-term plan: `ltp-delete` deletes it there", ran.stderr)
+        self.end(desk)
+        ran = self.send("--db", self.plan, "--program", plans.PROGRAM, "start", "REPORT", "2024-01-01/20.00")
+        self.assertIn(f", by {who} (`cp-start`, job 500000001)\n", ran.stderr)
+        os.remove(f"{self.plan}.journal")
+        ran = self.send("--db", self.plan, "--program", plans.PROGRAM, "start", "REPORT", "2024-01-01/20.00")
+        self.assertIn("    it is so by `cp-start`, job 500000001\n", ran.stderr)
 
 
 if __name__ == "__main__":

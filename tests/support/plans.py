@@ -125,6 +125,16 @@ def plan(*words, text=None, **how):
     return subprocess.run(given, input=text, capture_output=True, encoding="utf-8", check=False, timeout=300, **how)
 
 
+def plan_in_here(*words):
+    """What ./plan answers to its words, as `plan` does, run in this process."""
+    from opcplan import __main__ as program
+
+    out, told = io.StringIO(), io.StringIO()
+    with contextlib.redirect_stdout(out), contextlib.redirect_stderr(told):
+        status = program.status_of([str(word) for word in words])
+    return subprocess.CompletedProcess(words, status, out.getvalue(), told.getvalue())
+
+
 def plan_here(module, *words):
     """What a subcommand's module answers, as `plan` does, run in this process."""
     name, out, told = module.__name__.rpartition(".")[2], io.StringIO(), io.StringIO()

@@ -4,7 +4,7 @@ import argparse
 
 from opcplan.cli import words
 from opcplan.errors import Error
-from opcplan.plans import job_numbers, plan_file
+from opcplan.plans import job_numbers, plan_file, printed_numbers
 from opcplan.plans.job_numbers import GREATEST
 
 SUMMARY = "the greatest job number that is used, and one more"
@@ -14,7 +14,8 @@ def add_words(parser: words.Parser) -> None:
     """Adds its words to a parser."""
     parser.description = (
         "Prints the greatest job number that PLAN.db keeps, and the next one; those that a desk gave itself are passed "
-        "over. The exit status is 1 where no greater number is left."
+        "over, and so are those of streams that `edit` or `import` printed and nobody ran yet. The exit status is 1 where "
+        "no greater number is left."
     )
     words.add_plan(parser)
     parser.add_argument("--short", action="store_true", help="the next number alone, for a script")
@@ -24,7 +25,7 @@ def run(given: argparse.Namespace) -> int:
     """Does what the words ask for; the exit status."""
     with plan_file.opened(given.plan) as plan:
         greatest, of_desk = job_numbers.greatest(plan.db), job_numbers.of_desk(plan.db)
-    number = job_numbers.following(greatest)
+    number = printed_numbers.behind(given.plan, job_numbers.following(greatest))
     if not given.short:
         print(f"greatest used: {greatest or 'none'}" + (", a desk's own numbers aside" if of_desk else ""))
     if number > GREATEST:

@@ -20,10 +20,11 @@ from collections.abc import Callable, Iterator
 from typing import NamedTuple
 
 from opcplan.cli import words
-from opcplan.commands import keys, rows
+from opcplan.commands import desk_view, keys, rows
 from opcplan.desk import client
 from opcplan.errors import Error, Unreadable, Unwritable, WrongWords
-from opcplan.plans import entry, job_numbers, locks, plan_definitions, plan_file, stream_file, stream_state
+from opcplan.plans import entry, job_numbers, journal, locks, plan_definitions, plan_file, printed_numbers
+from opcplan.plans import stream_file, stream_state, waits
 from opcplan.plans.program import built_program
 from opcplan.rules import explanations, moments, printable, statement_words, statements, stream
 from opcplan.rules.naming_words import meant_text
@@ -60,7 +61,7 @@ def add_words(parser: words.Parser) -> None:
         "Sends the job stream on standard input to a desk, or runs it over PLAN.db where no desk has that; or one "
         "statement in words: `start APP D/HH.MM`, and so "
         f"{', '.join(SHORT[1:])}, each as the statement cp-..; or any statement but define as "
-        "docs/rules/STATEMENTS.md has it. With --db a serial may stand for APP D/HH.MM. A statement in words without a "
+        "docs/rules/STATEMENTS.md has it. A serial may stand for APP D/HH.MM. A statement in words without a "
         "job number gets the next one, which is told; "
         "a desk gives numbers to all that lack one. While the desk is away, or another program has PLAN.db, it is "
         "tried again; no statement is "
@@ -109,11 +110,11 @@ def run(given: argparse.Namespace) -> int:
     if given.db is None and given.desk is None:
         raise WrongWords("one of --desk and --db is wanted; ./plan send --help says more")
     try:
-        line = line_of(with_key(given.db, parts(given.words))) if given.words else None
         desk = client.Client(given.desk, client.token()) if given.db is None else None
+        line = line_of(with_key(given.db, desk, parts(given.words))) if given.words else None
     except WrongWords as why:
         raise WrongWords(f"{why}; nothing was sent") from None
-    except Unreadable as why:
+    except (Unreadable, client.Away, client.Refused) as why:
         raise Unsent(f"{why}; nothing was sent") from None
     except OSError as error:
         raise Unsent(f"{error.filename}: the token can't be read: {error.strerror}; nothing was sent") from None
@@ -159,11 +160,16 @@ def text_sent() -> bytes:
 def run_by_desk(given: argparse.Namespace, desk: client.Client, line: Line | None, until: float) -> int:
     """Has a desk answer, and prints that; the exit status."""
     used = given.key or secrets.token_hex(16)
+    view = desk_view.View(desk)
     try:
+        if line is not None:
+            ask_of_desk(view, line)
         text = text_sent() if line is None else f"{line.text}\n".encode("ascii")
         answer = desk.statements(text, used, until)
     except Unreadable as why:
         raise Unsent(str(why)) from None
+    except Refused as why:
+        raise Refused(f"{why}; nothing was sent") from None
     except client.Refused as why:
         raise Unsent(f"{desk.name}: {why}") from None
     except client.Away as why:
@@ -171,7 +177,37 @@ def run_by_desk(given: argparse.Namespace, desk: client.Client, line: Line | Non
         if "may be done all the same" not in str(why):
             told = f"it may be done all the same: {told}"
         raise Unsent(f"{why}; {told if why.may_be_done else 'nothing was sent'}") from None
-    return shown(text, subprocess.CompletedProcess([], 4 if has_refusals(answer) else 0, answer, b""), used)
+    ran = subprocess.CompletedProcess([], 4 if has_refusals(answer) else 0, answer, b"")
+    return shown(text, ran, used, None if line is None else told_by_desk(view, text, answer))
+
+
+def ask_of_desk(view: desk_view.View, line: Line) -> None:
+    """Asks that a statement names an application that a desk's plan has, where the desk can be asked now. Raises
+    Refused."""
+    statement = statement_of(line)
+    if statement is None or not statements.KINDS[statement.name].is_on_key:
+        return
+    with contextlib.suppress(client.Away, client.Refused):
+        if lack := view.lack_of(statement.values["app"]):
+            raise Refused(lack)
+
+
+def told_by_desk(view: desk_view.View, text: bytes, answer: bytes) -> list[str] | None:
+    """What the refusal of one statement means by what a desk's plan has now; None where it isn't asked about that."""
+    (item,) = items_of(stream.Source(io.BytesIO(text), "what was sent"))
+    asked = item.statement
+    if asked is None or not statements.KINDS[asked.name].is_on_key or not has_refusals(answer):
+        return None
+    with contextlib.suppress(client.Away, client.Refused):
+        told = refusal_lines(text, answer, items_of, view.known(asked))
+        done = view.since(asked) if answer == b"refused 29\n" else None
+        return [*told, f"    {done.text()}"] if done else told
+    return None
+
+
+def statement_of(line: Line) -> statement_words.Statement | None:
+    """The statement of a line, also where that lacks its job number."""
+    return statement_words.read([*line.text.split(" "), *(["--job", "1"] if line.lacks_job else [])])[0]
 
 
 def items_of(source: stream.Source) -> Iterator[stream.Item]:
@@ -194,19 +230,34 @@ def parts(given: list[str]) -> list[str]:
     return words.joined([word for word in given[0].split(" ") if word]) or given
 
 
-def with_key(path: str | None, given: list[str]) -> list[str]:
-    """The words of a statement, in which the serial of `start 11` is replaced by what has it in a plan. Raises Refused
-    and Unreadable."""
-    if path is None or given[0] not in statements.ACTS or not re.fullmatch("[1-9][0-9]{0,8}", "".join(given[1:2])):
+def with_key(path: str | None, desk: client.Client | None, given: list[str]) -> list[str]:
+    """The words of a statement, in which the serial of `start 11` is replaced by what has it in a plan, of a file or of
+    a desk. Raises Refused, Unreadable, Away and client.Refused."""
+    if given[0] not in statements.ACTS or not re.fullmatch("[1-9][0-9]{0,8}", "".join(given[1:2])):
         return given
     if len(given) > 2 and not given[2].startswith("-"):
         return given
+    app, ia = key_in_file(path, int(given[1])) if path is not None or desk is None else key_at_desk(desk, int(given[1]))
+    return [given[0], app, ia, *given[2:]]
+
+
+def key_in_file(path: str | None, serial: int) -> tuple[str, str]:
+    """Application and input arrival of a serial in the plan of a file. Raises Refused and Unreadable."""
+    assert path is not None, "a statement goes to a file or to a desk"
     check_file(path)
     with plan_file.opened(path) as plan:
-        found = keys.rows_of(plan, keys.Key(int(given[1]), None, None))
+        found = keys.rows_of(plan, keys.Key(serial, None, None))
         if found is None:
-            raise Refused(keys.unknown_text(plan, int(given[1])).removesuffix("."))
-    return [given[0], found.app, moments.moment_word(found.ia), *given[2:]]
+            raise Refused(keys.unknown_text(plan, serial).removesuffix("."))
+    return found.app, moments.moment_word(found.ia)
+
+
+def key_at_desk(desk: client.Client, serial: int) -> tuple[str, str]:
+    """Application and input arrival of a serial in the plan of a desk. Raises Refused, Away and client.Refused."""
+    found = desk_view.View(desk).key_of(serial)
+    if found is None:
+        raise Refused(f"neither the current plan nor the long-term plan of {desk.name} has the serial {serial}")
+    return found
 
 
 def line_of(given: list[str]) -> Line:
@@ -241,7 +292,7 @@ def in_full(given: list[str]) -> list[str]:
     if name not in SHORT:
         return given
     if len(rest) < 2 or rest[0].startswith("-") or rest[1].startswith("-"):
-        serial = "; a serial is taken with --db" if rest and rest[0].isdecimal() else ""
+        serial = f", or a serial, as `{name} 11`" if name in statements.ACTS else ""
         raise Refused(f"`{name}` takes an application and its input arrival, as `{name} PAY 2024-01-31/08.00`{serial}")
     app, ia, *others = rest
     return [f"cp-{name}", "--app", app.upper(), "--ia", ia, *others]
@@ -264,12 +315,34 @@ def sent_in_turn(program: str, path: str, line: Line, until: float) -> tuple[byt
                     words.tell(f"sends `{whole}`")
                     text = f"{whole}\n".encode("ascii")
                     ran = sent(program, path, text, until)
-                    told = refusal_lines(text, ran.stdout, stream.items, plan)
+                    told = told_by_plan(plan, text, ran.stdout)
                 if ran.stdout != b"refused 12\n":  # no stream took the number meanwhile
                     break
         return text, ran, told
     finally:
         os.close(number)
+
+
+def told_by_plan(plan: plan_file.Plan, text: bytes, answered: bytes) -> list[str]:
+    """What the refusal of one statement means, over a plan as it was before."""
+    told = refusal_lines(text, answered, stream.items, stream_state.of_plan(plan))
+    (item,) = stream.items(stream.Source(io.BytesIO(text), "what was sent"))
+    if answered != b"refused 29\n" or item.statement is None:
+        return told
+    done = last_job(plan, item.statement)
+    return [*told, f"    {done.text()}"] if done else told
+
+
+def last_job(plan: plan_file.Plan, statement: statement_words.Statement) -> desk_view.Done | None:
+    """The job that gave an occurrence its status, by the journal of a desk where there is one, else by the replies that
+    the plan keeps."""
+    with contextlib.suppress(Unreadable), journal.opened(journal.beside(plan.path)) as record:
+        if found := desk_view.last_change((one.values() for one in record.every()), statement):
+            return found
+    app, ia = statement.values["app"], statement.values["ia"]
+    place = next((row.place for row in waits.rows_of_key(plan, app, ia)), "")
+    jobs = [job for job in waits.jobs_of_key(plan, app, ia) if job.reply.endswith(f" status {place}")]
+    return desk_view.Done(jobs[-1].name, jobs[-1].number) if jobs else None
 
 
 def ask_application(plan: plan_file.Plan, line: str) -> None:
@@ -286,7 +359,7 @@ def ask_application(plan: plan_file.Plan, line: str) -> None:
 
 def next_number(path: str, plan: plan_file.Plan) -> int:
     """The next job number of a plan. Raises Unreadable."""
-    number = job_numbers.after_greatest(plan.db)
+    number = printed_numbers.behind(path, job_numbers.after_greatest(plan.db))
     if number > job_numbers.GREATEST:
         raise Unreadable(f"{path}: the greatest job number is used; name a lesser one by --job")
     return number
@@ -335,17 +408,16 @@ def has_refusals(answered: bytes) -> bool:
 
 def refusal_lines(
     text: bytes, answered: bytes, items: Callable[[stream.Source], Iterator[stream.Item]],
-    plan: plan_file.Plan | None = None,
+    now: stream_state.Known | None = None,
 ) -> list[str]:
     """What the refusals in an output mean, fit for a terminal, or nothing where it has none; `items` reads what
-    was sent, over a plan as it was before where that is at hand."""
+    was sent, and `now` is what was known before it, where something was."""
     if not has_refusals(answered):
         return []
     asked, answers = (stream.Source(io.BytesIO(data), "what was sent", explanations.OF_OUTPUT)
                       for data in (text, answered))
     try:
-        now = stream_state.Known() if plan is None else stream_state.of_plan(plan)
-        lines, _, _ = explanations.explained(items(asked), answers, now)
+        lines, _, _ = explanations.explained(items(asked), answers, now or stream_state.Known())
     except explanations.Unlike as why:
         return [printable.fit(f"plan: the planner doesn't answer as opcplan does: {why}")]
     return ["\n".join(lines).rstrip("\n")]

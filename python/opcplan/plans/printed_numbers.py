@@ -49,6 +49,15 @@ def numbered(path: str, text: str, least: int, numbers_from: Callable[[int], lis
     return found or numbers_from(least)
 
 
+def behind(path: str, least: int) -> int:
+    """The least number, or the one behind those of all streams that were printed for the plan of a file and not run
+    yet."""
+    with contextlib.suppress(OSError, ValueError, TypeError, Untrusted), opened() as held:
+        lasts = [one.last for one in read(held).get(os.path.realpath(path), []) if abs(time.time() - one.at) < LONGEST]
+        return max([least, *(last + 1 for last in lasts)])
+    return least
+
+
 @contextlib.contextmanager
 def opened() -> Iterator[int]:
     """A context in which this process alone has the file open. Raises OSError and Untrusted."""
