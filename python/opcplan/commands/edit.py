@@ -99,8 +99,9 @@ def run(given: argparse.Namespace) -> int:
     """Does what the words ask for; the exit status."""
     with plan_file.opened(given.plan) as plan:
         change = KINDS[given.what].change(plan, plan_definitions.of_plan(plan), given)
-        text, job = edit_change.stream_of(plan, [change], given.job)
-        told = [*change.told, *edit_change.way_into(plan, [change], job)]
+        changes = [change, *change.also]
+        text, job = edit_change.stream_of(plan, changes, given.job)
+        told = [*(sentence for one in changes for sentence in one.told), *edit_change.way_into(plan, changes, job)]
     edit_words.tell(told)
     sys.stdout.write(text)
     return 0

@@ -1,41 +1,57 @@
 """./plan edit PLAN.db application: whether an application is active, and its calendar."""
 
 import argparse
+import dataclasses
+from typing import Any
 
 from opcplan.cli.words import Parser
-from opcplan.commands import edit_words
+from opcplan.commands import edit_run_cycle, edit_words
 from opcplan.commands.edit_change import Change, Unmade
 from opcplan.plans.plan_file import Plan
 from opcplan.rules.definitions import Application, Definitions
-from opcplan.rules.naming_words import count_text, few
+from opcplan.rules.naming_words import count_text, few, meant_text
 
-SUMMARY = "makes an application active or pending, or gives it another calendar"
+SUMMARY = "makes an application active or pending, gives it another calendar, or makes a new one"
 
 
 def add_words(parser: Parser) -> None:
     """Adds its words to a parser."""
     parser.add_argument("name", metavar="NAME", type=edit_words.name, help="the application")
     parser.add_argument("changes", metavar="CHANGE", type=change_of, nargs="+",
-                        help="active, pending, calendar=NAME, or calendar= for the default one")
+                        help="active, pending, calendar=NAME, or calendar= for the default one; new, for one that isn't "
+                        "there yet, and then also period=, ia=, deadline=, rule=, offsets= and other fields of its run "
+                        "cycle, whose name cycle=NAME gives (else that of its period)")
 
 
 def change_of(text: str) -> tuple[str, bool | str | None]:
     """A change: its field and what it is then."""
     if text.lower() in ("active", "pending"):
         return "status", text.lower() == "active"
+    if text.lower() == "new":
+        return "new", True
     key, equals, value = text.partition("=")
-    if key != "calendar" or not equals:
-        raise argparse.ArgumentTypeError(f"{text!r} is none of active, pending and calendar=NAME")
-    return "calendar", edit_words.name(value) if value else None
+    if key.lower() == "calendar" and equals:
+        return "calendar", edit_words.name(value) if value else None
+    if key.lower() == "cycle" and equals:
+        return "cycle", edit_words.short_name(value)
+    if not equals or not edit_run_cycle.is_field(key):
+        raise argparse.ArgumentTypeError(f"{text!r} is none of active, pending, new and calendar=NAME")
+    return key.lower(), value
 
 
 def change(plan: Plan, found: Definitions, given: argparse.Namespace) -> Change:
     """The change that is asked for."""
     app, wanted = given.name, dict(given.changes)
-    if app not in found.applications:
-        raise Unmade(f"there is no application {app}")
     if len(wanted) < len(given.changes):
         raise Unmade("one thing is given twice", 2)
+    if wanted.pop("new", False):
+        return new_application(plan, found, app, wanted)
+    if app not in found.applications:
+        raise Unmade(f"there is no application {app}{meant_text(app, found.applications)}; `./plan edit PLAN.db "
+                     f"application {app} new period=DAY ia=20.00 deadline=0/23.00` makes one")
+    if fields := wanted.keys() - {"status", "calendar"}:
+        raise Unmade(f"{app} is there already: `./plan edit PLAN.db run-cycle {app} NAME {min(fields)}=..` changes a run "
+                     "cycle of it", 2)
     before = found.applications[app]
     after = Application(wanted.get("status", before.is_active), wanted.get("calendar", before.calendar))
     if after == before:
@@ -47,6 +63,26 @@ def change(plan: Plan, found: Definitions, given: argparse.Namespace) -> Change:
     told = [*differences(found, app, before, after), *others_told(plan, found, app, before, after)]
     is_modified = before.is_active or after.is_active
     return Change("applications", {app: after}, told, app if after.is_active else None, is_modified)
+
+
+def new_application(plan: Plan, found: Definitions, app: str, wanted: dict[str, Any]) -> Change:
+    """The change that makes an application, with a run cycle where fields of one are given."""
+    if app in found.applications:
+        raise Unmade(f"{app} is there already; without `new` it changes")
+    after = Application(wanted.pop("status", True), wanted.pop("calendar", None))
+    if after.calendar is not None and after.calendar not in found.calendars:
+        raise Unmade(edit_words.lack("calendar", after.calendar, found.calendars))
+    then = dataclasses.replace(found, applications={**found.applications, app: after})
+    made = Change("applications", {app: after}, [f"{app} is new: {status_text(after)}, {calendar_text(found, after)}."], app,
+                  after.is_active)
+    cycle = wanted.pop("cycle", None)
+    if wanted or cycle:
+        name = cycle or edit_words.short_name(wanted.get("period") or "DAY")
+        made.also.append(edit_run_cycle.new_cycle(plan, then, app, name, wanted.items(), True))
+    elif not found.run_cycles.get(app):
+        made.told.append("It has no run cycles, so no day is named: `run-cycle` gives it one.")
+    ask_plannable(then, app, after)
+    return made
 
 
 def ask_plannable(found: Definitions, app: str, after: Application) -> None:

@@ -23,14 +23,15 @@ class Unmade(Error):
 @dataclasses.dataclass
 class Change:
     """What is defined then of one kind, by name as in definitions.py (None where it is taken away), and what is told:
-    sentences on what changes and what doesn't. `one` is the application that alone is meant, and `is_modified` whether
-    a modification of the long-term plan takes the change into it."""
+    sentences on what changes and what doesn't. `one` is the application that alone is meant, `is_modified` whether
+    a modification of the long-term plan takes the change into it, and `also` what is defined with it."""
 
     kind: str
     after: dict[str, Any]
     told: list[str]
     one: str | None = None
     is_modified: bool = True
+    also: list["Change"] = dataclasses.field(default_factory=list)
 
 
 def stream_of(plan: Plan, changes: Sequence[Change], first_job: int | None = None) -> tuple[str, int]:

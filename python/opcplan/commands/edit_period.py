@@ -24,7 +24,8 @@ def add_words(parser: Parser) -> None:
         "Of type N: `add ORIGIN [END]` lists a further interval, `remove ORIGIN` takes one away, `end ORIGIN [END]` "
         "gives one an end or takes it away; `months FIRST..LAST` lists each month from one YYYY-MM to another, "
         "`quarters` each quarter, `weeks` each week from one day to another, and without FIRST they go on after the "
-        "last interval. Else type=, origin= and interval= change what a period of type A or W has; "
+        "last interval. With `new` before these, or before type=, origin= and interval=, the period is one that isn't "
+        "there yet. Else type=, origin= and interval= change what a period of type A or W has; "
         "with type=N, origin= lists a first interval."
     )
     parser.add_argument("name", metavar="NAME", type=edit_words.short_name, help="the period")
@@ -35,10 +36,12 @@ def add_words(parser: Parser) -> None:
 
 def change(plan: Plan, found: Definitions, given: argparse.Namespace) -> Change:
     """The change that is asked for."""
-    name = given.name
+    name, (verb, *more) = given.name, given.changes
+    if verb == "new":
+        return new_period(found, name, more)
     if name not in found.periods:
-        raise Unmade(edit_words.lack("period", name, found.periods))
-    before, (verb, *more) = found.periods[name], given.changes
+        raise Unmade(f"{edit_words.lack('period', name, found.periods)}; `period {name} new ..` makes one")
+    before = found.periods[name]
     if verb in LISTED or verb in reaches.NEXT:
         if before.kind != "N":
             raise Unmade(f"{name} is of type {before.kind}, which lists no intervals; it has type=, origin=, interval=")
@@ -58,6 +61,25 @@ def change(plan: Plan, found: Definitions, given: argparse.Namespace) -> Change:
                      f"{'counts' if len(users) == 1 else 'count'} in it")
     counting = f"Run cycles that count in it: {shown or 'none'}; they stay as they are."
     return Change("periods", {name: None if is_gone else after}, [*differences(name, before, after), counting])
+
+
+def new_period(found: Definitions, name: str, words: list[str]) -> Change:
+    """The change that makes a period, of intervals that are listed, or of type A or W."""
+    if name in found.periods:
+        raise Unmade(f"{name} is there already; without `new` it changes")
+    if not words:
+        raise Unmade("`new` wants months, quarters or weeks FIRST..LAST, or type=, origin= and interval=", 2)
+    verb, *more = words
+    if verb in reaches.NEXT:
+        if more and more[0].startswith(".."):
+            raise Unmade(f"a new period has no last interval to go on from: `{verb}` wants FIRST..LAST", 2)
+        after = Period("N", entries=with_span(Period("N"), verb, more))
+    elif verb == "add":
+        after = Period("N", entries=added(name, [], *days_of(verb, more)))
+    else:
+        after = with_fields(name, Period(""), words)
+    return Change("periods", {name: after}, [f"{name} is new: {period_text(after)}.",
+                                             f"`application APP new period={name} ..` counts in it."], None, False)
 
 
 def days_of(verb: str, words: list[str]) -> tuple[int, int | None]:
@@ -153,10 +175,12 @@ def with_fields(name: str, before: Period, words: list[str]) -> Period:
     if strange or len(wanted) < len(pairs):
         raise Unmade(f"{strange[0]!r} is none of {', '.join(KEYS)}" if strange
                      else "a field is given twice", 2)
-    held = {"type": before.kind}
-    if before.kind != "N":
+    held = {"type": before.kind} if before.kind else {}
+    if before.kind not in ("", "N"):
         held |= {"origin": day_text(before.origin), "interval": str(before.interval)}
     fields = {**held, **wanted}
+    if "type" not in fields:
+        raise Unmade("type= is wanted too", 2)
     kind = fields["type"] = fields["type"].upper()
     if before.kind == kind == "N":
         raise Unmade(f"{name} is of type N, whose intervals `add`, `remove` and `end` change", 2)

@@ -10,13 +10,16 @@ from opcplan.commands.edit_change import Change, Unmade
 from opcplan.errors import Unreadable
 from opcplan.plans import stream_state
 from opcplan.plans.plan_file import Plan
-from opcplan.rules import lint_checks, record_fields
+from opcplan.rules import lint_checks, moments, record_fields
 from opcplan.rules.definitions import Definitions, RunCycle
-from opcplan.rules.naming_words import few
+from opcplan.rules.naming_words import few, meant_text
 
-SUMMARY = "changes fields of a run cycle"
+SUMMARY = "changes fields of a run cycle, or gives an application a new one"
+NEW = "new"
 NAMES, TAKE = record_fields.KINDS["run-cycles"]
 FIELDS = {field.replace(" ", "-"): field for field in NAMES[2:]}
+# what a new run cycle has where nothing else is given, and what has to be
+USUAL, WANTED = {"type": "N", "rule": "E", "offsets": "1"}, ("period", "input arrival")
 OTHER_WORDS = {"offset": "offsets", "ia": "input arrival"}
 
 
@@ -24,8 +27,9 @@ def add_words(parser: Parser) -> None:
     """Adds its words to a parser."""
     parser.add_argument("app", metavar="APP", type=edit_words.name, help="its application")
     parser.add_argument("name", metavar="NAME", type=edit_words.short_name, help="the run cycle")
-    parser.add_argument("pairs", metavar="FIELD=VALUE", type=edit_words.pair, nargs="+",
-                        help=f"{', '.join(FIELDS)}; offset and ia for short, and deadline=DAYS/HH.MM for both of its "
+    parser.add_argument("pairs", metavar="FIELD=VALUE", type=field_of, nargs="+",
+                        help=f"new, for a run cycle that isn't there yet, and then period=, ia= and deadline=; else "
+                        f"{', '.join(FIELDS)}; offset and ia for short, and deadline=DAYS/HH.MM for both of its "
                         "fields, deadline=HH.MM for the time alone; offsets are parted by blanks or commas; an empty "
                         "value is none")
 
@@ -44,8 +48,12 @@ def name_lacked(found: Definitions, typed: list[str]) -> str:
 def change(plan: Plan, found: Definitions, given: argparse.Namespace) -> Change:
     """The change that is asked for."""
     cycles = found.run_cycles.get(given.app, {})
+    if given.pairs[0] == (NEW, ""):
+        return new_cycle(plan, found, given.app, given.name, given.pairs[1:])
     if given.name not in cycles:
-        raise Unmade(edit_words.lack(f"run cycle {given.name} of", given.app, cycles))
+        meant = meant_text(given.name, cycles)
+        raise Unmade(f"{given.app} has no run cycle {given.name}{meant}, but {few(cycles) or 'none'}; "
+                     f"`run-cycle {given.app} {given.name} new ..` gives it one")
     before = cycles[given.name]
     wanted = wanted_fields(given.pairs)
     after = cycle_of({**fields_of(plan, given.app, before), **wanted})
@@ -62,6 +70,46 @@ def change(plan: Plan, found: Definitions, given: argparse.Namespace) -> Change:
     return Change("run-cycles", {given.app: then}, told, given.app if is_active else None, is_active)
 
 
+def field_of(text: str) -> tuple[str, str]:
+    """A field and its value, or `new`, for `type=`."""
+    return (NEW, "") if text.lower() == NEW else edit_words.pair(text)
+
+
+def new_cycle(
+    plan: Plan, found: Definitions, app: str, name: str, pairs: Iterable[tuple[str, str]], is_new_app: bool = False
+) -> Change:
+    """The change that gives an application one more run cycle."""
+    cycles = found.run_cycles.get(app, {})
+    if name in cycles:
+        raise Unmade(f"{app} has a run cycle {name} already; without `new` its fields change")
+    if app not in found.applications:
+        raise Unmade(f"there is no application {app}{meant_text(app, found.applications)}; "
+                     f"`application {app} new` makes one")
+    given = wanted_fields(pairs)
+    lacking = [field for field in WANTED if not given.get(field)]
+    if not given.get("deadline time") and given.get("type", "N") == "N":
+        lacking.append("deadline")
+    if lacking:
+        short = {field: word for word, field in OTHER_WORDS.items()}
+        raise Unmade(f"{short.get(lacking[0], lacking[0])}= is wanted too: a new run cycle has a period=, an ia= and a "
+                     "deadline=", 2)
+    begin = plan.meta["first_day"] if plan.is_created else moments.now() // moments.DAY
+    usual = {**USUAL, "in effect": moments.day_text(begin), "out of effect": "", "deadline day": "", "deadline time": ""}
+    if given.get("deadline time"):
+        usual["deadline day"] = "0"
+    after = cycle_of({"application": app, "name": name, **usual, **given})
+    if after.period not in found.periods:
+        raise Unmade(edit_words.lack("period", after.period, found.periods))
+    then = {**cycles, name: after}
+    fields = dump.run_cycle_record(app, after).split(",")
+    told = [f"{name} of {app} is new: " + ", ".join(f"{key} {value}" for key, value in zip(NAMES[2:], fields[2:]) if value)
+            + "."]
+    told += [f"Its other run cycles stay: {few(cycles)}."] if cycles else []
+    is_active = found.applications[app].is_active
+    told += [] if is_active or is_new_app else [f"{app} isn't an active application, so nothing of it is planned."]
+    return Change("run-cycles", {app: then}, [*told, *slips(plan, found, app, then, after)], app, is_active)
+
+
 def wanted_fields(pairs: Iterable[tuple[str, str]]) -> dict[str, str]:
     """The fields of a record that are given, by name."""
     wanted: dict[str, str] = {}
@@ -71,6 +119,11 @@ def wanted_fields(pairs: Iterable[tuple[str, str]]) -> dict[str, str]:
             raise Unmade(f"the field {key} is given twice", 2)
         wanted.update(parts)
     return wanted
+
+
+def is_field(key: str) -> bool:
+    """Whether a word names a field of a run cycle."""
+    return key.lower() in {"deadline", *OTHER_WORDS, *FIELDS}
 
 
 def parts_of(key: str, value: str) -> dict[str, str]:

@@ -51,6 +51,15 @@ def of_a_run(number: int, path: str) -> Iterator[None]:
         yield
 
 
+def is_held(path: str, span: tuple[int, int]) -> bool:
+    """Whether another program has a lock of a span of a file; nothing is locked, and nobody is in its way."""
+    begin, length = span
+    with open(path, "rb") as file:
+        asked = struct.pack("hhqqi", fcntl.F_WRLCK, os.SEEK_SET, begin, length, 0)
+        (kind, *_) = struct.unpack("hhqqi", fcntl.fcntl(file, fcntl.F_OFD_GETLK, asked))
+    return bool(kind != fcntl.F_UNLCK)
+
+
 def set_lock(number: int, kind: int, begin: int, length: int) -> bool:
     """Whether the lock was set, or let go."""
     try:

@@ -1,0 +1,33 @@
+"""Colours of what a subcommand prints, where it goes to a terminal: what is in error, late or refused stands out."""
+
+import os
+import sys
+
+from opcplan.cli import words
+
+CODES = {"red": "31", "yellow": "33", "green": "32", "blue": "34", "bold": "1"}
+# by what is said of an occurrence, or the letter of its status
+OF_STATE = {"E": "red", "in error": "red", "S": "blue", "started": "blue", "C": "green", "complete": "green",
+            "R": "green", "ready": "green"}
+
+
+def add_words(parser: words.Parser) -> None:
+    """The option that says whether there are colours, as `words.color`."""
+    parser.add_argument("--color", choices=("auto", "always", "never"), default="auto",
+                        help="colours: always, never, or auto, on a terminal where NO_COLOR isn't set (else auto)")
+
+
+class Paint:
+    """What gives a text its colour, or leaves it as it is."""
+
+    def __init__(self, color: str = "never") -> None:
+        self.is_on = color == "always" or color == "auto" and is_for_colours()
+
+    def __call__(self, text: str, colour: str | None) -> str:
+        """A text in a colour of CODES; without one, or where there are none, as it is."""
+        return f"\x1b[{CODES[colour]}m{text}\x1b[0m" if self.is_on and colour and text else text
+
+
+def is_for_colours() -> bool:
+    """Whether standard output is a terminal that shall have colours."""
+    return not os.environ.get("NO_COLOR") and os.environ.get("TERM") != "dumb" and sys.stdout.isatty()

@@ -1,0 +1,166 @@
+"""./plan init: a new plan with the definitions that everybody begins with."""
+
+import argparse
+import contextlib
+import os
+import re
+import sys
+from typing import NamedTuple
+
+from opcplan.cli import colours, words
+from opcplan.commands import dump, edit_period, edit_words, import_csv, import_forms, import_ics, run as run_command
+from opcplan.commands.edit_change import Unmade
+from opcplan.errors import Unreadable
+from opcplan.plans import stream_file, tempfiles
+from opcplan.rules import moments
+from opcplan.rules.definitions import WEEKDAYS, Calendar, Period, weekday_of
+from opcplan.rules.stream import Bounds
+
+SUMMARY = "makes a new plan with weekends, holidays, and days, weeks, months and quarters"
+OF_FILE = Bounds(16 << 20, 1_000_000)
+FIRST_YEAR, LAST_YEAR, MOST_YEARS = 1972, 2065, 30
+
+
+class Years(NamedTuple):
+    """The first and the last year for which months and quarters are listed and holidays are taken."""
+
+    first: int
+    last: int
+
+    @property
+    def days(self) -> tuple[int, int]:
+        """Their first and their last day."""
+        first, last = moments.day_of(f"{self.first}-01-01"), moments.day_of(f"{self.last}-12-31")
+        assert first is not None and last is not None, "years are those of a plan"
+        return first, last
+
+
+def add_words(parser: words.Parser) -> None:
+    """Adds its words to a parser."""
+    parser.description = (
+        "Makes a plan in PLAN.db, which isn't there yet, with the calendar DEFAULT (the weekend and holidays are free) "
+        "and the periods DAY, WEEK, MONTH and QUARTER. What no option says it asks on a terminal; without one it takes "
+        "what is usual. It shows the definitions, asks, and runs them as `./plan run --new` does, whose exit statuses "
+        "it has; with --stream it prints them as a job stream and makes nothing."
+    )
+    words.add_plan(parser)
+    parser.add_argument("--years", type=years, metavar="Y[..Y]", help="the years for which months and quarters are listed, "
+                        "as 2027..2028 (else this year and the next one)")
+    parser.add_argument("--weekend", type=weekend, metavar="DAYS", help="the days of the week that are free, as SAT,SUN or "
+                        "FRI,SAT, or none (else SAT,SUN)")
+    parser.add_argument("--holidays", type=words.file, metavar="FILE", action="append",
+                        help="a file of holidays, iCalendar or CSV as `./plan import` takes them; also several times")
+    parser.add_argument("--stream", action="store_true", help="print the job stream alone")
+    parser.add_argument("--yes", action="store_true", help="make it without asking")
+    parser.add_argument("--program", metavar="FILE", type=words.file,
+                        help="the planner that makes it (else the one that is built here)")
+    colours.add_words(parser)
+
+
+def years(text: str) -> Years:
+    """Years, for `type=`."""
+    found = re.fullmatch(r"([0-9]{4})(?:\.\.([0-9]{4}))?", text.strip())
+    first, last = (int(found[1]), int(found[2] or found[1])) if found else (0, 0)
+    if not FIRST_YEAR <= first <= last <= LAST_YEAR or last - first >= MOST_YEARS:
+        raise argparse.ArgumentTypeError(f"{text!r} is no year like 2027 and no years like 2027..2028, at most "
+                                         f"{MOST_YEARS} from {FIRST_YEAR} to {LAST_YEAR}")
+    return Years(first, last)
+
+
+def weekend(text: str) -> tuple[int, ...]:
+    """Days of the week, for `type=`."""
+    names = [name for name in re.split("[ ,]+", text.strip().upper()) if name and name != "NONE"]
+    if wrong := [name for name in names if name not in WEEKDAYS]:
+        raise argparse.ArgumentTypeError(f"{wrong[0]!r} is no day of the week, {', '.join(WEEKDAYS)}, and not none")
+    return tuple(sorted(map(WEEKDAYS.index, set(names))))
+
+
+def run(given: argparse.Namespace) -> int:
+    """Does what the words ask for; the exit status."""
+    if not given.stream and os.path.lexists(given.plan):
+        raise Unreadable(f"{given.plan}: it is there already, and `init` makes new plans; `./plan edit` changes it")
+    is_asking = sys.stdin is not None and sys.stdin.isatty() and sys.stderr.isatty() and not given.yes
+    if given.holidays or is_asking:
+        with contextlib.suppress(Unreadable):
+            import_ics.ask_library()
+    if is_asking:
+        ask(given)
+    span = given.years or Years(this_year(), this_year() + 1)
+    try:
+        text = stream_of(span, (5, 6) if given.weekend is None else given.weekend, given.holidays or [])
+    except Unmade as why:
+        words.tell(str(why))
+        return why.status
+    if given.stream:
+        sys.stdout.write(text)
+        return 0
+    with tempfiles.folder("init-") as folder:
+        path = os.path.join(folder, "init.in")
+        with open(path, "w", encoding="ascii") as file:
+            file.write(text)
+        print(text)
+        status = run_command.run(argparse.Namespace(plan=given.plan, stream=path, program=given.program, yes=given.yes,
+                                                    new=True, desk=None, color=given.color))
+    if status == 0:
+        words.tell(f"`./plan edit {given.plan} application NAME new period=DAY ia=20.00 deadline=0/23.00` makes the first "
+                   "application, and `ltp-create` the long-term plan")
+    return status
+
+
+def this_year() -> int:
+    """The year of the clock."""
+    return int(moments.day_text(moments.now() // moments.DAY)[:4])
+
+
+def ask(given: argparse.Namespace) -> None:
+    """Asks on the terminal for what no option says."""
+    now = this_year()
+    questions = (("years", f"Years [{now}..{now + 1}]: ", years), ("weekend", "Free days of the week [SAT,SUN]: ", weekend),
+                 ("holidays", "File of holidays, iCalendar or CSV [none]: ", lambda text: [words.file(text)]))
+    for name, question, read in questions:
+        while getattr(given, name) is None:
+            print(question, end="", file=sys.stderr, flush=True)
+            line = sys.stdin.readline()
+            if not line.strip():
+                break
+            try:
+                setattr(given, name, read(line.strip()))
+            except argparse.ArgumentTypeError as wrong:
+                words.tell(str(wrong))
+
+
+def stream_of(span: Years, free: tuple[int, ...], files: list[str]) -> str:
+    """The job stream of the first definitions. Raises Unmade and Unreadable."""
+    first, last = span.days
+    calendar = Calendar({day: False for day in free})
+    for path in files:
+        calendar.dates.update(days_of(path, first, last))
+    calendar.dates = dict(sorted(calendar.dates.items()))
+    monday = first - weekday_of(first)
+    months = f"{span.first}-01..{span.last}-12"
+    periods = {
+        "DAY": Period("A", first, 1),
+        "WEEK": Period("A", monday, 7),
+        **{name: Period("N", entries=edit_period.with_span(Period("N"), verb, [months]))
+           for name, verb in (("MONTH", "months"), ("QUARTER", "quarters"))},
+    }
+    if not calendar.weekdays and not calendar.dates:
+        calendar.weekdays[0] = True  # a calendar lists something
+    records = {"calendars": {"DEFAULT": dump.calendar_records("DEFAULT", calendar)},
+               "periods": {name: dump.period_records(name, period) for name, period in periods.items()}}
+    return "".join(f"define {kind} --job {number}\n{data}/*\n"
+                   for number, (kind, data) in enumerate(((kind, "".join(dump.blocks_of(kind, found)))
+                                                          for kind, found in records.items()), 1))
+
+
+def days_of(path: str, first: int, last: int) -> dict[int, bool]:
+    """The days of a file of holidays. Raises Unmade and Unreadable."""
+    with stream_file.opened(path, OF_FILE) as source:
+        data = b"".join(source.pieces())
+    if import_forms.is_ics(data.decode("utf-8-sig", "replace")):
+        import_ics.ask_library()
+        found = import_ics.days(data, path, first, last)
+    else:
+        found = import_csv.days(data, path, first, last)
+    edit_words.tell([*found.left, *found.told])
+    return found.days
