@@ -1,0 +1,91 @@
+"""A planning statement doesn't make a key again that an operator deleted, however often FILE is opened in between: each
+answer is that of tools/reference/plain_planner.py."""
+
+import tempfile
+import unittest
+from pathlib import Path
+
+from support import expected, plans
+
+DEFINED = b"""define calendars --job 1
+DEFAULT,SAT,FREE
+DEFAULT,SUN,FREE
+/*
+define periods --job 2
+DAY,A,2024-01-01,1
+/*
+define applications --job 3
+A,A,
+B,A,
+C,A,
+/*
+define run-cycles --job 4
+A,RC,N,DAY,4,1,2024-01-01,,08.00,0,18.00
+B,RC,N,DAY,4,1,2024-01-01,,09.00,0,18.00
+C,RC,N,DAY,4,1,2024-01-01,,10.00,0,18.00
+/*
+define predecessors --job 5
+B,A
+/*
+"""
+# the plan end moves past some of the deletions, rows of one key are deleted twice, and a deleted key is added by hand
+STATEMENTS = b"""ltp-create --from 2024-01-01 --to 2024-01-12 --job 6
+ltp-delete --app A --ia 2024-01-03/08.00 --job 7
+ltp-delete --app B --ia 2024-01-05/09.00 --job 8
+ltp-modify-all --job 9
+list ltp
+dp-extend --to 2024-01-03/00.00 --job 10
+ltp-modify-one --app A --job 11
+list deletions
+ltp-delete --app C --ia 2024-01-08/10.00 --job 12
+ltp-delete --app C --ia 2024-01-04/10.00 --job 13
+ltp-extend --to 2024-01-16 --job 14
+ltp-extend --to 2024-01-16 --job 15
+list ltp
+dp-extend --to 2024-01-05/00.00 --job 16
+ltp-add --app C --ia 2024-01-08/10.00 --job 17
+ltp-modify-all --job 18
+ltp-delete --app C --ia 2024-01-08/10.00 --job 19
+ltp-modify-all --job 20
+list ltp
+list cp
+list deletions
+list dependencies
+dp-extend --to 2024-01-06/00.00 --job 21
+ltp-modify-all --job 22
+list ltp
+list deletions
+"""
+
+
+class TestDeletions(unittest.TestCase):
+    """Runs over one file, and the plain planner over the same statements."""
+
+    def assert_as_plain(self, parts: list[bytes]) -> None:
+        """Each part in a run of its own answers as the plain planner does after those before it."""
+        planner = plans.plain.Planner()
+        with tempfile.TemporaryDirectory(prefix="deletions-") as folder:
+            path = Path(folder) / "plan.db"
+            for part in parts:
+                answers, status, said = expected.asked(path, part)
+                self.assertEqual((answers, part), (plans.plain.run(part, planner), part))
+                self.assertIn(status, (0, 4), said)
+
+    def test_each_statement_in_a_run_of_its_own(self) -> None:
+        """FILE is opened before each statement, so what it needs of the deletions comes from there."""
+        self.assert_as_plain([DEFINED, *STATEMENTS.splitlines(keepends=True)])
+
+    def test_all_in_one_run(self) -> None:
+        """FILE is opened once, before there is a plan."""
+        self.assert_as_plain([DEFINED + STATEMENTS])
+
+    def test_some_in_each_run(self) -> None:
+        """FILE is opened at each place of the stream once, and the rest goes on from there."""
+        lines = STATEMENTS.splitlines(keepends=True)
+        for at in range(1, len(lines)):
+            with self.subTest(at=at):
+                self.assert_as_plain([DEFINED + b"".join(lines[:at]), b"".join(lines[at:])])
+
+
+if __name__ == "__main__":
+    unittest.main()
