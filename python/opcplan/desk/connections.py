@@ -10,8 +10,8 @@ import logging
 import resource
 import sys
 import time
-from collections.abc import Callable
-from typing import Any
+from collections.abc import Callable, Mapping
+from typing import Any, IO
 
 from aiohttp import http_exceptions, web
 
@@ -134,3 +134,22 @@ async def body_of(request: web.Request, most: int) -> bytes:
             return await request.read()
     except TimeoutError:
         raise web.HTTPRequestTimeout(text="the body didn't come in time; nothing was done\n") from None
+
+
+async def sent_file(request: web.Request, heads: Mapping[str, str], file: IO[bytes], size: int) -> web.StreamResponse:
+    """Sends so many bytes of a file, which others may read too; the system copies them, and callers aren't held up. A
+    caller who reads too slowly is cut off."""
+    response = web.StreamResponse(headers=heads)
+    response.content_length = size
+    await response.prepare(request)
+    transport = request.transport
+    if transport is None or transport.is_closing():
+        raise ConnectionResetError("the caller hung up")
+    try:
+        async with asyncio.timeout(BODY + size / BYTES_A_SECOND):
+            await asyncio.get_running_loop().sendfile(transport, file, 0, size)
+    except (TimeoutError, RuntimeError):  # RuntimeError: the connection ended meanwhile
+        transport.abort()
+        return response
+    await response.write_eof()
+    return response

@@ -10,13 +10,12 @@ from opcplan.desk.errors import Refused, used_otherwise
 from opcplan.desk.events import Events
 from opcplan.desk.feed import Feed, PATIENCE
 from opcplan.desk.held_files import HeldFiles
+from opcplan.desk.lists import Lists
 from opcplan.desk.log import Kept, Log
 from opcplan.desk.planner import Ask, Planner, Stopped
 from opcplan.errors import LogUnwritable
 from opcplan.plans.entry import Entry, Wanted
 
-# of lists that are shared as long as nothing changes
-MOST_LISTS = 64
 # seconds until replies are put into the journal where no change comes that takes them along
 LATE = 0.5
 
@@ -34,7 +33,7 @@ class Desk:
         self.planner = Planner(program, files, self.state, self.on_answer, self.on_stop, why_not, limit)
         self.events, self.metrics = Events(self), metrics.Metrics()
         self.feed = Feed(self)
-        self.lists: dict[bytes, Ask] = {}
+        self.lists = Lists(self)
         self.writing: asyncio.Task[None] | None = None
 
     def start(self) -> None:
@@ -83,15 +82,6 @@ class Desk:
         """An Ask of a statement that changes nothing; it perhaps waits for the changes before it. Raises Refused."""
         ask = Ask(name, text)
         self.feed.put(ask, not waits)
-        return ask
-
-    def ask_list(self, text: bytes) -> Ask:
-        """An Ask of a list, which callers share as long as nothing changes. Raises Refused."""
-        ask = self.lists.get(text)
-        if ask is None:
-            if len(self.lists) >= MOST_LISTS:
-                self.lists.clear()
-            ask = self.lists[text] = self.ask_question("list", text)
         return ask
 
     def ask_change(self, name: str, wanted: Wanted, condition: str | None = None) -> Ask:
@@ -167,8 +157,7 @@ class Desk:
         """Lets a statement go that wasn't taken."""
         if ask.wanted is not None and ask.wanted.key is not None:
             self.state.forget(ask.wanted.who, ask.wanted.key, ask)
-        if ask.text is not None:
-            self.lists.pop(ask.text, None)
+        self.lists.forget(ask)
 
     # What comes back.
 
@@ -180,7 +169,7 @@ class Desk:
         if one.entry is not None:
             ask.entry = one.entry
             if one.reply.startswith("ok"):
-                self.lists.clear()
+                self.lists.changed()
             self.events.wake()
         if ask.is_again:  # the journal, or etcd, has its key
             self.forget(ask)

@@ -22,8 +22,8 @@ BATCH_BYTES = 1 << 19
 PATIENCE = 10.0
 # seconds until what can't be taken for now is tried again
 REST = 0.1
-# seconds that a question waits at most for changes
-MOST_HELD = 10.0
+# so many times as long as the last question took, changes go first; a question waits so many seconds for them at most
+SHARE, MOST_HELD = 3, 10.0
 
 
 class Feed:
@@ -102,9 +102,9 @@ class Feed:
                 await self.question_wake.wait()
 
     async def let_changes_go(self) -> None:
-        """Waits twice as long as the last question took, where changes are under way: questions have a third of the
-        time."""
-        until = self.over + min(2 * self.took, MOST_HELD)
+        """Waits three times as long as the last question took, where changes are under way: questions have a quarter of
+        the time."""
+        until = self.over + min(SHARE * self.took, MOST_HELD)
         while self.desk.is_busy and time.monotonic() < until and not self.is_closing:
             await asyncio.sleep(REST / 20)
 

@@ -24,8 +24,9 @@ if TYPE_CHECKING:
 
 PROBE = b"desk-opens\n"  # no statement: `refused 10` tells that the plan is open
 OPEN = b"refused 10\n"
-# rows have neither of these at their begin: names are written in capitals
-REPLY = re.compile(rb"^(?:ok|refused|fault)(?: [^\n]*)?\n", re.M)
+# behind a line feed, with which the pattern begins, so that it is looked for fast; rows have neither of these words at
+# their begin: names are written in capitals
+REPLY = re.compile(rb"\n(?:ok|refused|fault)(?: [^\n]*)?(?=\n)")
 HELD = "another program has FILE open"
 PIECE = 1 << 17
 ROWS_IN_MEMORY = 1 << 20
@@ -125,6 +126,13 @@ class Ask:
         if self.rows is not None:
             self.rows.close()
         self.rows, self.row_bytes, self.wrong = None, 0, None
+
+    def number(self) -> int:
+        """The number of an open file that has its rows. Raises OSError."""
+        assert self.rows is not None
+        self.rows.rollover()
+        self.rows.flush()
+        return self.rows.fileno()
 
     def pieces(self) -> Iterator[bytes]:
         """The lines of its rows, by and by, some at a time; several may read them at once."""
@@ -347,19 +355,19 @@ class Planner:
 
     def take(self, data: bytes) -> Taken:
         """Takes whole lines."""
-        begin = 0
-        for found in REPLY.finditer(data):
-            line = found.group()[:-1].decode("ascii", "replace")
+        text, begin = b"\n" + data, 1
+        for found in REPLY.finditer(text):
+            line = found.group()[1:].decode("ascii", "replace")
             if line.startswith("fault") or not self.state.flight:
                 return Taken(b"", line)
-            self.state.flight[0].take_rows(data[begin : found.start()])
-            begin = found.end()
+            self.state.flight[0].take_rows(text[begin : found.start() + 1])
+            begin = found.end() + 1
             self.do(self.state.replied(line))
-        end = data.rfind(b"\n", begin) + 1
+        end = text.rfind(b"\n", begin) + 1
         if end > begin and self.state.flight:
-            self.state.flight[0].take_rows(data[begin:end])
+            self.state.flight[0].take_rows(text[begin:end])
             begin = end
-        return Taken(data[begin:], "")
+        return Taken(text[begin:], "")
 
     def count_flight(self) -> None:
         """Tells whether there is room for more, and whether nothing is left."""

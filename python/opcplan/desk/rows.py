@@ -1,79 +1,120 @@
-"""Rows of lists as objects, with the names that a plan's tables have, and moments as statements have them."""
+"""Rows of lists as lines of JSON, with the names that a plan's tables have, and moments as statements have them."""
 
+import dataclasses
 import functools
-import json
 import re
-from collections.abc import Mapping
+from collections.abc import Mapping, Sequence
+from typing import NamedTuple
 
 from opcplan.errors import Error
 from opcplan.rules import columns, moments
 
-# by list and name: where a field begins and ends in a line
-FIELDS = {name: {one.name: (one.begin, one.end) for one in line.columns.values()}
-          for name, line in columns.LISTS.items()}
-FORMS = {(one.name, one.form) for line in columns.LISTS.values() for one in line.columns.values()}
-NUMBERS = {name for name, form in FORMS if form in (columns.Form.SERIAL, columns.Form.HOURS)}
-MOMENTS = {name for name, form in FORMS if form is columns.Form.MOMENT}
 WORDS = ("list", "app", "from", "to", "status", "fresh")
+NONE = "-"  # a word that isn't given, among those of a process
+# by form: the pattern of a field without the blanks beside it, and its value as JSON, made of the groups. What is blank
+# is nothing between the signs that stand around it, and becomes null
+FORMS = {
+    columns.Form.SERIAL: ("0*([0-9]+)", "%s"),
+    columns.Form.NAME: ("([A-Z@#$][A-Z0-9@#$]*)", '"%s"'),
+    columns.Form.CYCLE: ("([A-Z@#$][A-Z0-9@#$]*)?", '"%s"'),
+    columns.Form.LETTER: ("([A-Z])", '"%s"'),
+    columns.Form.MOMENT: (r"([0-9]{4}-[0-9]{2}-[0-9]{2}) ([0-9]{2}\.[0-9]{2})", '"%s/%s"'),
+    columns.Form.HOURS: ("([1-9][0-9]*)?", "%s"),
+}
+BLANKS = ((b'""', b"null"), (b": }", b": null}"), (b": ,", b": null,"))
 
 
 class Wrong(Error):
     """Why rows aren't shown."""
 
 
-class Selection:
-    """Which rows of which list are asked for, from the words of a query. Raises Wrong."""
+class Shape(NamedTuple):
+    """The pattern of a line of a list, and the line of JSON that its groups become."""
 
-    def __init__(self, query: Mapping[str, str]) -> None:
-        for word in query:
-            if word not in WORDS:
-                raise Wrong(f"there is no word `{word[:40]}`, but {', '.join(WORDS)}")
-        self.name = query.get("list", "cp")
-        if self.name not in FIELDS:
-            raise Wrong(f"there is no list `{self.name[:40]}`, but {', '.join(FIELDS)}")
-        self.fields = FIELDS[self.name]
-        self.app = query.get("app")
-        if self.app is not None and not re.fullmatch(r"[A-Z@#$][A-Z0-9@#$]{0,15}", self.app):
-            raise Wrong("`app` is no name of an application")
-        self.first, self.last = day_of(query, "from"), day_of(query, "to")
-        if self.name == "links" and (self.first or self.last):
-            raise Wrong("`links` have no days")
-        self.is_fresh = is_fresh(query)
-        self.status = query.get("status")
-        if self.status is not None and ("status" not in self.fields or not re.fullmatch("[WSECD]+", self.status)):
-            raise Wrong("`status` is letters of W, S, E, C and D, of the lists cp and history")
+    line: re.Pattern[bytes]
+    json: bytes
+
+
+@functools.cache
+def shape_of(name: str) -> Shape:
+    """The Shape of the lines of a list."""
+    pattern, values = "", []
+    for column in columns.LISTS[name].columns.values():
+        field, value = FORMS[column.form]
+        between = " *" if column.form is columns.Form.HOURS else " +"
+        pattern += (between if pattern else "") + field
+        values.append(f'"{column.name}": {value}')
+    return Shape(re.compile(f"^{pattern} *$".encode(), re.M), f"{{{', '.join(values)}}}\n".encode())
+
+
+@dataclasses.dataclass(frozen=True)
+class Selection:
+    """Which rows of which list are asked for: those of an application, that arrive from a day on and up to another one,
+    of some statuses."""
+
+    name: str
+    app: str | None = None
+    first: str | None = None
+    last: str | None = None
+    status: str | None = None
 
     @property
     def text(self) -> bytes:
         """The statement that shows the list."""
         return (f"list {self.name}" + (f" --app {self.app}" if self.app else "")).encode("ascii") + b"\n"
 
+    @property
+    def words(self) -> list[str]:
+        """What a process is told, which has the list's lines; `of_words` reads it."""
+        return [self.name, *(word or NONE for word in (self.first, self.last, self.status))]
+
     def lines(self, data: bytes) -> bytes:
-        """The lines of JSON that whole lines of the list are."""
-        fields = [(name, begin, end) for name, (begin, end) in self.fields.items()]
-        form = "{" + ", ".join(f'"{name}": %s' for name in self.fields) + "}\n"
-        return "".join(form % tuple(json_of(name, line[begin:end]) for name, begin, end in fields)
-                       for line in data.decode("ascii").splitlines() if self.has(line)).encode("ascii")
+        """The lines of JSON that whole lines of the list are. Raises Wrong where they are of another form."""
+        shape = shape_of(self.name)
+        chosen = data if not (self.first or self.last or self.status) else b"".join(
+            line for line in data.splitlines(keepends=True) if self.has(line))
+        rows = shape.line.findall(chosen)
+        if len(rows) != chosen.count(b"\n"):
+            raise Wrong(f"opcplan shows the list `{self.name}` in another form than this desk knows; both have to be "
+                        "of one version")
+        found = b"".join([shape.json % row for row in rows])
+        for blank, null in BLANKS:
+            found = found.replace(blank, null)
+        return found
 
-    def has(self, line: str) -> bool:
+    def has(self, line: bytes) -> bool:
         """Whether a line's row is asked for; days are those of its input arrival."""
-        if not (self.first or self.last or self.status):
-            return True
-        begin, _ = self.fields.get("ia", (0, 0))
-        day = line[begin : begin + 10]
-        return not (self.first and day < self.first or self.last and day > self.last
-                    or self.status and line[slice(*self.fields["status"])] not in self.status)
+        fields = columns.LISTS[self.name].columns
+        if "ia" in fields:
+            day = line[fields["ia"].begin : fields["ia"].begin + 10].decode()
+            if self.first and day < self.first or self.last and day > self.last:
+                return False
+        return not self.status or line[fields["status"].begin : fields["status"].end].decode() in self.status
 
 
-@functools.lru_cache(1 << 16)
-def json_of(name: str, text: str) -> str:
-    """The value of a field as JSON, null where it is blank."""
-    text = text.strip()
-    if name in MOMENTS:
-        return json.dumps(text.replace(" ", "/"))
-    if not text:
-        return "null"
-    return str(int(text)) if name in NUMBERS and text.isdigit() else json.dumps(text)
+def of_words(words: Sequence[str]) -> Selection:
+    """The Selection that a process is told."""
+    name, *more = words
+    first, last, status = (None if word == NONE else word for word in more)
+    return Selection(name, None, first, last, status)
+
+
+def of_query(query: Mapping[str, str]) -> Selection:
+    """The Selection that the words of a query ask for. Raises Wrong."""
+    for word in query:
+        if word not in WORDS:
+            raise Wrong(f"there is no word `{word[:40]}`, but {', '.join(WORDS)}")
+    name, app, status = query.get("list", "cp"), query.get("app"), query.get("status")
+    if name not in columns.LISTS:
+        raise Wrong(f"there is no list `{name[:40]}`, but {', '.join(columns.LISTS)}")
+    if app is not None and not re.fullmatch(r"[A-Z@#$][A-Z0-9@#$]{0,15}", app):
+        raise Wrong("`app` is no name of an application")
+    first, last = day_of(query, "from"), day_of(query, "to")
+    if name == "links" and (first or last):
+        raise Wrong("`links` have no days")
+    if status is not None and not ("status" in columns.LISTS[name].columns and re.fullmatch("[WSECD]+", status)):
+        raise Wrong("`status` is letters of W, S, E, C and D, of the lists cp and history")
+    return Selection(name, app, first, last, status)
 
 
 def is_fresh(query: Mapping[str, str]) -> bool:

@@ -1,15 +1,13 @@
 """What a desk answers by HTTP."""
 
 import asyncio
-import collections
 import contextlib
 import json
 import os
 import re
 import signal
 import sys
-import time
-from collections.abc import Callable, Iterator, Sequence
+from collections.abc import Callable, Sequence
 from operator import attrgetter
 from typing import Any
 
@@ -23,7 +21,7 @@ from opcplan.desk.guard import Handler
 from opcplan.desk.held_files import HeldFiles
 from opcplan.desk.listeners import Unable, listeners_of
 from opcplan.desk.log import Log
-from opcplan.desk.planner import Ask, Stopped
+from opcplan.desk.planner import Stopped
 from opcplan.desk.requests import Asked
 from opcplan.desk.settings import Settings
 from opcplan.errors import LogUnwritable
@@ -33,8 +31,6 @@ MOST_BYTES = 32 << 20
 # seconds in which streams that are under way may end, once the desk is to end
 LAST_SECONDS = 20
 PAGE = 500
-# of the time that rows take to be written, what changes have in between
-SHARE = 4
 KEY = re.compile(routes.KEY)
 
 
@@ -44,7 +40,6 @@ class Server:
     def __init__(self, given: Settings, desk: core.Desk, the_guard: guard.Guard) -> None:
         self.given, self.desk, self.guard = given, desk, the_guard
         self.streams: set[asyncio.Task[None]] = set()
-        self.lists: collections.defaultdict[str, asyncio.Lock] = collections.defaultdict(asyncio.Lock)
         self.connections = connections.Connections()
         self.page = page.Page(desk, given.plan, the_guard.tokens is not None)
 
@@ -82,10 +77,11 @@ class Server:
             for place in range(len(stream.asked)):
                 one = await stream.next()
                 if place == 0:
-                    response.headers.update(state_of(one.ask))
+                    response.headers.update(state_of(one.ask.tag, one.ask.position))
                     await response.prepare(request)
                 for data in (body.as_json if is_json else body.as_text)(one):
                     await response.write(data)
+                    await asyncio.sleep(0)  # others have their turn also where the caller reads as fast as this
         except (Refused, Stopped):
             if not response.prepared:
                 raise
@@ -115,28 +111,21 @@ class Server:
     async def rows(self, request: web.Request) -> web.StreamResponse:
         """GET /rows."""
         try:
-            selection = rows.Selection(request.query)
+            selection, is_fresh = rows.of_query(request.query), rows.is_fresh(request.query)
         except rows.Wrong as why:
             raise Refused(400, str(why)) from None
-        if selection.is_fresh:
+        if is_fresh:
             await self.desk.catch_up()
-        async with self.lists[request["who"]]:  # one caller has one list made at a time
-            ask = await self.desk.ask_list(selection.text).wait()
-        if ask.wrong is not None:
-            raise Refused(503, ask.wrong)
-        state = state_of(ask)
+        state = state_of(self.desk.tag(), self.desk.position)
+        if self.desk.planner.stopped or request.headers.get("If-None-Match") != state["ETag"]:
+            shown = await self.desk.lists.shown(request["who"], selection)
+            state = state_of(shown.tag, shown.position)
         if request.headers.get("If-None-Match") == state["ETag"]:
             return web.Response(status=304, headers=state)
-        response = web.StreamResponse(headers={"Content-Type": "application/x-ndjson", **SAFE, **state})
-        await response.prepare(request)
-        for data in ask.pieces():
-            for lines in in_parts(data):
-                begun = time.monotonic()
-                await response.write(selection.lines(lines))
-                # as long as changes are under way they have most of the time
-                await asyncio.sleep(SHARE * (time.monotonic() - begun) if self.desk.is_busy else 0)
-        await response.write_eof()
-        return response
+        heads = {"Content-Type": "application/x-ndjson", **SAFE, **state}
+        if shown.file is None:
+            return web.Response(body=shown.data, headers=heads)
+        return await connections.sent_file(request, heads, shown.file, shown.size)
 
     async def journal(self, request: web.Request) -> web.StreamResponse:
         """GET /journal."""
@@ -211,9 +200,9 @@ def after(status: int) -> dict[str, str]:
     return {"Retry-After": "1"} if status == 503 else {}
 
 
-def state_of(ask: Ask) -> dict[str, str]:
+def state_of(tag: str | None, position: int) -> dict[str, str]:
     """The headers that name the state in which something was answered."""
-    return {"ETag": f'"{ask.tag}"', "X-Opcplan-Position": str(ask.position)} if ask.tag else {}
+    return {"ETag": f'"{tag}"', "X-Opcplan-Position": str(position)} if tag else {}
 
 
 def key_of(request: web.Request) -> str | None:
@@ -232,13 +221,6 @@ def condition_of(request: web.Request, found: Sequence[Asked]) -> str | None:
     if len(found) != 1 or not found[0].changes:
         raise Refused(400, "If-Match goes with one statement, which changes something; nothing was done")
     return text.strip().strip('"')
-
-
-def in_parts(data: bytes, lines: int = 200) -> Iterator[bytes]:
-    """Whole lines, some at a time."""
-    found = data.splitlines(keepends=True)
-    for begin in range(0, len(found), lines):
-        yield b"".join(found[begin : begin + lines])
 
 
 # The beginning and the end of a desk.
