@@ -1,7 +1,12 @@
 """./plan desk: callers who say nothing, hang up, or ask for lists all the time, and what they cost others."""
 
 import contextlib
+import os
 import resource
+import signal
+import subprocess
+import sys
+import tempfile
 import threading
 import time
 import unittest
@@ -10,6 +15,17 @@ from contextlib import closing
 from support import desks
 
 START = "cp-start --app APP00 --ia 2024-01-01/08.00"
+# asks a port for the long-term plan again and again, and prints how many rows came each time
+READER = """
+import http.client, sys
+while True:
+    connection = http.client.HTTPConnection("127.0.0.1", int(sys.argv[1]))
+    connection.request("GET", "/rows?list=ltp")
+    answer, rows = connection.getresponse(), 0
+    while data := answer.read(1 << 18):
+        rows += data.count(b"\\n")
+    print(rows, flush=True)
+"""
 
 
 @unittest.skipIf(desks.why_not(), desks.why_not())
@@ -27,9 +43,10 @@ class Silent(desks.Case):
                     silent.enter_context(closing(desks.raw(desk.port, text)))
                 if place % 100 == 0:
                     self.assertEqual(desk.asked("GET", "/health")[0], 200)
+            os.kill(desk.open(), signal.SIGKILL)  # there are descriptors for the next one
             begun = time.monotonic()
             self.assertEqual(desk.posted(START)[2], "ok serial 1 status S\n")
-            self.assertLess(time.monotonic() - begun, 5 * desks.QUICK)
+            self.assertLess(time.monotonic() - begun, 10 * desks.QUICK)
         self.end(desk)
         self.assertLess(len(desk.said), 6, desk.said)
 
@@ -65,31 +82,32 @@ class Reader(desks.Case):
     """A plan of 29,000 rows, and one who asks for all of them all the time."""
 
     TEXT = desks.CENTRE.replace(b"--to 2024-01-31", b"--to 2027-12-30")
-    CALLERS, SECONDS = 10, 6
+    CALLERS, SECONDS, TURNS = 10, 2, 4
 
-    def test_changes_keep_their_rate(self):
-        """They keep half of it on a machine that does nothing else. What else this one does takes from both, so that
-        less is asked for here; without turns for changes a twentieth was left."""
+    def test_changes_keep_half_of_their_rate(self):
+        """With turns, for what else the machine does takes from both; without a share for changes a twentieth was
+        left."""
         desk = self.desk()
         desk.open()
-        alone = self.rate(desk)
-        stop = threading.Event()
-        reader = threading.Thread(target=self.read, args=(desk, stop))
-        reader.start()
-        time.sleep(1)
-        beside = self.rate(desk)
-        stop.set()
-        reader.join()
+        alone = beside = 0
+        with tempfile.TemporaryFile("w+") as told:
+            reader = subprocess.Popen([sys.executable, "-c", READER, str(desk.port)], stdout=told)
+            try:
+                for _ in range(self.TURNS):
+                    reader.send_signal(signal.SIGSTOP)
+                    alone += self.rate(desk) / self.TURNS
+                    reader.send_signal(signal.SIGCONT)
+                    beside += self.rate(desk) / self.TURNS
+            finally:
+                reader.kill()
+                reader.wait()
+            told.seek(0)
+            counts = list(map(int, told))
         self.end(desk)
-        print(f"{alone:.0f} changes a second alone, {beside:.0f} beside {self.lists} lists")
-        self.assertGreater(beside, 0.15 * alone)
-        self.assertGreater(self.lists, 0)
-
-    def read(self, desk, stop):
-        self.lists = 0
-        while not stop.is_set():
-            self.assertGreater(desk.asked("GET", "/rows?list=ltp")[2].count("\n"), 29_000)
-            self.lists += 1
+        print(f"{alone:.0f} changes a second alone, {beside:.0f} beside {len(counts)} lists")
+        self.assertGreater(beside, 0.5 * alone)
+        self.assertGreater(len(counts), 0)
+        self.assertGreater(min(counts), 29_000)
 
     def rate(self, desk):
         """Changes in a second, of all callers together."""

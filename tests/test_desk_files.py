@@ -50,6 +50,26 @@ class Moved(desks.Case):
         again.comes(lambda found: found.get("status") == "ok")
         self.end(again)
 
+    def test_a_desk_that_nobody_asks_anything(self):
+        for tail in ("", ".journal"):
+            desk = self.desk()
+            desk.posted(START)
+            os.rename(f"{self.plan}{tail}", f"{self.plan}{tail}.old")
+            self.assertEqual(desk.process.wait(desks.PATIENCE), 1)
+            desk.reader.join(10)
+            self.assertIn(f"{self.plan.name}{tail}", desk.said[-1])
+            os.rename(f"{self.plan}{tail}.old", f"{self.plan}{tail}")
+
+    def test_a_list_that_is_kept_isn_t_given_of_a_file_that_was_moved(self):
+        desk = self.desk()
+        self.assertEqual(desk.asked("GET", "/rows?list=cp")[0], 200)
+        os.rename(self.plan, f"{self.plan}.old")
+        try:
+            self.assertEqual(desk.asked("GET", "/rows?list=cp")[0], 503)
+        except ConnectionError:
+            pass  # the desk has ended
+        self.assertEqual(desk.process.wait(desks.PATIENCE), 1)
+
     def test_a_snapshot_isn_t_of_another_file(self):
         desk = self.desk()
         desk.posted(START)
@@ -139,6 +159,17 @@ class Still(desks.Case):
         with closing(sqlite3.connect(f"{self.plan}.journal")) as db:
             replies = [reply for (reply,) in db.execute("SELECT reply FROM entry ORDER BY seq")]
         self.assertEqual(replies[:2], ["ok serial 1 status S", "ok serial 1 status C"])
+
+    def test_an_opcplan_that_stands_still_while_its_desk_ends(self):
+        desk = self.desk("--limit", "3")
+        self.assertEqual(desk.posted(START)[2], "ok serial 1 status S\n")
+        os.kill(desk.open(), signal.SIGSTOP)
+        begun = time.monotonic()
+        self.assertEqual(desk.ended(), 0, desk.said)
+        self.assertLess(time.monotonic() - begun, 20 * desks.QUICK)
+        again = self.desk()
+        self.assertEqual(again.posted(COMPLETE)[2], "ok serial 1 status C\n")
+        self.end(again)
 
     @staticmethod
     def post(desk, text):

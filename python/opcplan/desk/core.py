@@ -185,9 +185,11 @@ class Desk:
         self.lists.clear()
 
     async def write_late(self) -> None:
-        """Has the log keep replies that no change takes along, and takes digests from other desks."""
+        """Has the log keep replies that no change takes along, takes digests from other desks, and looks whether the
+        files have their places, also where nobody asks anything."""
         while True:
             await asyncio.sleep(LATE)
+            self.planner.has_moved()
             for entry, digest in self.log.adopts().items():
                 self.state.adopt(entry, digest)
             if self.state.unkept():

@@ -241,6 +241,13 @@ class Planner:
             self.is_over.set()
         return not self.halted
 
+    def has_moved(self) -> str:
+        """Why nothing is answered any more, as the files were moved, or nothing. While opcplan opens the plan or leaves
+        it, its log may become another file."""
+        if self.is_open and not self.closing.is_set():
+            self.look_at_files()
+        return self.halted
+
     @property
     def pid(self) -> int | None:
         """The process id of the opcplan that has the plan open, None where there is none."""
@@ -248,8 +255,8 @@ class Planner:
 
     @property
     def silent(self) -> float:
-        """For how many seconds it hasn't answered."""
-        is_asked = self.process is not None and (self.state.flight or not self.is_open)
+        """For how many seconds it hasn't answered, or hasn't ended where it is to."""
+        is_asked = self.process is not None and (self.state.flight or not self.is_open or self.closing.is_set())
         return time.monotonic() - self.heard if is_asked else 0.0
 
     @property
@@ -388,6 +395,7 @@ class Planner:
     async def close(self) -> None:
         """Lets it answer what it has and ends it: the file has the plan alone then."""
         await self.idle_or_stopped()
+        self.heard = time.monotonic()
         self.closing.set()
         if self.process is not None:
             piped(self.process.stdin).close()
