@@ -189,7 +189,7 @@ class Words(unittest.TestCase):
             db.execute("INSERT INTO cp_row VALUES (99999, ?, 1, 2, ?, 'E')", (bad, bad))
             db.commit()
         # no plan that has such names is opened; the page has to escape them all the same
-        with mock.patch.object(sound_rows, "ask"):
+        with mock.patch.object(sound_rows, "asked", return_value=()):
             page = page_html.page_of(page_data.data_of(path, moments.moment_of("2024-01-02/06.00")))
         self.assertEqual(page.count("</script>"), 2)
         self.assertEqual(page.lower().count("<script"), 2)

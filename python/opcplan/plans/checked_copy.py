@@ -7,7 +7,7 @@ import sqlite3
 import subprocess
 
 from opcplan.errors import Unreadable
-from opcplan.plans import plan_file
+from opcplan.plans import plan_file, progress
 from opcplan.plans.program import built_program
 
 # a log that has no page: how it begins, and at most how long it is, with what opcplan leaves behind its header
@@ -18,9 +18,21 @@ def made(path: str, folder: str, program: str | None = None) -> tuple[str, sqlit
     """The path of such a copy in a folder, of the plan in a file and its log, and what plan_meta has. Raises
     Unreadable.
 
-    A plan of version 1 keeps its version: opcplan, which makes it anew, opens a copy of the copy."""
+    A plan of version 1 keeps its version: opcplan, which makes it anew, opens a copy of the copy.
+
+    What opcplan finds sound isn't checked here too. What it doesn't take is, for a sentence that says why."""
     copy = os.path.join(folder, "copy.db")
-    with plan_file.opened(path) as plan:
+    try:
+        return copy, taken_by_opcplan(path, copy, folder, program)
+    except Unreadable:
+        with plan_file.opened(path):
+            pass
+        raise
+
+
+def taken_by_opcplan(path: str, copy: str, folder: str, program: str | None) -> sqlite3.Row:
+    """Makes the copy, and answers what plan_meta has. Raises Unreadable."""
+    with plan_file.opened(path, is_own=True) as plan:
         (told,) = plan.db.execute("PRAGMA integrity_check(1)").fetchone()
         if told != "ok":
             raise Unreadable(f"{path}: it is damaged: {' '.join(told.split())}")
@@ -35,7 +47,7 @@ def made(path: str, folder: str, program: str | None = None) -> tuple[str, sqlit
         ask(path, os.path.join(folder, "other.db"), program)
     if holds_something(f"{copy}-wal"):
         raise Unreadable(f"{path}: the log of its copy can't be taken into the copy")
-    return copy, meta
+    return meta
 
 
 def taken(source: str, copy: str) -> None:
@@ -48,7 +60,8 @@ def ask(path: str, copy: str, program: str | None) -> None:
     """Asks that opcplan opens a copy; its log is in the file then. Raises Unreadable."""
     program = os.path.abspath(program or built_program())
     try:
-        ran = subprocess.run([program, "--db", copy], stdin=subprocess.DEVNULL, capture_output=True, check=False)
+        with progress.of("opcplan checks the copy"):
+            ran = subprocess.run([program, "--db", copy], stdin=subprocess.DEVNULL, capture_output=True, check=False)
     except OSError as error:
         raise Unreadable(f"{program}: it can't be run: {error.strerror}") from None
     if ran.returncode:

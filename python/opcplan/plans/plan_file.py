@@ -17,7 +17,7 @@ from collections.abc import Callable, Iterator
 from typing import NamedTuple, TypeVar
 
 from opcplan.errors import Error, Unreadable
-from opcplan.plans import kept_checks, page_sums, sound_pairs, sound_rows, tempfiles
+from opcplan.plans import kept_checks, page_sums, progress, sound_pairs, sound_rows, tempfiles
 
 T = TypeVar("T")  # what is made of a plan
 
@@ -33,6 +33,8 @@ MOST_WITHOUT_PAGES = 32 + 24
 # seconds, that soon
 COARSE, WHOLE_SECONDS = 0.02, 2.0
 SECOND = 1_000_000_000
+# of what a check takes, how much the rows take by themselves; the rest is for pairs
+ROWS_SHARE = 0.6
 # of a file its head, which has the counter of changes, and of a log
 OF_HEAD = 100
 
@@ -93,7 +95,8 @@ class Plan:
 @contextlib.contextmanager
 def opened(path: str | os.PathLike[str], is_own: bool = False) -> Iterator[Plan]:
     """A Plan of a private copy of the file, which goes when the context ends. Raises Unreadable, also for what is found
-    later. The rows of a file of this command's `own`, which opcplan alone has written, aren't checked."""
+    later. The rows of a file of this command's `own`, which opcplan alone has written or is going to check, aren't
+    checked."""
     path = os.fspath(path)
     real = place_of(path)
     with tempfiles.folder("plan-") as folder:
@@ -207,10 +210,13 @@ def checked(path: str, db: sqlite3.Connection, copy: str, state: State) -> Plan:
     kept = kept_checks.of_file(os.path.realpath(path), state.text)
     if kept is not None and kept_checks.is_there(kept):
         return Plan(path, db, state.written)
-    ask_sums(db, copy)
-    plan = Plan(path, db, state.written)
-    sound_rows.ask(db, plan.version)
-    sound_pairs.ask(db, plan.version)
+    with progress.of(f"checks {path}") as far:
+        ask_sums(db, copy)
+        plan = Plan(path, db, state.written)
+        for done in sound_rows.asked(db, plan.version):
+            far.at(done * ROWS_SHARE)
+        for done in sound_pairs.asked(db, plan.version):
+            far.at(ROWS_SHARE + done * (1 - ROWS_SHARE))
     if kept is not None and state.is_settled:
         kept_checks.put(kept)
     return plan

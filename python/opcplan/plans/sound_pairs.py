@@ -3,7 +3,7 @@
 
 import collections
 import sqlite3
-from collections.abc import Iterable
+from collections.abc import Iterable, Iterator
 
 from opcplan.plans.sound_rows import Unsound
 from opcplan.rules import loops
@@ -41,31 +41,38 @@ FITTING = (
 TOGETHER = f"{OF_CLOSED} WHERE {ARRIVES} = row.ia"
 
 
-def ask(db: sqlite3.Connection, version: int) -> None:
-    """Asks the rules of a database whose rows keep those of sound_rows. Raises Unsound."""
+def asked(db: sqlite3.Connection, version: int) -> Iterator[float]:
+    """Asks the rules of a database whose rows keep those of sound_rows, step by step; each time the share that is done.
+    Raises Unsound."""
+    steps = 2 + len(EXPECTED) + len(CLOSED)
     try:
         ask_keys(db)
-        ask_pairs(db, version)
+        yield 1 / steps
+        for done in asked_pairs(db, version):
+            yield (1 + done) / steps
     finally:
         db.execute("DROP TABLE IF EXISTS temp.cp_live")
     ask_rings(db)
 
 
-def ask_pairs(db: sqlite3.Connection, version: int) -> None:
-    """Asks that the lists in force have no loop, and that there are the pairs that there have to be. Raises Unsound."""
+def asked_pairs(db: sqlite3.Connection, version: int) -> Iterator[int]:
+    """Asks that the lists in force have no loop, and that there are the pairs that there have to be, step by step; each
+    time how many steps are done. Raises Unsound."""
     if loops.all_of(grouped(db.execute("SELECT app, pred FROM link_in_force"))):
         raise Unsound("its rows are no sound plan: the lists of predecessors in force have a loop")
-    found = 0
-    for asked in EXPECTED:
-        lacking, pairs = db.execute(asked.format(within="link.within" if version > 1 else "NULL")).fetchone()
+    found = done = 0
+    for question in EXPECTED:
+        lacking, pairs = db.execute(question.format(within="link.within" if version > 1 else "NULL")).fetchone()
         if lacking:
             raise Unsound("its rows are no sound plan: an open row lacks the pair with its nearest predecessor")
         found += pairs
+        yield (done := done + 1)
     for table in CLOSED:
         pairs, wrong = db.execute(FITTING.format(table)).fetchone()
         if wrong:
             raise Unsound("its rows are no sound plan: a row that is no longer open has a pair that it can't have")
         found += pairs
+        yield (done := done + 1)
     if db.execute("SELECT count(*) FROM dependency").fetchone()[0] != found:
         raise Unsound("its rows are no sound plan: dependency has a pair that is none with a nearest predecessor")
 

@@ -3,7 +3,7 @@ values, and how rows refer to each other. Which keys, lists and pairs there may 
 
 import re
 import sqlite3
-from collections.abc import Iterable, Mapping
+from collections.abc import Iterable, Iterator, Mapping
 from typing import NamedTuple
 
 from opcplan.errors import Error
@@ -13,6 +13,8 @@ FIRST_MOMENT, LAST_MOMENT = definitions.FIRST_DAY * 1440, (definitions.LAST_DAY 
 LAST_KEPT_DAY = 36159  # 2068-12-31: a plan that was made earlier may reach so far
 MOST_PLANNED, GREATEST = 200_000, 999_999_999
 MOST_SHOWN = 40
+# of the time that values take, how much more relations take
+RELATIONS_SHARE = 0.3
 
 
 class Rule(NamedTuple):
@@ -225,14 +227,26 @@ def ask_form(db: sqlite3.Connection, version: int) -> None:
 
 def ask(db: sqlite3.Connection, version: int) -> None:
     """Asks that the rows of all tables keep the rules. Raises Unsound."""
+    for _ in asked(db, version):
+        pass
+
+
+def asked(db: sqlite3.Connection, version: int) -> Iterator[float]:
+    """The same, step by step; each time the share that is done."""
+    sizes = {table: 1 + db.execute(f"SELECT count(*) FROM {table}").fetchone()[0] for table in RULES}
+    whole, done = sum(sizes.values()) * (1 + RELATIONS_SHARE), 0.0
     for table, rules in RULES.items():
         (found,) = db.execute(f"PRAGMA integrity_check({table})").fetchone()
         if found != "ok":
             raise Unsound(f"its table {table} is damaged: {found}")
         ask_values(db, table, {column: rule for column, rule in rules.items() if version > 1 or column != LATER})
+        done += sizes[table]
+        yield done / whole
     for question, wrong in RELATIONS:
         if db.execute(f"{question} LIMIT 1").fetchone():
             raise Unsound(f"its rows are no sound plan: {wrong}")
+        done += (whole - done) / 2
+        yield done / whole
     ask_replies(db)
 
 

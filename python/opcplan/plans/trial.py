@@ -9,7 +9,7 @@ from collections.abc import Callable, Iterator
 from typing import Any, Generic, TypeVar
 
 from opcplan.errors import Unreadable
-from opcplan.plans import plan_file, stream_file, stream_state, tempfiles, waits
+from opcplan.plans import plan_file, progress, stream_file, stream_state, tempfiles, waits
 from opcplan.plans.plan_file import Plan
 from opcplan.plans.program import built_program
 from opcplan.plans.stream_state import Known
@@ -118,17 +118,27 @@ def answered(
     with open(text, "rb") as asked, open(said, "wb") as errors, stream_file.opened(text) as source:
         with running(program, copy, stdin=asked, stdout=subprocess.PIPE, stderr=errors) as ran:
             assert ran.stdout is not None, "its output goes to a pipe"
+            size = max(1, os.path.getsize(text))
             try:
-                found = take(stream.items(source), stream.Source(ran.stdout, program, OF_ANSWERS))
+                with progress.of("opcplan opens a copy and runs the stream") as far:
+                    items = seen(stream.items(source), lambda: far.at(source.size / size))
+                    found = take(items, stream.Source(ran.stdout, program, OF_ANSWERS))
             except explanations.Unlike as why:
                 raise Unreadable(f"{program}: it doesn't answer as opcplan does: {why}") from None
     return found, ran.returncode
 
 
+def seen(items: Iterator[Item], tell: Callable[[], None]) -> Iterator[Item]:
+    """Items that pass; after each one is answered something is called."""
+    for item in items:
+        yield item
+        tell()
+
+
 def done(trial: Trial[F], path: str, output: str) -> int:
     """The status of opcplan once it has run the stream of a trial over the plan itself; its output goes to a file."""
     with open(trial.stream, "rb") as asked, open(output, "wb") as target:
-        with running(trial.program, path, stdin=asked, stdout=target) as ran:
+        with running(trial.program, path, stdin=asked, stdout=target) as ran, progress.of("opcplan runs the stream"):
             return ran.wait()
 
 

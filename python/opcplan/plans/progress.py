@@ -1,0 +1,93 @@
+"""How far a command is, on standard error: what it does, how far it is, and how long it may still take. It is shown only
+where that is a terminal, and only of what takes more than a second."""
+
+import contextlib
+import sys
+import time
+from collections.abc import Iterator
+
+from opcplan.rules import printable
+
+FIRST, BETWEEN = 1.0, 0.25  # seconds before the first line, and between two
+LEAST = 0.02  # the share from which on the rest can be estimated
+CLEAR = "\r\x1b[K"
+
+
+class Progress:
+    """What is done at present, and the share of it that is done, from 0 to 1; None where that isn't known."""
+
+    def __init__(self, what: str) -> None:
+        self.what, self.share = what, 0.0
+        self.began = time.monotonic()
+
+    def at(self, share: float) -> None:
+        """From here on this share is done."""
+        self.share = max(self.share, min(share, 1.0))
+
+    @property
+    def line(self) -> str:
+        """The line that is shown now."""
+        took = time.monotonic() - self.began
+        if self.share < LEAST:
+            return f"{self.what}, for {length_text(took)} so far"
+        rest = took * (1 - self.share) / self.share
+        return f"{self.what}: {self.share:.0%}, about {length_text(rest)} more"
+
+
+class Shown(Progress):
+    """The same, which a thread of its own shows while it goes on."""
+
+    def __init__(self, what: str) -> None:
+        import threading
+
+        super().__init__(what)
+        self.ended = threading.Event()
+        self.thread = threading.Thread(target=self.show, daemon=True)
+        self.thread.start()
+
+    def show(self) -> None:
+        """Shows how far it is, until it has ended."""
+        is_shown, rest = False, FIRST
+        while not self.ended.wait(rest):
+            is_shown, rest = put(f"{CLEAR}{printable.fit(self.line)}"), BETWEEN
+        if is_shown:
+            put(CLEAR)
+
+    def end(self) -> None:
+        """Ends it, with the line cleared."""
+        self.ended.set()
+        self.thread.join()
+
+
+def put(text: str) -> bool:
+    """Writes to the terminal, which may have gone."""
+    with contextlib.suppress(OSError, ValueError):
+        sys.stderr.write(text)
+        sys.stderr.flush()
+    return True
+
+
+@contextlib.contextmanager
+def of(what: str) -> Iterator[Progress]:
+    """A Progress of something, as long as the context lasts."""
+    if not is_terminal():
+        yield Progress(what)
+        return
+    shown = Shown(what)
+    try:
+        yield shown
+    finally:
+        shown.end()
+
+
+def is_terminal() -> bool:
+    """Whether somebody looks."""
+    try:
+        return sys.stderr.isatty()
+    except (AttributeError, ValueError):
+        return False
+
+
+def length_text(seconds: float) -> str:
+    """`4 s`, `2 min`."""
+    return f"{round(seconds)} s" if seconds < 100 else f"{round(seconds / 60)} min"
