@@ -89,9 +89,9 @@ LATE = """CREATE TEMP TABLE reached (serial INTEGER PRIMARY KEY);
     INSERT INTO temp.reached WITH RECURSIVE reached (serial) AS (
         SELECT serial FROM cp_row WHERE status IN ('W', 'S', 'E') AND deadline < :now
         UNION SELECT earlier.serial FROM reached
-            JOIN cp_row AS later ON later.serial = reached.serial AND later.status = 'W'
-            JOIN dependency AS pair ON pair.successor = later.serial
-            JOIN cp_row AS earlier ON earlier.serial = pair.predecessor AND earlier.status IN ('W', 'S', 'E')
+            CROSS JOIN cp_row AS later ON later.serial = reached.serial AND later.status = 'W'
+            CROSS JOIN dependency AS pair ON pair.successor = later.serial
+            CROSS JOIN cp_row AS earlier ON earlier.serial = pair.predecessor AND earlier.status IN ('W', 'S', 'E')
     ) SELECT serial FROM reached"""
 
 
@@ -105,12 +105,12 @@ def late_with_waits(plan: Plan, now: int) -> tuple[list[Row], list[tuple[int, in
         cursor.execute(text, {"now": now})
     asked = f"{SETS[0]} WHERE serial IN (SELECT serial FROM temp.reached) ORDER BY ia, app, serial"
     rows = [Row(*row) for row in cursor.execute(asked)]
-    pairs = cursor.execute("SELECT successor, predecessor FROM temp.reached JOIN dependency ON successor = serial "
-                           "WHERE predecessor IN (SELECT serial FROM temp.reached)")
-    return rows, pairs.fetchall()
+    asked = ("SELECT successor, predecessor FROM temp.reached CROSS JOIN dependency ON successor = serial "
+             "WHERE predecessor IN (SELECT serial FROM temp.reached)")
+    return rows, cursor.execute(asked).fetchall()
 
 
-OPEN_PAIRS = """reached JOIN dependency ON successor = reached.serial
+OPEN_PAIRS = """reached CROSS JOIN dependency ON successor = reached.serial
     WHERE EXISTS (SELECT 1 FROM ltp_row WHERE serial = predecessor)
     OR EXISTS (SELECT 1 FROM cp_row WHERE serial = predecessor AND status IN ('W', 'S', 'E'))"""
 
