@@ -1,5 +1,6 @@
-"""How far a command is, on standard error: what it does, how far it is, and how long it may still take. It is shown only
-where that is a terminal, and only of what takes more than a second."""
+"""How far a command is, on standard error: what it does, how far it is, and how long it may still take.
+
+It is shown only if standard error is a terminal, and only for what takes more than a second."""
 
 import contextlib
 import sys

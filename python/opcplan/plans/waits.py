@@ -106,7 +106,7 @@ def late_with_waits(plan: Plan, now: int) -> tuple[list[Row], list[tuple[int, in
     asked = f"{SETS[0]} WHERE serial IN (SELECT serial FROM temp.reached) ORDER BY ia, app, serial"
     rows = [Row(*row) for row in cursor.execute(asked)]
     asked = ("SELECT successor, predecessor FROM temp.reached CROSS JOIN dependency ON successor = serial "
-             "WHERE predecessor IN (SELECT serial FROM temp.reached)")
+             "WHERE +predecessor IN (SELECT serial FROM temp.reached)")
     return rows, cursor.execute(asked).fetchall()
 
 
