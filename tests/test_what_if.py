@@ -1,5 +1,6 @@
 """./plan what-if: what it shows against tools/reference/plain_planner.py, before and after; and that the plan stays."""
 
+import contextlib
 import os
 import re
 import tempfile
@@ -7,6 +8,9 @@ import unittest
 from pathlib import Path
 
 from support import plans
+
+from opcplan.commands import what_if
+from opcplan.plans import plan_file, waits
 
 plain = plans.plain
 STREAMS = ["week-of-daily-plans", "batch-through-all-sets", "each-list", "data-centre-year", "two-hundred-statements",
@@ -24,6 +28,12 @@ def places_of(planner):
     found |= {serial: (row, "H") for serial, row in planner.history.items()}
     found |= {serial: (row, reason.lower()) for serial, (row, reason) in planner.deleted.items()}
     return {serial: (row, PLACES[place]) for serial, (row, place) in found.items()}
+
+
+def cut(name, share):
+    """The first lines of a worked stream, of so many parts of twelve."""
+    lines = plans.stream(name).split(b"\n")
+    return b"\n".join(lines[: len(lines) * share // 12]) + b"\n"
 
 
 def table_wanted(before, after):
@@ -206,6 +216,30 @@ class WhatIf(unittest.TestCase):
         self.assertTrue(ran.stdout.startswith("1 accepted, 0 refused\n"))
         self.assertIn("\nfault 41: ", ran.stdout)
         self.assertIn("status 8", ran.stderr)
+
+
+class ChangedRows(unittest.TestCase):
+    """What is asked of both plans alone is what differs between all rows of the one and of the other."""
+
+    def check(self, before, after):
+        with contextlib.ExitStack() as files:
+            old, new = (files.enter_context(plan_file.opened(plans.of_stream(text))) for text in (before, after))
+            held, rows = ({row.serial: row for row in waits.rows_where(plan, "1")} for plan in (old, new))
+            wanted = [(held.get(serial), row) for serial, row in rows.items() if held.get(serial) != row]
+            wanted.sort(key=lambda pair: (pair[1].ia, pair[1].app, pair[1].serial))
+            self.assertEqual(what_if.changed_rows(old, new), wanted)
+            self.assertEqual(what_if.changed_rows(old, new), wanted, "nothing is left of the first time")
+            return {(old.place if old else "", new.place) for old, new in wanted}
+
+    def test_streams_that_go_on(self):
+        seen = set()
+        for name in ("week-of-daily-plans", "batch-through-all-sets", "two-hundred-statements"):
+            for share in range(0, 12, 3):
+                for more in (2, 3):
+                    with self.subTest(name, share=share, more=more):
+                        seen |= self.check(cut(name, share), cut(name, min(12, share + more)))
+            seen |= self.check(b"", plans.stream(name))
+        self.assertGreater(len(seen), 15, seen)
 
 
 if __name__ == "__main__":
