@@ -1,6 +1,7 @@
 """./plan lint: what it finds is, by the plain planner, what names nothing or means something else than it says."""
 
 import itertools
+import random
 import re
 import shutil
 import tempfile
@@ -11,7 +12,7 @@ from support import plans
 from support.plans import plain
 
 from opcplan.commands import lint
-from opcplan.plans import stream_state
+from opcplan.plans import plan_file, stream_state
 from opcplan.rules import lint_checks, moments
 
 from test_why_day import defined_by
@@ -296,6 +297,73 @@ ltp-create --from 2024-01-01 --to 2024-01-20 --job 5
                 if serial not in before or after - ia < ia - before[serial]:
                     found.append(serial)
         return found
+
+
+class WholeWalk(lint.Walk):
+    """A walk that looks at all applications at each planning statement."""
+
+    def touched(self):
+        return None
+
+
+class WhatChanged(unittest.TestCase):
+    """A look at what a statement may have changed finds what a look at all finds."""
+
+    NAMES, PERIODS, CALENDARS = ("A", "B", "C", "D"), ("DAY", "WEEK", "LIST"), ("CAL", "DEFAULT")
+
+    def statement(self, draw, job):
+        """A statement at random."""
+        app, other, period = draw.choice(self.NAMES), draw.choice(self.NAMES), draw.choice(self.PERIODS)
+        calendar, hour = draw.choice(self.CALENDARS), draw.randint(0, 23)
+        out = draw.choice(("", "2024-02-01"))
+        blocks = {
+            "applications": f"{app},{draw.choice('AAAP')},{draw.choice(('', calendar))}",
+            "run-cycles": f"{app},RC{draw.randint(1, 2)},{draw.choice('NNNX')},{period},{draw.choice('E1234')},"
+                          f"{draw.choice(('1', '-1', '2 9'))},2024-01-01,{out},{hour:02}.00,1,{(hour + 7) % 24:02}.30",
+            "predecessors": f"{app},{other}{draw.choice(('', ',4'))}",
+            "periods": draw.choice(("DAY,A,2024-01-01,1", "DAY,A,2024-01-01,2", "LIST,N,2024-01-01,2024-01-20")),
+            "calendars": f"{calendar},{draw.choice(('MON', 'SAT'))},FREE",
+        }
+        kind = draw.choice(list(blocks))
+        if draw.random() < 0.15:
+            name = {"periods": period, "calendars": calendar}.get(kind, app)
+            return f"undefine {kind} --name {name} --job {job}\n"
+        if draw.random() < 0.45:
+            return draw.choice((f"ltp-modify-all --job {job}\n", f"ltp-modify-one --app {app} --job {job}\n",
+                                f"ltp-extend --to 2024-0{draw.randint(3, 5)}-01 --job {job}\n"))
+        return f"define {kind} --job {job}\n{blocks[kind]}\n/*\n"
+
+    def walked(self, walk, now, text):
+        """The kinds of findings and what they are about, of a walk through a stream."""
+        one = walk(now)
+        for item in plans.items_of(text):
+            one.take(item, lint.reply_of(now, item))
+        return {(found.kind, found.about) for found in one.ended()}
+
+    def test_streams_at_random(self):
+        draw, kinds, changes = random.Random(2026), set(), 0
+        for number in range(120):
+            texts = [self.statement(draw, job) for job in range(1, 26)]
+            texts.insert(6, "ltp-create --from 2024-01-01 --to 2024-02-15 --job 99\n")
+            found = [self.walked(walk, stream_state.Known(is_whole=number % 2 == 0), "".join(texts))
+                     for walk in (lint.Walk, WholeWalk)]
+            with self.subTest(number):
+                self.assertEqual(*found)
+            kinds |= {kind for kind, _ in found[0]}
+            changes += "change" in {kind for kind, _ in found[0]}
+        self.assertGreater(len(kinds), 10, kinds)
+
+    def test_streams_at_random_over_a_plan(self):
+        draw, seen = random.Random(2027), 0
+        for number in range(12):
+            before = [self.statement(draw, job) for job in range(1, 15)]
+            before.append("ltp-create --from 2024-01-01 --to 2024-02-15 --job 99\n")
+            text = "".join(self.statement(draw, job) for job in range(100, 120))
+            with plan_file.opened(plans.of_stream("".join(before))) as plan, self.subTest(number):
+                found = [self.walked(walk, stream_state.of_plan(plan), text) for walk in (lint.Walk, WholeWalk)]
+                self.assertEqual(*found)
+                seen += len(found[0])
+        self.assertGreater(seen, 20)
 
 
 class Command(unittest.TestCase):
