@@ -1,6 +1,7 @@
 """What README.md and docs/use/RECIPES.md have to type: tools/reference/plain_planner.py answers it so; and what is
 wrong is told."""
 
+import os
 import re
 import subprocess
 import tempfile
@@ -37,6 +38,33 @@ class Pages(unittest.TestCase):
 
     def test_plain_planner_answers_the_readme_so(self):
         done = typed("README.md")
+        self.assertEqual((done.returncode, done.stdout), (0, "3 passed, 0 failed\n"))
+
+    def test_what_the_readme_does_not_type_is_in_the_makefile(self):
+        """Each command of a block that isn't typed is a target of make, whose tools are there and can be run."""
+        text = (plans.TOP / "README.md").read_text(encoding="utf-8")
+        commands = re.findall(r"^```sh\n(.*?)\n```$", text, re.M | re.S)
+        self.assertEqual(commands, ["make test", "make gate"])
+        for command in commands:
+            done = subprocess.run(command.split() + ["-n"], cwd=plans.TOP, capture_output=True, encoding="utf-8",
+                                  check=False, timeout=60)
+            self.assertEqual((done.returncode, done.stderr), (0, ""))
+            tools = re.findall(r"(?<![\w/.-])(?:tools/gate/|\.ci/)[\w-]+", done.stdout)
+            self.assertTrue(tools, command)
+            self.assertEqual([tool for tool in tools if not os.access(plans.TOP / tool, os.X_OK)], [])
+
+    def test_picture_of_the_page(self):
+        """The README begins with a picture that is there, small, and as wide as tools/browser/page-picture makes it."""
+        text = (plans.TOP / "README.md").read_text(encoding="utf-8")
+        alt, place = re.search(r"^# opcplan\n\n!\[(.+)\]\((.+)\)$", text, re.M).groups()
+        data = (plans.TOP / place).read_bytes()
+        self.assertEqual(data[:8], b"\x89PNG\r\n\x1a\n")
+        self.assertLess(len(data), 150_000)
+        self.assertEqual(int.from_bytes(data[16:20]), 1200)
+        self.assertGreater(len(alt), 20)
+
+    def test_block_that_is_not_typed(self):
+        done = self.of("```sh\nexit 3\n```\n```console\n$ true\n```\n")
         self.assertEqual((done.returncode, done.stdout), (0, "2 passed, 0 failed\n"))
 
     def test_pages_that_the_program_names_are_there(self):

@@ -22,6 +22,8 @@ ROOTS = """WITH RECURSIVE way (s) AS (SELECT ? UNION SELECT predecessor FROM dep
 ARRIVALS = """SELECT app, count(*) FROM (SELECT app, ia FROM ltp_row UNION ALL SELECT app, ia FROM history_row
     UNION ALL SELECT app, ia FROM cp_row WHERE status <> 'D') WHERE ia / 1440 BETWEEN ? AND ? GROUP BY 1"""
 SHOWN_ROWS = "[...document.querySelectorAll('.row[data-i]')].map(x => +x.dataset.i)"
+# opens the runs of each application that are one line
+OPENED = "D.apps.forEach(one => view.opened.add('runs ' + one[0]))"
 # what is typed into the search is drawn a little later, by a clock that a busy machine holds up too
 SETTLED = "new Promise(done => setTimeout(done, 300))"
 
@@ -63,7 +65,7 @@ def counts(browser, page, ask):
 
 def rows_of_the_day(browser, page, ask):
     """A day has a row for each occurrence and no other, by SQLite and by the lists of the planner."""
-    browser.js(f"view.kind = 'all'; showFrom({DAY})")
+    browser.js(f"{OPENED}; view.kind = 'all'; showFrom({DAY})")
     shown = browser.js(f"{SHOWN_ROWS}.filter(i => !isGone(i)).map(i => serial[i])")
     wanted = {serial for serial, in ask_plan(f"""SELECT serial FROM (SELECT serial, ia, deadline, status FROM cp_row
         WHERE status <> 'D' UNION ALL SELECT serial, ia, deadline, 'L' FROM ltp_row
@@ -80,7 +82,7 @@ def rows_of_the_day(browser, page, ask):
     arriving = browser.js(f"{SHOWN_ROWS}.filter(i => !isGone(i) && dayOf(ia[i]) * DAY === {DAY})"
                           ".map(i => [serial[i], name(i)])")
     ask(dict(arriving) == listed, "what arrives on a day, by the lists", set(dict(arriving)) ^ set(listed))
-    browser.js("view.kind = 'open'; showNow()")
+    browser.js("view.opened.clear(); view.kind = 'open'; showNow()")
 
 
 def card(browser, page, ask):
@@ -152,7 +154,7 @@ def paper(browser, page, ask):
     browser.media(dark=True, printed=True)
     browser.js("dispatchEvent(new Event('beforeprint'))")
     ask(browser.js("getComputedStyle(document.body).backgroundColor") == "rgb(255, 255, 255)", "paper is white")
-    seen = browser.js("[...document.querySelectorAll('#due .go')].filter(x => x.getClientRects().length)"
+    seen = browser.js("[...document.querySelectorAll('#needs .go, #needs .waits .in')].filter(x => x.getClientRects().length)"
                       ".map(x => serial[+x.dataset.i])")
     late = {serial for serial, in ask_plan(f"SELECT serial FROM cp_row WHERE {LATE}", NOW)}
     ask(late <= set(seen), "all that is late is on paper", late - set(seen))

@@ -176,7 +176,7 @@ def place(browser, folder, ask):
     room = Room(browser, folder, ask)
     room.open()
     room.js("document.querySelectorAll('.more').forEach(button => button.click())")
-    room.js("document.querySelectorAll('#due details').forEach(one => { one.drawLines(); one.open = true; })")
+    room.js("document.querySelectorAll('#needs details').forEach(one => { one.drawLines?.(); one.open = true; })")
     chosen = room.row("state(i) === 'F' && !(before.get(i) || []).length")
     select = "getSelection().selectAllChildren(document.querySelector('#card code'))"
     room.js(f"choose(rowOfSerial({chosen})); {select}")
@@ -185,7 +185,7 @@ def place(browser, folder, ask):
     seen = """(() => { const cell = [...document.querySelectorAll('tbody button[data-a]')]
         .find(x => x.getBoundingClientRect().top > 120);
         return [cell.textContent, cell.getBoundingClientRect().top]; })()"""
-    before = room.js(f"[{seen}, document.querySelectorAll('#due details[open]').length, "
+    before = room.js(f"[{seen}, document.querySelectorAll('#needs details[open]').length, "
                      "document.querySelectorAll('#next li').length]")
     ready = room.row("state(i) === 'R'")
     for text in (f"cp-start {room.key_of(ready)}\n", "cp-add --app STOCKUPDATE --ia 2026-11-25/05.58\n",
@@ -193,7 +193,7 @@ def place(browser, folder, ask):
         count, told = room.js("lately.length"), room.post(text)
         ask(told.startswith("ok"), text, told)
         room.comes(f"lately.length > {count} && {SETTLED}", text.split()[0], 2)
-        after = room.js(f"[{seen}, document.querySelectorAll('#due details[open]').length, "
+        after = room.js(f"[{seen}, document.querySelectorAll('#needs details[open]').length, "
                         "document.querySelectorAll('#next li').length]")
         ask(after[0][0] == before[0][0] and abs(after[0][1] - before[0][1]) <= 1, "where one reads stays",
             (before[0], after[0]))
@@ -388,9 +388,9 @@ def looks(browser, folder, ask, pictures=None):
             steps = {
                 "buttons": "choose([...Array(rowCount).keys()].find(i => 'RSE'.includes(state(i)))); "
                            "answers.set(serial[view.pick], { text: ['It is started (ok serial 242 status S).'], "
-                           "look: 'is-done' }); drawCardAnew()",
+                           "look: 'is-done' }); showCard()",
                 "sure": "answers.set(serial[view.pick], { sure: 'delete', look: 'is-late', "
-                        "text: ['Press once more'] }); drawCardAnew()",
+                        "text: ['Press once more'] }); showCard()",
                 "trial": "choose(-1); document.querySelector('#look').click(); "
                          "new Promise(done => setTimeout(done, 700))",
                 "planning": "document.querySelectorAll('#trial details').forEach(one => { one.open = true; }); "
@@ -401,7 +401,7 @@ def looks(browser, folder, ask, pictures=None):
                 room.js(text)
                 wide = room.js("document.documentElement.scrollWidth")
                 ask(wide <= width, f"{look}, {step}: nothing stands out", wide)
-                faint = browser.js(FAINT.replace("'.hidden", "'.rows.dim, :disabled, .hidden"))
+                faint = browser.js(FAINT.replace("'.hidden", "':disabled, .hidden"))
                 ask(not faint, f"{look}, {step}: contrast", faint[:5])
                 ask(not browser.js(NAMELESS), f"{look}, {step}: names", browser.js(NAMELESS))
                 if pictures:

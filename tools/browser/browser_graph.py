@@ -5,7 +5,7 @@ from support import large_plans
 
 from opcplan.rules import moments
 
-from browser_checks import LATE, NOW, OPEN_PAIRS, SETTLED, SIZES, ask_plan, row_of, texts
+from browser_checks import LATE, NOW, OPENED, OPEN_PAIRS, SETTLED, SIZES, ask_plan, row_of, texts
 from browser_keys import focus
 from browser_plans import FAINT, written
 
@@ -139,8 +139,12 @@ def filtered(browser, page, ask):
         started = ask_plan(f"SELECT count(*) FROM cp_row WHERE {like} AND status = 'S'")[0][0]
         tiles = [int(text) for text in browser.js(texts(".tiles b"))]
         ask([tiles[0], tiles[1], tiles[4]] == [errors, late, started], f"tiles of {word}", tiles)
-        ask(len(browser.js(texts("#mend .go"))) == errors, f"what is to be mended of {word}")
-        shown = browser.js("[...document.querySelectorAll('#due .go')].filter(x => late.has(+x.dataset.i)).length")
+        browser.js("document.querySelectorAll('#needs details').forEach(x => { x.drawLines?.(); x.open = true; })")
+        shown = browser.js("[...document.querySelectorAll('#needs .go, #needs .waits .in')]"
+                           ".filter(x => state(+x.dataset.i) === 'E').length")
+        ask(shown == errors, f"what is to be mended of {word}", shown)
+        shown = browser.js("[...document.querySelectorAll('#needs .go, #needs .waits .in')]"
+                           ".filter(x => late.has(+x.dataset.i)).length")
         ask(shown == late, f"what is late of {word}", shown)
         for place, number in enumerate(tiles):
             browser.js(f"document.querySelectorAll('.tiles button')[{place}].click()")
@@ -161,19 +165,14 @@ def filtered(browser, page, ask):
 def told_apart(browser, page, ask):
     """Wherever a row is named, its arrival stands beside its name; and what holds others up holds somebody."""
     browser.open(page)
-    browser.js("document.querySelectorAll('#now details').forEach(x => { x.drawLines(); x.open = true; })")
+    browser.js("document.querySelectorAll('#now details').forEach(x => { x.drawLines?.(); x.open = true; })")
     names = browser.js("[...document.querySelectorAll('#now .in')].map(x => x.textContent)")
     ask(len(names) > 10 and all(name[-3] == "." for name in names), "names in sentences have a time", names[:3])
     heads = browser.js("[...document.querySelectorAll('#now .go')].map(x => x.children[1].textContent)")
     ask(all(head[-3] == "." for head in heads), "names in lists have a time", heads[:3])
-    day = browser.js("view.kind = 'all'; drawDay(); [...document.querySelectorAll('.row[data-i]')]"
+    day = browser.js(f"{OPENED}; view.kind = 'all'; drawDay(); [...document.querySelectorAll('.row[data-i]')]"
                      ".map(x => x.querySelector('.lab').textContent.slice(1))")
     ask(len(day) == len(set(day)), "rows of a day are told apart", sorted(one for one in day if day.count(one) > 1)[:3])
-    held = browser.js(texts("#holds .go .when"))
-    ask(held and all(text[6:].isdigit() and int(text[6:]) > 0 for text in held), "what holds others up", held)
-    errors = ask_plan("SELECT app FROM cp_row WHERE status = 'E'")
-    mend = browser.js(texts("#mend .go .name"))
-    ask(sorted(mend) == sorted(app for app, in errors), "what is to be mended", mend)
     ask(browser.js("document.querySelector('.jobs caption').textContent").endswith("by job number"), "caption")
 
 

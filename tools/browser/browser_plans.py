@@ -38,7 +38,9 @@ FAINT = """(() => {
     const own = [...x.childNodes].some(n => n.nodeType === 3 && n.data.trim());
     if (!own || !x.getClientRects().length || x.closest('.hidden, noscript, title, option, script, style')) continue;
     const style = getComputedStyle(x), text = parse(x.ownerSVGElement ? style.fill : style.color);
-    const [a, b] = [light(text), light(behind(x.ownerSVGElement?.parentElement || x))];
+    const sign = x.matches('.letter') && parse(getComputedStyle(x.parentNode.querySelector('.sign')).fill);
+    const ground = sign && sign.length === 3 ? sign : behind(x.ownerSVGElement?.parentElement || x);
+    const [a, b] = [light(text), light(ground)];
     const ratio = (Math.max(a, b) + .05) / (Math.min(a, b) + .05);
     const look = x.tagName + '.' + (x.className.baseVal ?? x.className);
     if (ratio < 4.5) found.push([look, x.textContent.slice(0, 20), ratio]);
@@ -102,7 +104,7 @@ def widths(browser, folder, ask):
             ask(not faint, f"{look}: contrast", faint[:5])
             browser.js("choose([...rootOf.keys()][0]); view.kind = 'all'; drawDay()")
             ask(browser.js("document.documentElement.scrollWidth") <= width, f"{look}: with a card")
-            faint = browser.js(FAINT.replace("'.hidden", "'.rows.dim, .hidden"))
+            faint = browser.js(FAINT)
             ask(not faint, f"{look}: contrast with a card", faint[:5])
             ask(not browser.js(NAMELESS), f"{look}: names", browser.js(NAMELESS))
             ask(not browser.complaints(), f"{look}: the console", browser.complaints())
@@ -136,7 +138,7 @@ def empty(browser, folder, ask):
     browser.js("document.querySelector('#find').value = 'NOSUCH'; find(); new Promise(done => setTimeout(done, 400))")
     text = browser.js("document.body.innerText")
     for said in ("Nothing of “NOSUCH” in these hours", "Nothing of “NOSUCH” runs in this month",
-                 "None of these is late", "None of these waits to be started",
+                 "None of these is in error, late", "None of these waits to be started",
                  "only applications with “NOSUCH”: 0 of "):
         ask(said in text, f"a search without a match: {said}")
     browser.open(os.path.join(folder, "centre.html"), scripts=False)

@@ -30,9 +30,9 @@ function foldedRuns(rows) {
 /** The lines of the day: rows, those that stand for several runs of an application, and where these are too many, groups
  *  of applications. */
 function linesOf(rows) {
-  const folded = foldedRuns(rows), groups = new Map(), letters = sharedLetters(rows);
-  for (const i of rows) put(groups, name(i).slice(0, letters), i);
-  const isGrouped = folded.length > 400 && groups.size > 1;
+  const folded = foldedRuns(rows), groups = new Map(), letters = folded.length > 400 ? sharedLetters(rows) : 0;
+  for (const i of letters ? rows : []) put(groups, name(i).slice(0, letters), i);
+  const isGrouped = groups.size > 1;
   const lines = !isGrouped ? folded
     : [...groups].flatMap(([key, inside]) => foldOf('group ' + key, key + '…', inside, foldedRuns(inside)));
   view.reveal = false;

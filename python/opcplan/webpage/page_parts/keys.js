@@ -61,9 +61,10 @@ let titleOfAll = document.title;
 
 /** Says in the title of the tab how bad it is, of what is filtered too. */
 function nameTab() {
-  const errors = countStates(i => isWanted(i) && KINDS.error(i)).E, lates = [...late].filter(isWanted).length;
-  document.title = isFiltered() ? errors + ' in error, ' + lates + ' late of ' + findText() + ': ' + titleOfAll
-    : titleOfAll;
+  document.title = titleOfAll;
+  if (!isFiltered()) return;
+  const counts = countStates(isWanted);
+  document.title = counts.E + ' in error, ' + counts.late + ' late of ' + findText() + ': ' + titleOfAll;
 }
 
 const SERIAL = /^#?0*([1-9]\d{0,8})$/, KEY = /^(\S+)\s+(\d{4}-\d\d-\d\d)(?:[/T]|\s+)(\d\d)[.:](\d\d)$/;

@@ -2,7 +2,7 @@
 const MOST_LATELY = 100, MOST_JOBS = 3000, LONGEST_WAIT = 2000, HOUR = 3600000;
 /** How far the desk was heard, as of where the rows were fetched, and what is under way. */
 const live = { position: desk.position, shown: desk.position, isOld: false, isFetching: false, resting: 0,
-  failed: 0, tries: 0, drawing: 0, cost: 0, begun: Date.now(), source: null, lost: '' };
+  failed: 0, tries: 0, drawing: 0, drawn: 0, cost: 0, begun: Date.now(), source: null, lost: '' };
 const changes = [];  // statuses behind the rows that were fetched: position, serial, status
 const lately = [], unsaid = [], ownKeys = new Set();
 let applied = 0;
@@ -49,15 +49,17 @@ function applyChanges() {
   settle(clockNow());
 }
 
-/** Draws soon, and the later the longer a drawing takes. */
+/** Draws soon: at once after a rest, and behind another drawing the later the longer that took. */
 function drawSoon() {
+  const rested = performance.now() - live.drawn, rest = Math.min(LONGEST_WAIT, 4 * live.cost);
   live.drawing ||= setTimeout(() => {
     live.drawing = 0;
     const begun = performance.now();
     drawAll(applyChanges);
-    live.cost = performance.now() - begun;
+    live.drawn = performance.now();
+    live.cost = live.drawn - begun;
     sayChanges();
-  }, Math.min(LONGEST_WAIT, Math.max(40, 4 * live.cost)));
+  }, Math.max(40, rest - rested));
 }
 
 /** Says what others changed, where it isn't too much. */
@@ -192,7 +194,7 @@ async function fetchLately() {
     if (!found.ok) return;
     const lines = (await found.text()).split('\n').filter(Boolean).map(line => JSON.parse(line));
     lately.unshift(...lines.filter(one => one.seq <= desk.position));
-    drawSoon();
+    redraw(['#changed'], drawChanges);
   } catch {
     return;
   }

@@ -8,65 +8,79 @@ function setStatus(i, status) {
   D.state[i] = status === 'W' ? 'R' : status;
 }
 
-/** Finds anew what stands how at a moment, from the statuses alone. */
+/** Finds what follows from the statuses at a moment: states, lateness, roots, what is at risk, what is held up. It goes
+ *  through all rows in arrays of numbers, since a plan may have 200,000. */
 function settle(now) {
   D.now = now;
   if (typeof D.state === 'string') D.state = Array.from(D.state);
-  const waits = new Map(), held = new Map();
-  for (const found of [late, risk, rootOf]) found.clear();
+  const open = new Uint8Array(rowCount), left = new Int32Array(rowCount);
+  late.clear();
+  risk.clear();
+  roots.fill(-1);
   for (let i = 0; i < rowCount; i++) {
     if (!isOpen(i)) continue;
+    open[i] = 1;
     if (due[i] < now) late.add(i);
-    if ('ES'.includes(state(i))) continue;
-    const left = openBefore(i);
-    if (left.length) waits.set(i, left);
-    for (const k of left) put(held, k, i);
-    D.state[i] = ia[i] > now ? 'F' : left.length ? 'B' : 'R';
   }
-  findRoots(waits, held);
-  for (const [i, root] of rootOf) if (!late.has(i) && (state(root) === 'E' || late.has(root))) risk.add(i);
-  findHolds(waits, held);
+  for (let i = 0; i < rowCount; i++) {
+    if (!open[i] || D.state[i] === 'E' || D.state[i] === 'S') continue;
+    for (const k of before.get(i) || []) left[i] += open[k];
+    D.state[i] = ia[i] > now ? 'F' : left[i] ? 'B' : 'R';
+  }
+  const waits = left.map(number => number > 0);
+  const heads = findRoots(open, waits, left);
+  for (let i = 0; i < rowCount; i++) {
+    if (roots[i] >= 0 && !late.has(i) && (D.state[roots[i]] === 'E' || late.has(roots[i]))) risk.add(i);
+  }
+  findHolds(heads, waits);
 }
 
-/** Gives each row that waits the worst of its roots: first those in error, then those started, then by deadline. */
-function findRoots(waits, held) {
-  const left = new Map(Array.from(waits, ([i, rows]) => [i, rows.length]));
-  const done = [...held.keys()].filter(i => !waits.has(i));
-  const isWorse = (a, b) => (ROOT_RANK[state(a)] - ROOT_RANK[state(b)] || due[a] - due[b] || a - b) < 0;
+/** Gives each row that waits the worst of its roots: first those in error, then those started, then by deadline; the
+ *  rows that wait for nothing and are waited for are answered. */
+function findRoots(open, waits, left) {
+  const rank = i => ROOT_RANK[D.state[i]];
+  const isWorse = (a, b) => (rank(a) - rank(b) || due[a] - due[b] || a - b) < 0;
+  const heads = [];
+  for (let i = 0; i < rowCount; i++) {
+    if (open[i] && !waits[i] && (after.get(i) || []).some(k => waits[k])) heads.push(i);
+  }
+  const done = heads.slice();
   while (done.length) {
-    for (const later of held.get(done.pop()) || []) {
-      left.set(later, left.get(later) - 1);
-      if (left.get(later)) continue;
-      rootOf.set(later, waits.get(later).map(k => rootOf.get(k) ?? k).reduce((a, b) => isWorse(b, a) ? b : a));
-      done.push(later);
+    const i = done.pop(), root = roots[i] < 0 ? i : roots[i];
+    for (const later of after.get(i) || []) {
+      if (!waits[later]) continue;
+      if (roots[later] < 0 || root !== roots[later] && isWorse(root, roots[later])) roots[later] = root;
+      if (!--left[later]) done.push(later);
     }
   }
+  return heads;
 }
 
-/** What is reached from a row by steps, without itself; a little more than the most where there is more. */
-function reached(start, steps) {
-  const seen = new Set([start]), left = [start];
-  while (left.length && seen.size <= MOST_HELD) {
-    for (const i of steps.get(left.pop()) || []) {
-      if (seen.has(i)) continue;
-      seen.add(i);
-      left.push(i);
+/** What waits for a row, at once or behind others, without itself; a little more than the most where there is more. */
+function reached(start, waits, seen, mark) {
+  const found = [], queue = [start];
+  seen[start] = mark;
+  while (queue.length && found.length < MOST_HELD) {
+    for (const i of after.get(queue.pop()) || []) {
+      if (!waits[i] || seen[i] === mark) continue;
+      seen[i] = mark;
+      found.push(i);
+      queue.push(i);
     }
   }
-  seen.delete(start);
-  return [...seen];
+  return found;
 }
 
 /** The rows that arrived, wait for nothing and hold others up, the worst first. */
-function findHolds(waits, held) {
-  const notError = i => +(state(i) !== 'E');
-  const heads = [...held.keys()].filter(i => !waits.has(i) && 'ESR'.includes(state(i)))
+function findHolds(all, waits) {
+  const notError = i => +(state(i) !== 'E'), seen = new Int32Array(rowCount);
+  const heads = all.filter(i => 'ESR'.includes(state(i)))
     .sort((a, b) => notError(a) - notError(b) || due[a] - due[b] || a - b);
   D.holdCount = heads.length;
-  D.holds = heads.slice(0, MOST_HEADS).map(i => {
-    const rows = reached(i, held);
+  D.holds = heads.slice(0, MOST_HEADS).map((i, k) => {
+    const rows = reached(i, waits, seen, k + 1);
     const first = rows.reduce((a, b) => (due[b] - due[a] || b - a) < 0 ? b : a);
-    return [i, rows.length, rows.filter(k => late.has(k)).length, first];
+    return [i, rows.length, rows.filter(j => late.has(j)).length, first];
   }).sort((a, b) => notError(a[0]) - notError(b[0]) || b[2] - a[2] || b[1] - a[1] || due[a[0]] - due[b[0]]);
 }
 

@@ -30,7 +30,8 @@ if (may('operate')) {
   KEYS.splice(-1, 0, ['a', 'what may be done with the chosen row']);
   addEventListener('keydown', onActKey);
 }
-drawAll(applyChanges);
+if (clockNow() !== D.now) drawAll(applyChanges);
+else for (const [box, draw] of [['#changed', drawChanges], ['#card', showCard]]) redraw([box], draw);
 fit();
 hear();
 fetchLately();

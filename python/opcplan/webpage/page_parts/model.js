@@ -1,8 +1,8 @@
 'use strict';
 // The plan as columns of rows, which are named by their place, and what waits for what.
 const DAY = 1440;
-const late = new Set(), risk = new Set(), rootOf = new Map();
-let D, rowCount, serial, ia, due, before, after, perApp, bySerial;
+const late = new Set(), risk = new Set();
+let roots = new Int32Array(0), D, rowCount, serial, ia, due, before, after, perApp, bySerial;
 
 /** A list for each of many small numbers. */
 function lists() {
@@ -12,6 +12,14 @@ function lists() {
     put(k, value) { if (held[k]) held[k].push(value); else held[k] = [value]; },
   };
 }
+
+/** The root of each row that waits, as a map has it. */
+const rootOf = {
+  get: i => roots[i] >= 0 ? roots[i] : undefined,
+  has: i => roots[i] >= 0,
+  *[Symbol.iterator]() { for (let i = 0; i < rowCount; i++) if (roots[i] >= 0) yield [i, roots[i]]; },
+  keys: () => Array.from(rootOf, ([i]) => i),
+};
 
 function put(map, key, value) {
   const list = map.get(key);
@@ -33,7 +41,9 @@ function take(data) {
   [serial, ia, due] = [0, 0, 0].map(() => new Int32Array(rowCount));
   [before, after, perApp] = [lists(), lists(), lists()];
   bySerial = null;
-  for (const found of [late, risk, rootOf]) found.clear();
+  late.clear();
+  risk.clear();
+  roots = new Int32Array(rowCount).fill(-1);
   for (let i = 0, at = 0, number = 0; i < rowCount; i++) {
     serial[i] = number += D.rows.serial[i];
     ia[i] = at += D.rows.arrival[i];
@@ -46,7 +56,7 @@ function take(data) {
     before.put(row, other);
     after.put(other, row);
   });
-  eachOfRun(D.rows.roots, (row, root) => rootOf.set(row, root));
+  eachOfRun(D.rows.roots, (row, root) => { roots[row] = root; });
 }
 take(JSON.parse(document.getElementById('data').textContent));
 

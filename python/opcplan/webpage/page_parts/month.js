@@ -85,8 +85,7 @@ function drawMonthTools(run, idle) {
     h('b', { class: 'printed' }, monthName(months[view.month] * DAY)),
     h('span', { class: 'quiet' }, many(run, 'application runs', 'applications run') +
       (idle ? ', ' + idle + (idle === 1 ? ' does not' : ' do not') : '') +
-      '. A number tells how many arrive; it is darker where they are more than the application usually has. ' +
-      'Hatched is a free day of its calendar.'));
+      '. A number tells how many arrive, darker if that is more than usual; hatched is a free day of the calendar.'));
 }
 
 function sumRow(sums, first) {

@@ -1,24 +1,28 @@
 // What needs somebody, each row once and the worst first; beside it what may be started, and what arrives next.
 const MOST_NEEDS = 5;
 
-/** What is in error, what is late, and what the late wait for: these rows, those that wait for each, and those that are
- *  started in time and hold others up. What waits is put to the worst of its roots. */
+const byDue = (a, b) => due[a] - due[b] || a - b;
+
+/** What is in error, what is late, and what the late wait for: these rows, those that wait for each with how many of them
+ *  are late, and those that are started in time and hold others up. What waits is put to the worst of its roots. */
 function needsOf() {
   const needed = new Set(), waiting = new Map(), busy = [];
   for (let i = 0; i < rowCount; i++) {
-    if (!isOpen(i) || !isWanted(i)) continue;
-    const root = rootOf.get(i);
-    if (state(i) === 'E' || late.has(i)) needed.add(root !== undefined && isWanted(root) ? root : i);
-    if (state(i) === 'S' && !late.has(i) && isWaitedFor(i)) busy.push(i);
+    const isLate = late.has(i), key = state(i);
+    if (!isLate && key !== 'E' && key !== 'S' || !isWanted(i)) continue;
+    if (isLate || key === 'E') needed.add(roots[i] >= 0 && isWanted(roots[i]) ? roots[i] : i);
+    else if (isWaitedFor(i)) busy.push(i);
   }
-  for (const [i, root] of rootOf) if (needed.has(root) && isWanted(i) && !needed.has(i)) put(waiting, root, i);
-  const byDue = (a, b) => due[a] - due[b] || a - b;
-  for (const rows of waiting.values()) rows.sort(byDue);
-  const lates = new Map([...waiting].map(([root, rows]) => [root, rows.filter(i => late.has(i)).length]));
-  const size = (map, i, count = one => one) => map.has(i) ? count(map.get(i)) : 0;
-  const rows = [...needed].sort((a, b) => (state(b) === 'E') - (state(a) === 'E') || size(lates, b) - size(lates, a) ||
-    late.has(b) - late.has(a) || size(waiting, b, one => one.length) - size(waiting, a, one => one.length) ||
-    byDue(a, b));
+  for (const i of needed) waiting.set(i, { rows: [], late: 0 });
+  for (let i = 0; i < rowCount; i++) {
+    const found = roots[i] >= 0 && isWanted(i) ? waiting.get(roots[i]) : undefined;
+    if (!found) continue;
+    found.rows.push(i);
+    found.late += late.has(i);
+  }
+  const isError = i => +(state(i) === 'E'), of = i => waiting.get(i);
+  const rows = [...needed].sort((a, b) => isError(b) - isError(a) || of(b).late - of(a).late ||
+    late.has(b) - late.has(a) || of(b).rows.length - of(a).rows.length || byDue(a, b));
   return { rows, needed, waiting, busy: busy.filter(i => !needed.has(i)).sort(byDue) };
 }
 
@@ -59,13 +63,13 @@ function waitingPart(i, rows) {
 const dueLine = i => line(i, ['due ' + soon(due[i]), quiet(lateness(i))], why(i));
 
 /** A row that needs somebody: what is wrong, and what waits for it. */
-function needLine(i, rows = []) {
+function needLine(i, rows) {
   const [only] = rows, isOne = rows.length === 1 && heldBy(i) <= 1;
   const reason = rootOf.has(i) ? why(i) : [WORD[state(i)] + ', ' + (state(i) === 'F' ? 'arrives ' : 'arrived ') +
     soon(ia[i])];
   const others = rows.length || isFiltered() ? 0 : heldBy(i);
   const told = others ? ['; ' + others + (others === 1 ? ' waits' : ' wait') + ' for it, and for what is worse']
-    : isOne ? ['; ', only, ' waits for it, due ' + soon(due[only]) +
+    : isOne ? ['; ', h('span', { class: 'waits' }, reference(only)), ' waits for it, due ' + soon(due[only]) +
       (late.has(only) ? ', ' + lateness(only) : '')] : [];
   const entry = line(i, ['due ' + soon(due[i]), quiet(lateness(i))], [...reason, ...told]);
   if (rows.length && !isOne) entry.append(waitingPart(i, rows));
@@ -82,26 +86,28 @@ function busyPart(rows) {
 
 function drawNeeds({ rows, waiting, busy }) {
   const text = 'Nothing is in error, nothing is late, and nothing holds up what is late.';
-  fill('#needs', list('Needs you', rows, i => needLine(i, waiting.get(i)),
+  fill('#needs', list('Needs you', rows, i => needLine(i, waiting.get(i).rows.sort(byDue)),
     none(text, 'None of these is in error, late, or waited for by what is late.'), MOST_NEEDS), busyPart(busy));
 }
 
 /** What may be started, by deadline, and what arrives next: of each application the next one. */
 function drawNext({ needed }) {
-  const ready = [], coming = new Map();
+  const ready = [], next = new Map(), later = new Map();
+  let elsewhere = 0;
   for (let i = 0; i < rowCount; i++) {
-    if (!isOpen(i) || !isWanted(i) || needed.has(i)) continue;
-    if (state(i) === 'R') ready.push(i);
-    if (state(i) === 'F' && !needed.has(rootOf.get(i))) put(coming, app(i), i);
+    const key = state(i);
+    if (key !== 'R' && key !== 'F' || !isWanted(i)) continue;
+    if (needed.has(i)) elsewhere += key === 'R';
+    else if (key === 'R') ready.push(i);
+    else if (roots[i] >= 0 && needed.has(roots[i])) continue;
+    else if (next.has(app(i))) later.set(app(i), (later.get(app(i)) || 0) + 1);
+    else next.set(app(i), i);
   }
-  const others = KINDS.ready, lateReady = [...needed].filter(others).length;
-  ready.sort((a, b) => due[a] - due[b] || a - b);
-  const next = [...coming.values()].map(rows => rows[0]).sort((a, b) => ia[a] - ia[b] || due[a] - due[b]);
-  const more = i => state(i) === 'F' && coming.get(app(i)).length > 1
-    ? ['; ' + (coming.get(app(i)).length - 1) + ' more of it later'] : [];
-  fill('#next', list('Ready, and arriving next', ready.concat(next),
+  const rows = [...ready.sort(byDue), ...[...next.values()].sort((a, b) => ia[a] - ia[b] || byDue(a, b))];
+  const more = i => state(i) === 'F' && later.has(app(i)) ? ['; ' + later.get(app(i)) + ' more of it later'] : [];
+  fill('#next', list('Ready, and arriving next', rows,
     i => line(i, 'due ' + soon(due[i]), [...why(i), ...more(i)]),
     none('Nothing waits to be started.', 'None of these waits to be started.'), MOST_NEEDS),
-  lateReady ? h('p', { class: 'quiet beside' }, many(lateReady, 'more is', 'more are') +
+  elsewhere ? h('p', { class: 'quiet beside' }, many(elsewhere, 'more is', 'more are') +
     ' ready: see “Needs you”.') : '');
 }

@@ -42,10 +42,14 @@ function tile(look, number, label, under, kind) {
 function countStates(isCounted) {
   const counts = { C: 0, S: 0, R: 0, B: 0, F: 0, E: 0, total: 0, late: 0, risk: 0, hour: 0 };
   for (let i = 0; i < rowCount; i++) {
-    if (!(state(i) in counts) || !isCounted(i)) continue;
-    counts[state(i)]++;
+    const key = state(i);
+    if (counts[key] === undefined || !isCounted(i)) continue;
+    counts[key]++;
     counts.total++;
-    for (const kind of ['late', 'risk', 'hour']) counts[kind] += KINDS[kind](i);
+    if (key === 'C') continue;
+    if (due[i] >= D.now && due[i] <= D.now + 60) counts.hour++;
+    if (late.has(i)) counts.late++;
+    else if (risk.has(i)) counts.risk++;
   }
   return counts;
 }
