@@ -9,7 +9,7 @@ import signal
 import tempfile
 import time
 
-from support import data_centre, desks, plans
+from support import data_centre, desks, large_plans, plans
 
 from opcplan.rules import moments
 from opcplan.webpage import page_data
@@ -33,10 +33,10 @@ HELD = """[Array.from(serial), Array.from(ia), Array.from(due), Array.from(D.sta
 class Room:
     """A desk over a copy of the data centre's plan, a browser that shows its page, and another caller."""
 
-    def __init__(self, browser, folder, ask, *words):
+    def __init__(self, browser, folder, ask, *words, plan=None):
         self.browser, self.ask = browser, ask
         self.folder = tempfile.mkdtemp(dir=folder)
-        self.plan = plans.copy_of(plans.of_stream(data_centre.whole()), self.folder, "centre.db")
+        self.plan = plans.copy_of(plan or plans.of_stream(data_centre.whole()), self.folder, "centre.db")
         self.words = words
         self.desk = desks.Desk(self.plan, *words)
         self.token = None
@@ -434,4 +434,20 @@ def clock(browser, folder, ask):
     room.end()
 
 
-OF_DESKS = [another_caller, place, buttons, trials, roles, gone, clock]
+def large(browser, folder, ask):
+    """A start in a plan of 200,000 rows shows within two seconds."""
+    room = Room(browser, folder, ask, plan=large_plans.current())
+    room.open()
+    room.comes(SETTLED, "the page is at rest", 10)
+    for _ in range(3):
+        ready = room.row("state(i) === 'R'")
+        begun = browser.seconds()
+        ask(room.post(f"cp-start {room.key_of(ready)}\n").startswith("ok"), "a start")
+        room.comes(f"{STATE.format(ready)} === 'S'", "a start among 200,000 rows shows", 2)
+        took = browser.seconds() - begun
+        ask(took <= 2, "seconds of a processor until a start is drawn", took)
+    ask(not room.complaints(), "the console", room.complaints())
+    room.end()
+
+
+OF_DESKS = [another_caller, place, buttons, trials, roles, gone, clock, large]
