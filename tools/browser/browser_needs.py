@@ -96,7 +96,7 @@ def needs_of_an_evening(browser, folder, ask):
 
 
 def runs(browser, folder, ask):
-    """The runs of an application through a day are one line with their number, which opens; so in the months they are no
+    """The runs of an application through a day are one line with their number, which opens; in the months they are no
     darker than others."""
     browser.open(hourly_page(folder))
     browser.js("view.kind = 'all'; showFrom(dayOf(D.now) * DAY)")
@@ -118,8 +118,8 @@ def runs(browser, folder, ask):
     serial = ask_hourly("SELECT serial FROM cp_row WHERE app = 'MAILRUN' AND ia > ? ORDER BY ia", EVENING)[0][0]
     browser.js(f"view.kind = 'open'; choose(rowOfSerial({serial}))")
     ask(browser.js("laid.buttons.has(view.pick)"), "what is chosen is opened")
-    looks = browser.js("[...new Set([...document.querySelectorAll('td[data-d]')].filter(x => +x.dataset.d > dayOf(D.now))"
-                       ".map(x => x.className))]")
+    looks = browser.js("[...new Set([...document.querySelectorAll('td[data-d]')]"
+                       ".filter(x => +x.dataset.d > dayOf(D.now)).map(x => x.className))]")
     ask(looks == ["n1"], "days as usual look alike", looks)
 
 
@@ -193,6 +193,31 @@ def readable(browser, page, ask):
         ask(not browser.js(FAINT), f"the graph beside a chosen one, dark: {dark}", browser.js(FAINT)[:5])
 
 
+def reader(browser, page, ask):
+    """What a screen reader hears: landmarks, headings in their order, what is opened, and the state of each row."""
+    browser.open(page)
+    nodes = [one for one in browser.call("Accessibility.getFullAXTree")["nodes"] if not one["ignored"]]
+
+    def named(role):
+        return [one.get("name", {}).get("value", "") for one in nodes if one["role"]["value"] == role]
+
+    def is_expanded(name):
+        return [value["value"]["value"] for one in nodes if one.get("name", {}).get("value") == name
+                for value in one.get("properties", []) if value["name"] == "expanded"]
+
+    ask(len(named("main")) == len(named("banner")) == 1 and named("navigation") == ["Parts of the page"], "landmarks")
+    heard = [name.split(" 3")[0] for name in named("heading")]
+    ask(heard[:3] == [heard[0], "Now", "Needs you"] and [name for name in heard if name in ("Day", "Month", "Changes")]
+        == ["Day", "Month", "Changes"], "headings", heard)
+    ask(is_expanded("Signs and keys") == [False], "the legend is put away", is_expanded("Signs and keys"))
+    inside = [name for name in named("DisclosureTriangle") if " wait for it" in name]
+    ask(inside and "late; first due: " in inside[0], "what waits for an entry", named("DisclosureTriangle"))
+    states = [name for name in named("button") if ", due " in name]
+    words = ("in error", "started", "nothing is in its way", "waits for")
+    dumb = [name for name in states if not any(word in name for word in words)]
+    ask(len(states) > 20 and not dumb, "the state of each row", dumb[:3])
+
+
 def axis(browser, folder, ask):
     """The texts of the axis don't run into one another, at whatever moment and width."""
     page = hourly_page(folder)
@@ -209,5 +234,5 @@ def axis(browser, folder, ask):
         ask("22.30" in marks and (width < 500 or "Tue 5 Jan" in marks), f"now and the day at {width}", marks)
 
 
-OF_NEEDS = [needs_of_a_night, signs, legend, trouble, readable]
+OF_NEEDS = [needs_of_a_night, signs, legend, trouble, readable, reader]
 OF_SITE = [needs_of_an_evening, runs, axis]

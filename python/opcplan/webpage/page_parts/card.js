@@ -81,7 +81,8 @@ function drawCard(i) {
 }
 
 const SIGNS = [['E', 'in error'], ['S', 'started'], ['R', 'ready: arrived, nothing in its way'],
-  ['B', 'blocked by what it waits for'], ['F', 'waits for its time, which is to come'], ['C', 'complete'], ['H', 'complete, in history'],
+  ['B', 'blocked by what it waits for'], ['F', 'waits for its time, which is to come'],
+  ['C', 'complete'], ['H', 'complete, in history'],
   ['L', 'planned, not yet in the current plan'], ['D', 'deleted or withdrawn']];
 const KEYS = [['/', 'find an application'], ['↑ ↓', 'rows of the day, cells of the month'],
   ['← →', 'twelve hours back or on'], ['n', 'now'], ['t', 'next in trouble: first in error, then late'],
@@ -90,10 +91,11 @@ const KEYS = [['/', 'find an application'], ['↑ ↓', 'rows of the day, cells 
 
 function drawLegend() {
   fill('#card', close(), h('h2', {}, 'Signs and keys'),
-    h('p', { class: 'quiet' }, 'Choose a row: its card shows what it waits for, down to the root, and what waits for it.'),
+    h('p', { class: 'quiet' }, 'Choose a row: its card shows what it waits for, down to the root, and what waits ' +
+      'for it.'),
     h('h3', {}, 'Signs'), h('ul', { class: 'signs' }, SIGNS.map(([key, text]) =>
       h('li', {}, sign(key), text))),
-    h('p', { class: 'quiet' }, 'A box goes from input arrival to deadline; a line after it tells how long it is late. ' +
+    h('p', { class: 'quiet' }, 'A box goes from input arrival to deadline; a line after it says how late it is. ' +
       'In the lists of opcplan R, B and W are one status, W.'),
     h('h3', {}, 'Keys'), h('ul', { class: 'signs' }, KEYS.map(([key, text]) => h('li', {}, h('kbd', {}, key), text))));
 }
@@ -135,10 +137,10 @@ function showHelp(isShown) {
 
 /** Runs what draws anew, and keeps what has the focus at its height on the screen. */
 function keepHeight(draw) {
-  const height = () => document.activeElement === document.body ? 0 : document.activeElement.getBoundingClientRect().top;
-  const mark = () => document.activeElement.dataset.i ?? document.activeElement.id, [old, name] = [height(), mark()];
+  const active = () => document.activeElement, height = () => active().getBoundingClientRect().top;
+  const mark = () => active().dataset.i ?? active().id, [old, name] = [height(), mark()];
   draw();
-  if (mark() === name && height() !== old) scrollBy({ top: height() - old, behavior: 'instant' });
+  if (name && mark() === name && height() !== old) scrollBy({ top: height() - old, behavior: 'instant' });
 }
 
 /** Chooses a row, or none. */

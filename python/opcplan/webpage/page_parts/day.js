@@ -81,8 +81,8 @@ const isoDay = day => dateOf(day * DAY).toISOString().slice(0, 10);
 
 const AXIS = { most: 840, gap: 8, letter: 7.7, bold: 8.6, padding: 10 };  // in pixels; on paper there are so many
 
-/** The texts of the axis that don't run into one another: now, then the days, which move to the side of now, then hours.
- *  Each is a moment, a text, its look, and by which part of it it stands at the moment. */
+/** The texts of the axis that don't run into one another: now, then the days, which move to the side of now, then
+ *  hours. Each is a moment, a text, its look, and by which part of it it stands at the moment. */
 function axisMarks() {
   const { from } = view, isNow = D.now >= from && D.now < from + DAY, hour = innerWidth < 700 ? 240 : 120;
   const names = parseFloat(getComputedStyle(document.documentElement).getPropertyValue('--names'));
@@ -103,7 +103,9 @@ function axisMarks() {
   for (const day of [midnight, midnight + DAY]) {
     if (day < from + DAY) put(day, dayName(day), 'day', ['middle', 'left', 'right']);
   }
-  for (let m = Math.ceil((from + 1) / hour) * hour; m < from + DAY; m += hour) if (m % DAY) put(m, clock(m), '', ['middle']);
+  for (let m = Math.ceil((from + 1) / hour) * hour; m < from + DAY; m += hour) {
+    if (m % DAY) put(m, clock(m), '', ['middle']);
+  }
   return marks;
 }
 
@@ -123,7 +125,7 @@ function remark(i) {
   return due[i] > view.from + DAY ? 'due ' + at(due[i]) : '';
 }
 
-/** A row's picture: its box, a line from the deadline to now where it is late, and a remark, over which no arrow goes. */
+/** A row's picture: its box, a line from the deadline to now if it is late, and a remark, over which no arrow goes. */
 function track(i) {
   const left = share(ia[i]), right = Math.max(share(due[i]), left + .35), isThin = 'CH'.includes(state(i));
   const tail = late.has(i) ? Math.max(share(D.now), right) : right, text = remark(i);

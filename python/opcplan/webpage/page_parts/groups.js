@@ -27,8 +27,8 @@ function foldedRuns(rows) {
   });
 }
 
-/** The lines of the day: rows, those that stand for several runs of an application, and where these are too many, groups
- *  of applications. */
+/** The lines of the day: rows, lines that stand for several runs of an application, and if these are too many, groups of
+ *  applications. */
 function linesOf(rows) {
   const folded = foldedRuns(rows), groups = new Map(), letters = folded.length > 400 ? sharedLetters(rows) : 0;
   for (const i of letters ? rows : []) put(groups, name(i).slice(0, letters), i);
@@ -66,10 +66,11 @@ function runsOf(rows) {
   for (const i of rows) {
     const left = x(ia[i]), right = Math.max(x(due[i]), left + 6), [top, high] = 'CH'.includes(state(i)) ? [34, 32]
       : [20, 60];
-    boxes.set(state(i), (boxes.get(state(i)) || '') + 'M' + left + ' ' + top + 'H' + right + 'v' + high + 'H' + left + 'z');
+    const box = 'M' + left + ' ' + top + 'H' + right + 'v' + high + 'H' + left + 'z';
+    boxes.set(state(i), (boxes.get(state(i)) || '') + box);
     if (late.has(i)) lines += 'M' + right + ' 50H' + Math.max(x(D.now), right);
   }
-  return s('svg', { class: 'track', 'aria-hidden': 'true', viewBox: '0 0 ' + DAY + ' 100', preserveAspectRatio: 'none' },
+  return s('svg', { class: 'track', viewBox: '0 0 ' + DAY + ' 100', preserveAspectRatio: 'none' },
     [...boxes].map(([key, path]) => s('path', { class: 'k ' + key, d: path })),
     lines ? s('path', { class: 'over', d: lines }) : '');
 }

@@ -3,8 +3,9 @@ const MOST_NEEDS = 5;
 
 const byDue = (a, b) => due[a] - due[b] || a - b;
 
-/** What is in error, what is late, and what the late wait for: these rows, those that wait for each with how many of them
- *  are late, and those that are started in time and hold others up. What waits is put to the worst of its roots. */
+/** What is in error, what is late, and what the late wait for: these rows, those that wait for each with the number of
+ *  late ones among them, and those that are started in time and hold others up. What waits for several is under the
+ *  worst. */
 function needsOf() {
   const needed = new Set(), waiting = new Map(), busy = [];
   for (let i = 0; i < rowCount; i++) {

@@ -62,7 +62,8 @@ function summary(n) {
   const what = isFiltered() ? 'Of ' + findText() + ' in the current plan:' : 'Current plan:';
   const counts = [['C', n.C + ' of ' + n.total + ' complete'], ['S', n.S + ' started'], ['R', n.R + ' ready'],
     ['B', n.B + ' blocked'], ['F', n.F + ' to come'], ['E', n.E + ' in error']];
-  return [what, counts.map(([key, text], k) => [' ', h('span', { class: 'count' }, sign(key), text + (k < 5 ? ',' : '.'))]), ' ' + ends];
+  const told = ([key, text], k) => [' ', h('span', { class: 'count' }, sign(key), text + (k < 5 ? ',' : '.'))];
+  return [what, counts.map(told), ' ' + ends];
 }
 
 function drawTiles() {
