@@ -81,7 +81,7 @@ class Pages(unittest.TestCase):
         done = self.of(text.replace(f"{row}2", f"{row}3"))
         self.assertEqual(done.returncode, 1)
         self.assertIn("+000000003 LEDGER           G RC       2024-01-02 18.00", done.stdout)
-        self.assertTrue(done.stdout.endswith("1 passed, 1 failed\n"))
+        self.assertTrue(done.stdout.endswith("2 passed, 1 failed\n"))
 
     def test_refusal_that_is_not_announced_fails(self):
         for tail, status in (("refused 20\n[4]\n", 0), ("refused 20\n", 1), ("[4]\n", 1)):

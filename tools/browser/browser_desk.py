@@ -167,6 +167,8 @@ def another_caller(browser, folder, ask):
     tiles = [int(text) for text in room.js("[...document.querySelectorAll('.tiles b')].map(x => x.textContent)")]
     counted = room.js("(n => [n.E, n.late, n.risk, n.hour, n.S, n.R])(countStates(() => true))")
     ask(tiles == counted, "tiles", (tiles, counted))
+    short = room.js("[drawTopAnew(), document.querySelectorAll('#short li').length, D.short.length]")[1:]
+    ask(short[0] == short[1], "each definition that ends is told once", short)
     ask(not room.complaints(), "the console", room.complaints())
     room.end()
 

@@ -12,7 +12,7 @@ function drawTop() {
   $('#note').hidden = !notes.length;
   $('#note').textContent = notes.join(' ');
   $('#short').hidden = !D.short.length;
-  $('#short').append(...D.short.map(text => h('li', {}, text)));
+  $('#short').replaceChildren(...D.short.map(text => h('li', {}, text)));
   if (D.apps.length <= 2000) $('#names').append(...D.apps.map(one => h('option', { value: one[0] })));
   if (!created) for (const part of ['#needs', '#next', '#day']) $(part).hidden = true;
 }
