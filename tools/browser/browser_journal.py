@@ -24,9 +24,17 @@ CARDS = {
                   "Expected end 08.11"],
     ("FOXTROT", 3): ["Ran no run is known", "Takes no whole run is known", "Expected end not before 08.09"],
 }
-SHOWN = """[...document.querySelectorAll('#ends h3')].map(x => [x.textContent,
+SHOWN = """[...document.querySelectorAll('#ends h3')].map(x => [x.firstChild.textContent,
     [...x.nextElementSibling.querySelectorAll('.entry')].map(y => [...y.querySelectorAll('span:not(.b), p')]
     .filter(z => !z.querySelector('span')).map(z => z.textContent.trim()).filter(Boolean).join(' '))])"""
+
+# lists that stick to the one before them
+STICKING = """(() => {
+  const boxes = [...document.querySelectorAll('#now .pane')].map(x => x.getBoundingClientRect());
+  const isBelow = (a, b) => b.top < a.top && a.left < b.right && b.left < a.right && a.top - b.bottom < 10;
+  return [...document.querySelectorAll('#now h3')]
+    .filter(x => boxes.some(box => isBelow(x.getBoundingClientRect(), box))).map(x => x.textContent);
+})()"""
 
 
 def lists_and_cards(browser, folder, ask):
@@ -45,6 +53,7 @@ def lists_and_cards(browser, folder, ask):
             look = f"a journal at {width}, {'dark' if dark else 'light'}"
             found = {title: [" ".join(text.split()) for text in texts] for title, texts in browser.js(SHOWN)}
             ask(found == LISTS, f"{look}: lists", found)
+            ask(not browser.js(STICKING), f"{look}: lists are apart", browser.js(STICKING))
             for key, wanted in CARDS.items():
                 text = browser.js(f"choose(rowOfSerial({held.rows[key][0]})); "
                                   "[...document.querySelectorAll('#card dt')].map(x => x.textContent + "
