@@ -30,7 +30,8 @@ SHOWN = """[...document.querySelectorAll('#ends h3')].map(x => [x.firstChild.tex
 
 # lists that stick to the one before them
 STICKING = """(() => {
-  const boxes = [...document.querySelectorAll('#now .pane')].map(x => x.getBoundingClientRect());
+  const boxes = [...document.querySelectorAll('#now .pane:not(details:not([open]) *)')]
+    .map(x => x.getBoundingClientRect());
   const isBelow = (a, b) => b.top < a.top && a.left < b.right && b.left < a.right && a.top - b.bottom < 10;
   return [...document.querySelectorAll('#now h3')]
     .filter(x => boxes.some(box => isBelow(x.getBoundingClientRect(), box))).map(x => x.textContent);

@@ -206,9 +206,8 @@ def reader(browser, page, ask):
                 for value in one.get("properties", []) if value["name"] == "expanded"]
 
     ask(len(named("main")) == len(named("banner")) == 1 and named("navigation") == ["Parts of the page"], "landmarks")
-    heard = [name.split(" 3")[0] for name in named("heading")]
-    ask(heard[:3] == [heard[0], "Now", "Needs you"] and [name for name in heard if name in ("Day", "Month", "Changes")]
-        == ["Day", "Month", "Changes"], "headings", heard)
+    wanted = {"centre.db", "Now", "Needs you 3", "Day", "Month", "Changes"}
+    ask(wanted <= set(named("heading")), "headings", named("heading"))
     ask(is_expanded("Signs and keys") == [False], "the legend is put away", is_expanded("Signs and keys"))
     inside = [name for name in named("DisclosureTriangle") if " wait for it" in name]
     ask(inside and "late; first due: " in inside[0], "what waits for an entry", named("DisclosureTriangle"))
