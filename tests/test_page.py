@@ -15,6 +15,9 @@ from opcplan.webpage.page_queries import Row
 
 
 NOW = moments.moment_of(data_centre.NOW)
+LIVE = {path.name for path in page_html.PARTS.glob("live*")}
+# how an address names a row, and how the name of a field begins
+NO_IDS = {"o", "field-"}
 
 
 def lists_in(data):
@@ -167,6 +170,30 @@ class Centre(unittest.TestCase):
             digest = base64.b64encode(hashlib.sha256(inside.encode()).digest()).decode()
             self.assertIn(f"{tag}-src 'sha256-{digest}'", policy)
         self.assertIn("default-src 'none'", policy)
+
+
+class Parts(unittest.TestCase):
+    """The parts of which the page and the live page are put together."""
+
+    def test_each_part_is_used(self):
+        used = {*page_html.STYLES, *page_html.SCRIPTS, *LIVE, "page.html", "sign_in.html", "sign_in.css", "sign_in.js"}
+        self.assertEqual({path.name for path in page_html.PARTS.iterdir()}, used)
+
+    def test_scripts_name_elements_that_are_there(self):
+        """Each `#id` that a script names is in the page's HTML, or made by a script."""
+        scripts = page_html.joined(name for name in [*page_html.SCRIPTS, *LIVE] if name.endswith(".js"))
+        there = set(re.findall(r'\bid="([\w-]+)"', page_html.joined(["page.html"])))
+        there |= set(re.findall(r"\bid: '([\w-]+)'", scripts))
+        named = set(re.findall(r"['\"]#([a-z][\w-]*)(?=[\s'\"])", scripts)) - NO_IDS
+        self.assertGreater(len(named), 25)
+        self.assertEqual(named - there, set())
+
+    def test_letters_of_states(self):
+        """Ready, blocked and to come have letters of their own, and no two states of the current plan share one."""
+        words = page_html.joined(["words.js"])
+        letters = dict(re.findall(r"(\w): '(.)'", re.search(r"const LETTER = {(.*?)};", words)[1]))
+        shown = [letters.get(state, state) for state in "ESRBFCHLD"]
+        self.assertEqual(shown, list("ESRBWCHL") + ["\N{MULTIPLICATION SIGN}"])
 
 
 class Cut(unittest.TestCase):
