@@ -159,7 +159,8 @@ def limit(browser, folder, ask):
         browser.js("document.querySelector('.row.group').focus()")
         browser.key("Enter")
         opened = browser.js("document.activeElement.getAttribute('aria-expanded')")
-        ask(opened == "true" and browser.js("laid.buttons.size") > 0, f"{title}: a group is opened", opened)
+        inside = browser.js("laid.buttons.size + laid.folds.size")
+        ask(opened == "true" and inside > 0, f"{title}: a group is opened", (opened, inside))
         ask(browser.js("document.querySelectorAll('*').length") <= 10_000, f"{title}: elements of an opened group")
 
 
