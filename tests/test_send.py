@@ -401,7 +401,7 @@ class ToADesk(desks.Case):
                                      r"\(`cp-start`, job 500000001\)\n$")
         ran = self.send(*where, "start", "REPORT", "2024-01-01/21.00")
         self.assertIn("on that day REPORT arrives at 20.00 (is started, in the current plan)", ran.stderr)
-        ran = self.send(*where, "delete", "REPORT", "2024-01-20/20.00")
+        ran = self.send(*where, "delete", "REPORT", "2024-01-19/20.00")
         self.assertIn("it stands in the long-term plan: `ltp-delete` deletes it there", ran.stderr)
         self.end(desk)
         ran = self.send("--db", self.plan, "--program", plans.PROGRAM, "start", "REPORT", "2024-01-01/20.00")

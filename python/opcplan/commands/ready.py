@@ -4,13 +4,15 @@ import argparse
 import json
 import sys
 
-from opcplan.cli import words
+from opcplan.cli import colours, words
+from opcplan.cli.colours import Paint
 from opcplan.commands import export, late
 from opcplan.plans import plan_file, waits
 from opcplan.plans.plan_file import Plan
 from opcplan.plans.waits import Row
 from opcplan.rules import moments
 
+USUAL = "usual"  # the form by which it prints where none is named
 SUMMARY = "what may be started now: it has arrived, and nothing is in its way"
 # none of what it waits for stands in a place where it isn't complete
 READY = f"""SELECT {waits.COLUMNS}, status FROM cp_row
@@ -26,16 +28,22 @@ def add_words(parser: words.Parser) -> None:
     parser.description = (
         "Prints the occurrences of the current plan that wait, have arrived, and wait for nothing that isn't complete, "
         "the earliest deadline first: application, input arrival and serial, as statements and `./plan agent` have "
-        "them. The exit status is 1 where nothing is ready."
+        "them. On a terminal, and with --table, it is a table with the deadlines. The exit status is 1 where nothing is "
+        "ready."
     )
     words.add_plan(parser)
     parser.add_argument("--app", type=words.name, help="of this application alone")
     words.add_now(parser)
     form = parser.add_mutually_exclusive_group()
+    form.add_argument("--table", dest="form", action="store_const", const=None, help="a table with deadlines and run "
+                      "cycles, as on a terminal")
+    form.add_argument("--lines", dest="form", action="store_const", const=line_text, help="a line each, also on a "
+                      "terminal")
     form.add_argument("--json", dest="form", action="store_const", const=json_text, help="an object on each line")
     form.add_argument("-0", "--null", dest="form", action="store_const", const=null_text,
                       help="each of the three with a zero byte behind it, as for `xargs -0 -n 3`")
-    parser.set_defaults(form=line_text)
+    colours.add_words(parser)
+    parser.set_defaults(form=USUAL)
 
 
 def run(given: argparse.Namespace) -> int:
@@ -43,7 +51,11 @@ def run(given: argparse.Namespace) -> int:
     now = moments.now() if given.now is None else given.now
     found, notes = plan_file.answer(
         given.plan, lambda plan: (of_plan(plan, now, given.app), late.notes_on(plan, now)))
-    sys.stdout.write("".join(map(given.form, found)))
+    is_table = given.form is None or given.form == USUAL and sys.stdout.isatty()
+    if is_table:
+        print("\n".join(table_lines(found, now, Paint(given.color))))
+    else:
+        sys.stdout.write("".join(map(line_text if given.form == USUAL else given.form, found)))
     for note in notes:
         words.tell(note)
     return 0 if found else 1
@@ -52,6 +64,20 @@ def run(given: argparse.Namespace) -> int:
 def of_plan(plan: Plan, now: int, app: str | None = None) -> list[Row]:
     """The rows that are ready at a moment, the earliest deadline first."""
     return [Row(*row) for row in plan.db.execute(READY, {"now": now, "app": app})]
+
+
+def table_lines(rows: list[Row], now: int, paint: Paint) -> list[str]:
+    """A line for each row, in columns, with its deadline; or that there is none."""
+    if not rows:
+        return [f"Nothing is ready at {moments.moment_text(now)}."]
+    wide = max(11, *(len(row.app) for row in rows))
+    lines = [paint(f"{'application':{wide}}  {'arrives':16}  {'due':16}  {'left':>16}  {'run cycle':9}  serial", "bold")]
+    for row in rows:
+        left = waits.late_text(row, now) or waits.length_text(row.deadline - now)
+        text = f"{row.app:{wide}}  {moments.moment_text(row.ia)}  {moments.moment_text(row.deadline)}  {left:>16}  " \
+            f"{row.cycle or 'by hand':9}  {row.serial}"
+        lines.append(paint(text, "yellow" if waits.is_late(row, now) else None))
+    return lines
 
 
 def parts(row: Row) -> list[str]:

@@ -1,0 +1,127 @@
+"""./plan days: which days the definitions of a plan name, of all applications, or of a run cycle that isn't defined."""
+
+import argparse
+import dataclasses
+from collections.abc import Iterator
+from typing import NamedTuple
+
+from opcplan.cli import words
+from opcplan.commands import edit_run_cycle, edit_words
+from opcplan.commands.edit_change import Unmade
+from opcplan.plans import plan_definitions, plan_file
+from opcplan.plans.plan_file import Plan
+from opcplan.rules import moments, naming, naming_words, printable
+from opcplan.rules.definitions import LAST_DAY, Application, Definitions
+from opcplan.rules.naming_words import few, meant_text
+
+SUMMARY = "which days the definitions name, of all applications, or of a run cycle that you try"
+USUAL, MOST = 31, 1462  # days, where --to isn't given, and at most
+TRIED = "TRIED"
+
+
+class Named(NamedTuple):
+    """An occurrence that the definitions name: arrival, application, run cycle, deadline."""
+
+    ia: int
+    app: str
+    cycle: str
+    deadline: int
+
+
+def add_words(parser: words.Parser) -> None:
+    """Adds its words to a parser."""
+    parser.description = (
+        "Prints what the definitions of PLAN.db name, as they are now: application, input arrival, run cycle and "
+        "deadline, by arrival; of all active applications, or of one. With --try the days of a run cycle that isn't "
+        "defined, each with what names it: `--try period=MONTH rule=1 offsets=25`. Nothing is changed. The exit status "
+        "is 1 where no day is named."
+    )
+    words.add_plan(parser)
+    parser.add_argument("app", metavar="APP", type=words.name, nargs="?", help="the application (else all that are active)")
+    parser.add_argument("--try", dest="tried", metavar="FIELD=VALUE", type=edit_words.pair, nargs="+",
+                        help="period= and what else a run cycle has (rule=E, offsets=1, type=N, in-effect=, "
+                        "out-of-effect=, ia=00.00, deadline=), and calendar= for another than the default one")
+    parser.add_argument("--from", dest="first", type=words.day, metavar="D",
+                        help="from this day on (else from the end of the current plan on, or from today)")
+    parser.add_argument("--to", dest="last", type=words.day, metavar="D", help=f"up to this day (else {USUAL} days)")
+    parser.is_mixed = True
+
+
+def run(given: argparse.Namespace) -> int:
+    """Does what the words ask for; the exit status."""
+    with plan_file.opened(given.plan) as plan:
+        found, (first, last) = plan_definitions.of_plan(plan), span_of(plan, given)
+    if last < first or last - first >= MOST:
+        words.tell("--to is before --from" if last < first else f"at most {MOST:,} days are shown; --to names an earlier day")
+        return 2
+    try:
+        lines = tried_lines(found, given, first, last) if given.tried else named_lines(found, given, first, last)
+    except Unmade as why:
+        words.tell(str(why))
+        return why.status
+    span = f"from {moments.day_text(first)} to {moments.day_text(last)}"
+    print(printable.text(lines) if lines else f"No day is named {span}.")
+    return 0 if lines else 1
+
+
+def span_of(plan: Plan, given: argparse.Namespace) -> tuple[int, int]:
+    """The first and the last day that are shown."""
+    usual = plan.meta["plan_end"] // moments.DAY if plan.is_created else moments.now() // moments.DAY
+    first = usual if given.first is None else given.first
+    return first, min(LAST_DAY, first + USUAL - 1) if given.last is None else given.last
+
+
+def named_lines(found: Definitions, given: argparse.Namespace, first: int, last: int) -> list[str]:
+    """A line for each occurrence that is named."""
+    if given.app is not None and given.app not in found.applications:
+        raise Unmade(f"there is no application {given.app}{meant_text(given.app, found.applications)}")
+    for app in [given.app] if given.app else sorted(found.applications):
+        obstacle = naming.obstacle_of(found, app)
+        if obstacle is not None and (obstacle != "pending" or given.app):
+            words.tell(OBSTACLES[obstacle].format(app=app))
+    return [f"{one.app:16} {moments.moment_text(one.ia)} {one.cycle:8} {moments.moment_text(one.deadline)}"
+            for one in sorted(named(found, [given.app] if given.app else list(found.applications), first, last))]
+
+
+OBSTACLES = {
+    "pending": "{app} is pending, so nothing of it is planned",
+    "calendar": "{app} names a calendar that isn't defined, so nothing can be planned (22)",
+    "periods": "run cycles of {app} name periods that aren't defined, so nothing can be planned (23)",
+}
+
+
+def named(found: Definitions, apps: list[str], first: int, last: int) -> Iterator[Named]:
+    """What is named of some applications in a span of days."""
+    for app in apps:
+        if naming.obstacle_of(found, app) is not None or not found.run_cycles.get(app):
+            continue
+        for day in range(first, last + 1):
+            for one in naming.names(found, app, day).times:
+                if not one.excluded_by:
+                    yield Named(day * moments.DAY + one.time, app, one.cycle.name, one.deadline)
+
+
+def tried_lines(found: Definitions, given: argparse.Namespace, first: int, last: int) -> list[str]:
+    """A line for each day that a run cycle names which isn't defined."""
+    pairs = dict(given.tried)
+    if given.app or len(pairs) < len(given.tried):
+        raise Unmade("--try takes no APP: it goes by calendar=" if given.app else "a field is given twice", 2)
+    name = pairs.pop("calendar", "").upper() or None
+    if name is not None and name not in found.calendars:
+        raise Unmade(edit_words.lack("calendar", name, found.calendars))
+    fields = edit_run_cycle.wanted_fields(pairs.items())
+    if not fields.get("period"):
+        raise Unmade(f"period= is wanted too; the plan has {few(found.periods) or 'none'}", 2)
+    usual = {"type": "N", "rule": "E", "offsets": "1", "in effect": "1972-01-01", "out of effect": "",
+             "input arrival": "00.00", "deadline day": "0", "deadline time": "23.59"}
+    cycle = edit_run_cycle.cycle_of({"application": TRIED, "name": TRIED, **usual, **fields})
+    if cycle.period not in found.periods:
+        raise Unmade(edit_words.lack("period", cycle.period, found.periods))
+    tried = dataclasses.replace(found, applications={TRIED: Application(True, name)}, run_cycles={TRIED: {TRIED: cycle}})
+    lines = []
+    for day in range(first, last + 1):
+        (answer,) = naming.names(tried, TRIED, day).answers
+        if answer.names:
+            told = "; ".join(naming_words.told(tried, TRIED, day, answer))
+            lines.append(f"{naming_words.weekday_text(day):20}  {told}")
+    return lines
