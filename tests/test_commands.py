@@ -27,9 +27,12 @@ READERS = {
     "backup": ["PLAN", "COPY"],
     "edit": ["PLAN", "calendar", "DEFAULT", "2024-01-05", "free"],
     "import": ["--cron", "CRONTAB", "PLAN"],
+    "status": ["PLAN", "--now", "2024-01-02/12.00"],
+    "cal": ["PLAN", "DEFAULT", "2024"],
+    "days": ["PLAN", "--from", "2024-01-01"],
 }
 OF_STREAMS = {"explain", "lint"}
-WRITERS = {"restore", "send", "desk", "log", "agent"}
+WRITERS = {"init", "restore", "send", "desk", "log", "agent"}
 OF_JOURNALS = {"journal"}
 
 

@@ -38,6 +38,8 @@ class Line:
     weekdays_given: bool
     command: str
     text: str
+    user: str = ""
+    variables: tuple[tuple[str, str], ...] = ()  # what the crontab sets before the line, by name
 
     @property
     def times(self) -> list[int]:
@@ -51,6 +53,26 @@ def lines_of(text: str) -> Iterator[tuple[int, str]]:
         line = line.strip()
         if line and not line.startswith("#") and not VARIABLE.match(line):
             yield number, line
+
+
+def variables_of(text: str) -> dict[int, tuple[tuple[str, str], ...]]:
+    """What a crontab sets, by the number of each line of a job behind it; a later value of a name takes the place of an
+    earlier one."""
+    found: dict[int, tuple[tuple[str, str], ...]] = {}
+    held: dict[str, str] = {}
+    for number, line in enumerate(text.split("\n"), 1):
+        line = line.strip()
+        if line and not line.startswith("#") and VARIABLE.match(line):
+            name, _, value = line.partition("=")
+            held[unquoted(name.strip())] = unquoted(value.strip())
+        elif line and not line.startswith("#"):
+            found[number] = tuple(held.items())
+    return found
+
+
+def unquoted(text: str) -> str:
+    """A text without the quotes around it."""
+    return text[1:-1] if len(text) > 1 and text[0] == text[-1] and text[0] in "'\"" else text
 
 
 def zones_of(text: str) -> list[int]:
@@ -69,7 +91,7 @@ def read(number: int, text: str, has_user: bool) -> Line:
     weekdays = {(day - 1) % 7 for day in sets[4]}
     days_given, weekdays_given = not when[2].startswith("*"), not when[4].startswith("*")
     return Line(number, sorted(sets[0]), sorted(sets[1]), sets[2], sets[3], weekdays, days_given, weekdays_given,
-                parts[1].strip(), text)
+                parts[1].strip(), text, parts[0])
 
 
 def timing_of(text: str) -> tuple[list[str], str]:

@@ -8,6 +8,7 @@ from typing import NamedTuple
 from opcplan.cli import words
 from opcplan.commands import edit_run_cycle, edit_words
 from opcplan.commands.edit_change import Unmade
+from opcplan.errors import WrongWords
 from opcplan.plans import plan_definitions, plan_file
 from opcplan.plans.plan_file import Plan
 from opcplan.rules import moments, naming, naming_words, printable
@@ -52,13 +53,9 @@ def run(given: argparse.Namespace) -> int:
     with plan_file.opened(given.plan) as plan:
         found, (first, last) = plan_definitions.of_plan(plan), span_of(plan, given)
     if last < first or last - first >= MOST:
-        words.tell("--to is before --from" if last < first else f"at most {MOST:,} days are shown; --to names an earlier day")
-        return 2
-    try:
-        lines = tried_lines(found, given, first, last) if given.tried else named_lines(found, given, first, last)
-    except Unmade as why:
-        words.tell(str(why))
-        return why.status
+        raise WrongWords("--to is before --from" if last < first else
+                         f"at most {MOST:,} days are shown; --to names an earlier day")
+    lines = tried_lines(found, given, first, last) if given.tried else named_lines(found, given, first, last)
     span = f"from {moments.day_text(first)} to {moments.day_text(last)}"
     print(printable.text(lines) if lines else f"No day is named {span}.")
     return 0 if lines else 1

@@ -5,7 +5,7 @@ import datetime
 import sys
 
 from opcplan.cli import words
-from opcplan.commands import edit_calendar, edit_change, edit_words, import_cron, import_csv, import_forms, import_ics
+from opcplan.commands import cron_jobs, edit_calendar, edit_change, edit_words, import_cron, import_csv, import_forms, import_ics
 from opcplan.commands.edit_calendar import Entry
 from opcplan.commands.edit_change import Unmade
 from opcplan.commands.imported import Changes
@@ -14,6 +14,7 @@ from opcplan.plans.plan_file import Plan
 from opcplan.rules import stream
 from opcplan.rules.definitions import FIRST_DAY, LAST_DAY, LAST_PLANNING_DAY, Definitions
 from opcplan.rules.moments import DAY, EPOCH, day_text
+from opcplan.rules.naming_words import count_text, few
 
 SUMMARY = "the job stream that gives a plan holidays (iCalendar, CSV), or a crontab's jobs"
 LONGEST = 1461  # days that a plan may reach on
@@ -45,6 +46,9 @@ def add_words(parser: words.Parser) -> None:
                         help=f"the last day that is taken (else {LONGEST:,} days on; of CSV: each)")
     parser.add_argument("--system", action="store_true",
                         help="the lines of the crontab name a user before the command, as in /etc/crontab")
+    parser.add_argument("--jobs", metavar="DIR", type=words.file,
+                        help="write a job file into this folder for each application of the crontab, as `./plan agent "
+                        "--jobs DIR` runs it")
     edit_words.add_job(parser)
     words.add_plan(parser)
 
@@ -57,8 +61,13 @@ def run(given: argparse.Namespace) -> int:
         ask_words(given)
         found = plan_definitions.of_plan(plan)
         ask_calendar(found, given)
-        changes, told, left = taken(plan, found, given)
+        changes, told, left, lines = taken(plan, found, given)
+        if given.jobs:
+            cron_jobs.ask_folder(given.jobs, list(lines))
         text, job = edit_change.stream_of(plan, changes, given.job) if changes else ("", 0)
+        if given.jobs:
+            told += [f"{given.jobs}: {count_text(len(lines), 'job file')}, {few(lines)}.",
+                     *cron_jobs.write(given.jobs, lines)]
         told += edit_change.way_into(plan, changes, job)
     edit_words.tell([*left, *told])
     sys.stdout.write(text)
@@ -69,8 +78,8 @@ def ask_words(given: argparse.Namespace) -> None:
     """Asks that the words fit together."""
     if given.calendar is None and not given.cron:
         raise Unmade("--calendar NAME is wanted: the calendar that gets the days", 2)
-    if given.new and given.cron or given.system and not given.cron:
-        raise Unmade("--new is for holidays, and --system for a crontab", 2)
+    if given.new and given.cron or (given.system or given.jobs) and not given.cron:
+        raise Unmade("--new is for holidays, and --system and --jobs are for a crontab", 2)
     if given.first is not None and given.last is not None and given.last < given.first:
         raise Unmade("--to is before --from", 2)
 

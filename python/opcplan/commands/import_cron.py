@@ -21,6 +21,10 @@ MONTHS = [name.upper() for name in crontab.MONTHS]
 # words that stand before a command, and those of parts of a line that do no work of their own
 BEFORE = set("sudo nice ionice nohup env exec time chronic sh bash python3 python perl".split())
 WITH_VALUE = {"-n", "-u", "-g"}
+# names that say little of what runs, so that the folder above is named too; and folders that say nothing
+GENERIC = {"RUN", "MAIN", "START", "JOB", "INDEX", "SCRIPT", "CRON", "EXECUTE", "APP", "DO", "GO", "BATCH", "TASK", "UPDATE",
+           "DAILY", "WEEKLY", "MONTHLY", "HOURLY", "NIGHTLY", "BACKUP", "SYNC", "CLEANUP", "IMPORT", "EXPORT", "LOAD"}
+PLACES = {"BIN", "SBIN", "LOCAL", "USR", "OPT", "SRV", "HOME", "ETC", "VAR", "LIB", "TMP", "SCRIPTS", "JOBS", "TOOLS"}
 ASIDE = {"cd", "test", "[", "[[", "command", "true", ":", "export", "sleep", "umask", "."}
 
 
@@ -37,10 +41,12 @@ def changes(
 ) -> Changes:
     """The changes that a crontab's lines make, what is told of them, and what is left out, in sentences."""
     text, made = data.decode("utf-8-sig", "replace"), Made(found, calendar_name, first, last)
+    variables = crontab.variables_of(text)
     told, left = [], [f"line {number}: a time zone is set, and a plan has none." for number in crontab.zones_of(text)]
     for number, line in crontab.lines_of(text):
         try:
             read = crontab.read(number, line, has_user)
+            read.variables = variables.get(number, ())
             told.append(f"line {number}: {made.take(read)}: {line[:60]}")
         except Unfit as why:
             left.append(f"line {number} is left out: {why}: {line[:60]}")
@@ -56,7 +62,7 @@ def changes(
     ]
     kinds: tuple[tuple[str, dict[str, Any]], ...] = (
         ("periods", made.periods), ("applications", made.applications), ("run-cycles", made.cycles))
-    return Changes([Change(kind, names, []) for kind, names in kinds if names], told, left)
+    return Changes([Change(kind, names, []) for kind, names in kinds if names], told, left, made.lines)
 
 
 class Made:
@@ -67,7 +73,8 @@ class Made:
         self.periods: dict[str, Period] = {}
         self.applications: dict[str, Application] = {}
         self.cycles: dict[str, dict[str, RunCycle]] = {}
-        self.by_command: dict[str, str] = {}
+        self.by_command: dict[tuple[object, ...], str] = {}
+        self.lines: dict[str, Line] = {}  # by application the line whose command it runs
         self.used = {*found.applications, *found.run_cycles, *found.predecessors,
                      *(name for listed in found.predecessors.values() for name in listed)}
 
@@ -77,9 +84,11 @@ class Made:
             raise Unfit(f"it runs {len(line.times):,} times a day, and at most {MOST_TIMES} are taken")
         ways = days_of(line)
         counted = [(way.kind, *self.period_of(*way)) for way in ways]
-        if line.command not in self.by_command:
-            self.by_command[line.command] = self.app_name(line)
-        app = self.by_command[line.command]
+        runs = (line.command, line.user, line.variables)
+        if runs not in self.by_command:
+            self.by_command[runs] = self.app_name(line)
+        app = self.by_command[runs]
+        self.lines.setdefault(app, line)
         self.applications[app] = Application(True, self.calendar)
         for kind, name, offsets in counted:
             for time in line.times:
@@ -190,11 +199,25 @@ def name_of(line: Line) -> str:
     bare = re.sub(r"['\"()]", " ", line.command)
     parts = [part.split() for part in re.split(r"&&|\|\||[;|&]", bare)]
     words: list[str] = next((part for part in parts if part and part[0] not in ASIDE), [])
+    here = next((part[1] for part in parts if part[:1] == ["cd"] and len(part) > 1), "")
+    is_module = False
     while len(words) > 1 and is_before(words[0]):
+        is_module = words[0] == "-m"
         words = words[2 if words[0] in WITH_VALUE else 1 :]
-    base = "".join(words[:1]).rpartition("/")[2]
-    name = re.sub(r"[^A-Z0-9@#$]", "", (base.partition(".")[0] or base).upper())
+    folder, _, base = "".join(words[:1]).rpartition("/")
+    folder = here if folder in ("", ".") else folder
+    if is_module:
+        folder, _, base = "".join(words[:1]).rpartition(".")
+    name = letters_of(base.partition(".")[0] or base)
+    above = letters_of(re.split("[/.]" if is_module else "/", folder)[-1])
+    if name in GENERIC and above and above not in PLACES:
+        name = f"{above}{name}"
     return name.lstrip("0123456789")[:16] or f"CRON{line.number}"[:16]
+
+
+def letters_of(text: str) -> str:
+    """Those signs of a text that a name may have."""
+    return re.sub(r"[^A-Z0-9@#$]", "", text.upper())
 
 
 def is_before(word: str) -> bool:

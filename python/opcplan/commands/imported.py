@@ -2,6 +2,7 @@
 
 from typing import NamedTuple
 
+from opcplan.commands.crontab import Line
 from opcplan.commands.edit_change import Change
 
 
@@ -14,8 +15,9 @@ class Days(NamedTuple):
 
 
 class Changes(NamedTuple):
-    """The changes of definitions that a file makes."""
+    """The changes of definitions that a file makes, and of a crontab by application the line that it runs."""
 
     changes: list[Change]
     told: list[str]
     left: list[str]
+    lines: dict[str, Line] = {}

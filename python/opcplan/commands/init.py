@@ -9,7 +9,6 @@ from typing import NamedTuple
 
 from opcplan.cli import colours, words
 from opcplan.commands import dump, edit_period, edit_words, import_csv, import_forms, import_ics, run as run_command
-from opcplan.commands.edit_change import Unmade
 from opcplan.errors import Unreadable
 from opcplan.plans import stream_file, tempfiles
 from opcplan.rules import moments
@@ -86,11 +85,7 @@ def run(given: argparse.Namespace) -> int:
     if is_asking:
         ask(given)
     span = given.years or Years(this_year(), this_year() + 1)
-    try:
-        text = stream_of(span, (5, 6) if given.weekend is None else given.weekend, given.holidays or [])
-    except Unmade as why:
-        words.tell(str(why))
-        return why.status
+    text = stream_of(span, (5, 6) if given.weekend is None else given.weekend, given.holidays or [])
     if given.stream:
         sys.stdout.write(text)
         return 0

@@ -3,12 +3,15 @@
 import argparse
 import difflib
 import os
+import re
+import secrets
 import sys
 
 from opcplan.cli import words
-from opcplan.commands import check, trial_words, what_if
-from opcplan.errors import Error, Unreadable, Unwritable
-from opcplan.plans import plan_file, stream_file, stream_state, trial
+from opcplan.commands import check, desk_plan, trial_words, what_if
+from opcplan.desk import client
+from opcplan.errors import Error, Unreadable, Unwritable, WrongWords
+from opcplan.plans import job_numbers, locks, plan_file, stream_file, stream_state, tempfiles, trial
 from opcplan.plans.stream_state import Known
 from opcplan.plans.trial import Trial
 from opcplan.rules import explanations, printable, stream
@@ -22,35 +25,43 @@ def add_words(parser: words.Parser) -> None:
     """Adds its words to a parser."""
     parser.description = (
         "Checks STREAM over PLAN.db as `./plan check` does, shows what it would change as `./plan what-if` does, asks, "
-        "and then runs it by opcplan --db, each refusal explained below its answer. The exit status is that of opcplan "
+        "and then runs it by opcplan --db, each refusal explained below its answer. With --desk the plan is that of a "
+        "desk: the stream is tried on a copy that the desk gives, and sent to it; what others ask the desk meanwhile isn't "
+        "in the copy. The exit status is that of opcplan "
         "(0 all accepted, 4 some refused, 8 a fault); 1 where nothing was run, 2 where the words are wrong. "
         + stream.BOUND
     )
-    words.add_plan(parser)
+    parser.add_argument("plan", metavar="PLAN.db", nargs="?", type=words.file,
+                        help="the file that opcplan --db keeps (not with --desk)")
     trial_words.add_words(parser, "runs")
+    parser.add_argument("--desk", metavar="DESK", help="the desk that has the plan: http://HOST:PORT, or the path of its "
+                        "socket (else what OPCPLAN_DESK has, where no PLAN.db is named)")
     parser.add_argument("--yes", action="store_true", help="run it without asking")
     parser.add_argument("--new", action="store_true", help="make a new plan in PLAN.db, which isn't there yet")
 
 
 def run(given: argparse.Namespace) -> int:
     """Does what the words ask for; the exit status."""
+    desk = given.desk or (client.usual() if given.plan is None else None)
+    if (desk is None) == (given.plan is None) or desk is not None and given.new:
+        raise WrongWords("PLAN.db or --desk DESK is wanted, one of them, and --new goes with PLAN.db; ./plan run --help "
+                         "says more")
+    return run_by_desk(given, desk_plan.of_words(desk)) if desk else run_over_file(given)
+
+
+def run_over_file(given: argparse.Namespace) -> int:
+    """Runs a stream over the plan of a file; the exit status."""
     ask_file(given.plan, given.new)
     path = os.path.realpath(given.plan)
     before = plan_file.stamps(path)
     with trial.tried(None if given.new else given.plan, given.stream, check.checked, given.program) as tried:
-        try:
-            show(tried)
-        except (OSError, Unwritable) as error:
-            raise Error(f"what would change can't be shown: {why_of(error)}: nothing was done") from None
-        if tried.found.end or tried.status not in trial.SOUND:
-            trial_words.tell_end(tried)
-            raise Error("the trial didn't come to its end: nothing was done")
-        if not given.yes:
-            ask()
+        agree(tried, given.yes)
         if plan_file.stamps(path) != before:
             raise Error(f"{given.plan} was written to meanwhile; ask again: nothing was done")
         answers = f"{tried.stream}.out"
-        status = trial.done(tried, os.path.abspath(given.plan), answers)
+        status, said = trial.done(tried, os.path.abspath(given.plan), answers)
+        for line in said.splitlines():
+            words.tell(re.sub(r"\bFILE\b", lambda _: given.plan, line.removeprefix("opcplan: ")))
         status = status if status >= 0 else 128 - status
         try:
             show_answers(tried, answers)
@@ -60,10 +71,48 @@ def run(given: argparse.Namespace) -> int:
     return status
 
 
+def agree(tried: Trial[check.Checked], is_yes: bool) -> None:
+    """Shows what a stream would change, and asks whether it shall be run. Raises Error where it isn't."""
+    try:
+        show(tried)
+    except (OSError, Unwritable) as error:
+        raise Error(f"what would change can't be shown: {why_of(error)}: nothing was done") from None
+    if tried.found.end or tried.status not in trial.SOUND:
+        trial_words.tell_end(tried)
+        raise Error("the trial didn't come to its end: nothing was done")
+    if not is_yes:
+        ask()
+
+
+def run_by_desk(given: argparse.Namespace, desk: client.Client) -> int:
+    """Has a desk do a stream, once it was tried on a copy of its plan and somebody said so; the exit status."""
+    used = secrets.token_hex(16)
+    with desk_plan.copied(desk) as path, tempfiles.folder("sent-") as folder:
+        with stream_file.opened(given.stream) as source:
+            sent = b"".join(source.pieces())
+        numbered = os.path.join(folder, "stream.in")
+        with plan_file.opened(path) as plan, open(numbered, "wb") as file:
+            file.write(desk_plan.numbered(sent, job_numbers.after_desk(plan.db)))
+        with trial.tried(path, numbered, check.checked, given.program) as tried:
+            agree(tried, given.yes)
+            answers = os.path.join(folder, "answers")
+            with open(answers, "wb") as file:
+                file.write(desk_plan.answer(desk, sent, used))
+            try:
+                show_answers(tried, answers)
+                sys.stdout.flush()
+            except (OSError, Unwritable) as error:
+                words.tell(f"{desk.name} did it; its answers can't be shown: {why_of(error)}")
+            with open(answers, "rb") as file:
+                return 4 if any(line.startswith(b"refused") for line in file) else 0
+
+
 def ask_file(path: str, is_new: bool) -> None:
     """Asks that the plan is there, or where a new one is wanted, that nothing is. Raises Unreadable."""
     if is_new and os.path.lexists(path):
         raise Unreadable(f"{path}: it is there already; without --new the stream goes on with it")
+    if not is_new and os.path.isfile(path) and locks.is_held(path, locks.OF_A_DESK):
+        raise Unreadable(f"{path}: a desk has it; `./plan run --desk DESK STREAM` has that desk do the stream")
     if not is_new and not os.path.lexists(path):
         folder, name = os.path.split(os.path.abspath(path))
         others = os.listdir(folder) if os.path.isdir(folder) else []

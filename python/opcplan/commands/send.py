@@ -137,7 +137,10 @@ def run(given: argparse.Namespace) -> int:
         raise Unsent(f"{given.db}: another program sends to it all the while; nothing was sent") from None
     except OSError as error:
         raise Unsent(f"{error.filename or 'standard input'}: {error.strerror}; nothing was sent") from None
-    return shown(text, ran, told=told)
+    status = shown(text, ran, told=told, path=given.db)
+    if is_held(ran) and locks.is_held(given.db, locks.OF_A_DESK):
+        words.tell(f"{given.db}: a desk has it; `./plan send --desk DESK ..` asks that desk")
+    return status
 
 
 def check_file(path: str) -> None:
@@ -383,9 +386,11 @@ def is_held(ran: Ran) -> bool:
     return ran.returncode == FAILED and ran.stdout == b"fault 50\n" and HELD in ran.stderr
 
 
-def shown(text: bytes, ran: Ran, used: str | None = None, told: list[str] | None = None) -> int:
-    """Prints what was answered, by a desk under a key that was used, and what refusals mean, as is told or by the text
-    alone; the exit status."""
+def shown(
+    text: bytes, ran: Ran, used: str | None = None, told: list[str] | None = None, path: str = "FILE"
+) -> int:
+    """Prints what was answered, by a desk under a key that was used or over the file of a path, and what refusals mean,
+    as is told or by the text alone; the exit status."""
     try:
         sys.stdout.flush()
         sys.stdout.buffer.write(ran.stdout)
@@ -394,7 +399,8 @@ def shown(text: bytes, ran: Ran, used: str | None = None, told: list[str] | None
         raise Unsent(f"the replies can't be printed: {error}; what was sent was answered, so send it again with "
                      f"{'`--key ' + used + '`' if used else 'its job numbers'}, and nothing is done twice") from None
     with contextlib.suppress(OSError):
-        said = [printable.fit(line) for line in ran.stderr.decode(errors="surrogateescape").splitlines()]
+        lines = ran.stderr.decode(errors="surrogateescape").splitlines()
+        said = [printable.fit(re.sub(r"\bFILE\b", lambda _: path, line)) for line in lines]
         said += refusal_lines(text, ran.stdout, items_of if used else stream.items) if told is None else told
         sys.stderr.writelines(f"{line}\n" for line in said)
         sys.stderr.flush()

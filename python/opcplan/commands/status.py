@@ -100,7 +100,7 @@ def count_lines(plan: Plan, model: Model) -> list[Line]:
     known = dict(plan.db.execute("SELECT status, count(*) FROM cp_row GROUP BY status"))
     counts = Counter({"C": known.get("C", 0), "D": known.get("D", 0)})
     counts.update(model.states)
-    told = [f"{counts[state]:,} {statuses.STATES[state]}" for state in "ESRBFCD" if counts[state]]
+    told = [f"{counts[state]:,} {'to come' if state == 'F' else statuses.STATES[state]}" for state in "ESRBFCD" if counts[state]]
     total = count_text(sum(counts.values()), "occurrence")
     return [Line(f"The current plan has {total}{': ' if told else ''}{', '.join(told)}.")]
 

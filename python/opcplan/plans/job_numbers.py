@@ -30,6 +30,13 @@ def kept_from(db: sqlite3.Connection, first: int) -> set[int]:
     return {number for (number,) in db.execute("SELECT number FROM job WHERE number >= ?", (first,))}
 
 
+def after_desk(db: sqlite3.Connection) -> int:
+    """The number that a desk gives next, as far as a plan shows it."""
+    asked = "SELECT coalesce(max(number) + 1, ?1) FROM job WHERE number BETWEEN ?1 AND ?2"
+    number: int = db.execute(asked, (FIRST_JOB, LAST_JOB)).fetchone()[0]
+    return number
+
+
 def of_desk(db: sqlite3.Connection) -> int:
     """How many numbers of a desk's own range are kept."""
     asked = "SELECT count(*) FROM job WHERE number BETWEEN ? AND ?"

@@ -135,11 +135,14 @@ def seen(items: Iterator[Item], tell: Callable[[], None]) -> Iterator[Item]:
         tell()
 
 
-def done(trial: Trial[F], path: str, output: str) -> int:
-    """The status of opcplan once it has run the stream of a trial over the plan itself; its output goes to a file."""
+def done(trial: Trial[F], path: str, output: str) -> tuple[int, str]:
+    """The status of opcplan once it has run the stream of a trial over the plan itself, and what it said on standard
+    error; its output goes to a file."""
     with open(trial.stream, "rb") as asked, open(output, "wb") as target:
-        with running(trial.program, path, stdin=asked, stdout=target) as ran, progress.of("opcplan runs the stream"):
-            return ran.wait()
+        with running(trial.program, path, stdin=asked, stdout=target, stderr=subprocess.PIPE) as ran, \
+                progress.of("opcplan runs the stream"):
+            said = ran.communicate()[1][:MOST_SAID].decode(errors="replace")
+    return ran.returncode, said
 
 
 @contextlib.contextmanager
