@@ -11,7 +11,7 @@ from opcplan.errors import Unreadable
 from opcplan.plans import stream_state
 from opcplan.plans.plan_file import Plan
 from opcplan.rules import lint_checks, moments, record_fields
-from opcplan.rules.definitions import Definitions, RunCycle
+from opcplan.rules.definitions import FIRST_DAY, Definitions, Period, RunCycle
 from opcplan.rules.naming_words import few, meant_text
 
 SUMMARY = "changes fields of a run cycle, or gives an application a new one"
@@ -93,7 +93,7 @@ def new_cycle(
         short = {field: word for word, field in OTHER_WORDS.items()}
         raise Unmade(f"{short.get(lacking[0], lacking[0])}= is wanted too: a new run cycle has a period=, an ia= and a "
                      "deadline=", 2)
-    begin = plan.meta["first_day"] if plan.is_created else moments.now() // moments.DAY
+    begin = plan.meta["first_day"] if plan.is_created else first_day(found.periods.get(given["period"]))
     usual = {**USUAL, "in effect": moments.day_text(begin), "out of effect": "", "deadline day": "", "deadline time": ""}
     if given.get("deadline time"):
         usual["deadline day"] = "0"
@@ -108,6 +108,13 @@ def new_cycle(
     is_active = found.applications[app].is_active
     told += [] if is_active or is_new_app else [f"{app} isn't an active application, so nothing of it is planned."]
     return Change("run-cycles", {app: then}, [*told, *slips(plan, found, app, then, after)], app, is_active)
+
+
+def first_day(period: Period | None) -> int:
+    """The first day of a period."""
+    if period is None:
+        return FIRST_DAY
+    return period.entries[0].origin if period.kind == "N" else period.origin
 
 
 def wanted_fields(pairs: Iterable[tuple[str, str]]) -> dict[str, str]:
