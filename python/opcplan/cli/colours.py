@@ -1,7 +1,9 @@
 """Colours of what a subcommand prints, where it goes to a terminal: what is in error, late or refused stands out."""
 
 import os
+import re
 import sys
+from collections.abc import Callable
 
 from opcplan.cli import words
 
@@ -31,3 +33,21 @@ class Paint:
 def is_for_colours() -> bool:
     """Whether standard output is a terminal that shall have colours."""
     return not os.environ.get("NO_COLOR") and os.environ.get("TERM") != "dumb" and sys.stdout.isatty()
+
+
+def of_line(line: str) -> str | None:
+    """The colour of a line that reports something: of a refusal, a fault or an error, or of what is late."""
+    if re.search(r"(?:^|: )(?:refused|fault) [0-9]|\bin error\b", line):
+        return "red"
+    return "yellow" if re.search(r"\blate by\b", line) else None
+
+
+def of_row(line: str) -> str | None:
+    """The colour of a row as lists print it, by its status."""
+    return OF_STATE.get(line[-1:]) if line[-2:-1] == " " else None
+
+
+def text(whole: str, color: str, colour_of: Callable[[str], str | None] = of_line) -> str:
+    """A text of lines, each in its colour, where there are colours."""
+    paint = Paint(color)
+    return "\n".join(paint(line, colour_of(line)) for line in whole.split("\n")) if paint.is_on else whole

@@ -4,7 +4,7 @@ import argparse
 import dataclasses
 from collections.abc import Iterator
 
-from opcplan.cli import words
+from opcplan.cli import colours, words
 from opcplan.commands import lint, trial_words
 from opcplan.plans import trial
 from opcplan.plans.stream_state import Known
@@ -35,12 +35,13 @@ def add_words(parser: words.Parser) -> None:
     )
     words.add_plan(parser)
     trial_words.add_words(parser, "runs")
+    colours.add_words(parser)
 
 
 def run(given: argparse.Namespace) -> int:
     """Does what the words ask for; the exit status."""
     with trial.tried(given.plan, given.stream, checked, given.program) as tried:
-        print("\n".join(lines_of(tried.found)))
+        print(colours.text("\n".join(lines_of(tried.found)), given.color))
     trial_words.tell_end(tried)
     return 0 if tried.status == 0 and not tried.found.findings else 1
 

@@ -2,7 +2,7 @@
 
 import argparse
 
-from opcplan.cli import words
+from opcplan.cli import colours, words
 from opcplan.plans import actual, late_ends, plan_file, waits
 from opcplan.plans.late_ends import Ends
 from opcplan.plans.plan_file import Plan
@@ -26,13 +26,14 @@ def add_words(parser: words.Parser) -> None:
     words.add_plan(parser)
     words.add_now(parser)
     words.add_journal(parser)
+    colours.add_words(parser)
 
 
 def run(given: argparse.Namespace) -> int:
     """Does what the words ask for; the exit status."""
     now = moments.now() if given.now is None else given.now
     lines, notes, is_late = plan_file.answer(given.plan, lambda plan: found(plan, given.journal, now))
-    print(printable.text(lines))
+    print(colours.text(printable.text(lines), given.color))
     for note in notes:
         words.tell(note)
     return 0 if is_late else 1

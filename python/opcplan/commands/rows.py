@@ -8,7 +8,7 @@ import sys
 from collections.abc import Iterable, Iterator
 from typing import NamedTuple
 
-from opcplan.cli import words
+from opcplan.cli import colours, words
 from opcplan.commands import export, late
 from opcplan.commands.export import Occurrence
 from opcplan.errors import WrongWords
@@ -56,6 +56,7 @@ def add_words(parser: words.Parser) -> None:
     form = parser.add_mutually_exclusive_group()
     form.add_argument("--csv", dest="form", action="store_const", const=export.csv_texts, help="a table, as of export")
     form.add_argument("--json", dest="form", action="store_const", const=json_texts, help="an object on each line")
+    colours.add_words(parser)
     parser.set_defaults(form=list_texts)
     parser.is_mixed = True
 
@@ -102,16 +103,17 @@ def run(given: argparse.Namespace) -> int:
     if wrong:
         raise WrongWords(wrong)
     now = moments.now() if given.now is None else given.now
+    color = given.color if given.form is list_texts else "never"
     is_filtered = given.late or any(one is not None for one in (given.app, given.first, given.last, given.status))
     found = plan_file.answer(given.plan, lambda plan: few(plan, given, now)) if is_filtered else None
     if found is not None:
-        sys.stdout.write(found.text)
+        sys.stdout.write(colours.text(found.text, color, colours.of_row))
         count, notes = found.number, found.notes
     else:
         with plan_file.opened(given.plan) as plan:
             seen = Counted(wanted(plan, given, now))
             for text in given.form(plan, seen):
-                sys.stdout.write(text)
+                sys.stdout.write(colours.text(text, color, colours.of_row))
             count, notes = seen.count, notes_on(plan, given, now)
     for note in notes:
         words.tell(note)

@@ -7,7 +7,7 @@ import re
 import secrets
 import sys
 
-from opcplan.cli import words
+from opcplan.cli import colours, words
 from opcplan.commands import check, desk_plan, trial_words, what_if
 from opcplan.desk import client
 from opcplan.errors import Error, Unreadable, Unwritable, WrongWords
@@ -37,6 +37,7 @@ def add_words(parser: words.Parser) -> None:
     parser.add_argument("--desk", metavar="DESK", help="the desk that has the plan: http://HOST:PORT, or the path of its "
                         "socket (else what OPCPLAN_DESK has, where no PLAN.db is named)")
     parser.add_argument("--yes", action="store_true", help="run it without asking")
+    colours.add_words(parser)
     parser.add_argument("--new", action="store_true", help="make a new plan in PLAN.db, which isn't there yet")
 
 
@@ -55,7 +56,7 @@ def run_over_file(given: argparse.Namespace) -> int:
     path = os.path.realpath(given.plan)
     before = plan_file.stamps(path)
     with trial.tried(None if given.new else given.plan, given.stream, check.checked, given.program) as tried:
-        agree(tried, given.yes)
+        agree(tried, given)
         if plan_file.stamps(path) != before:
             raise Error(f"{given.plan} was written to meanwhile; ask again: nothing was done")
         answers = f"{tried.stream}.out"
@@ -64,23 +65,23 @@ def run_over_file(given: argparse.Namespace) -> int:
             words.tell(re.sub(r"\bFILE\b", lambda _: given.plan, line.removeprefix("opcplan: ")))
         status = status if status >= 0 else 128 - status
         try:
-            show_answers(tried, answers)
+            show_answers(tried, answers, given.color)
             sys.stdout.flush()
         except (OSError, Unwritable) as error:
             words.tell(f"it was run, with status {status}; its answers can't be shown: {why_of(error)}")
     return status
 
 
-def agree(tried: Trial[check.Checked], is_yes: bool) -> None:
+def agree(tried: Trial[check.Checked], given: argparse.Namespace) -> None:
     """Shows what a stream would change, and asks whether it shall be run. Raises Error where it isn't."""
     try:
-        show(tried)
+        show(tried, given.color)
     except (OSError, Unwritable) as error:
         raise Error(f"what would change can't be shown: {why_of(error)}: nothing was done") from None
     if tried.found.end or tried.status not in trial.SOUND:
         trial_words.tell_end(tried)
         raise Error("the trial didn't come to its end: nothing was done")
-    if not is_yes:
+    if not given.yes:
         ask()
 
 
@@ -94,12 +95,12 @@ def run_by_desk(given: argparse.Namespace, desk: client.Client) -> int:
         with plan_file.opened(path) as plan, open(numbered, "wb") as file:
             file.write(desk_plan.numbered(sent, job_numbers.after_desk(plan.db)))
         with trial.tried(path, numbered, check.checked, given.program) as tried:
-            agree(tried, given.yes)
+            agree(tried, given)
             answers = os.path.join(folder, "answers")
             with open(answers, "wb") as file:
                 file.write(desk_plan.answer(desk, sent, used))
             try:
-                show_answers(tried, answers)
+                show_answers(tried, answers, given.color)
                 sys.stdout.flush()
             except (OSError, Unwritable) as error:
                 words.tell(f"{desk.name} did it; its answers can't be shown: {why_of(error)}")
@@ -122,10 +123,11 @@ def ask_file(path: str, is_new: bool) -> None:
         raise Unreadable(f"{path}: there is no such file{meant}; --new makes a new plan there")
 
 
-def show(tried: Trial[check.Checked]) -> None:
+def show(tried: Trial[check.Checked], color: str) -> None:
     """Prints what is found of a stream and what it would change."""
     changed = what_if.difference(tried.plan, tried.after, MOST_ROWS)
-    print("\n".join([*check.lines_of(tried.found), printable.text(changed), ""]), flush=True)
+    text = "\n".join([*check.lines_of(tried.found), printable.text(changed), ""])
+    print(colours.text(text, color), flush=True)
 
 
 def ask() -> None:
@@ -142,7 +144,7 @@ def why_of(error: Exception) -> str:
     return error.strerror if isinstance(error, OSError) else str(error)
 
 
-def show_answers(tried: Trial[check.Checked], path: str) -> None:
+def show_answers(tried: Trial[check.Checked], path: str, color: str) -> None:
     """Prints what opcplan answered, each refusal with its explanation below it."""
     now = stream_state.of_plan(tried.plan)
     rows: list[str] = []
@@ -154,7 +156,7 @@ def show_answers(tried: Trial[check.Checked], path: str) -> None:
     with stream_file.opened(tried.stream) as text, stream_file.opened(path, trial.OF_ANSWERS) as answers:
         try:
             for item, reply in explanations.answered(stream.items(text), answers, see):
-                print(printable.text([*rows, *reply_lines(item, reply, now)]))
+                print(colours.text(printable.text([*rows, *reply_lines(item, reply, now)]), color))
                 rows.clear()
         except explanations.Unlike as why:
             words.tell(f"{tried.program}: it doesn't answer as opcplan does: {why}; all that it answered follows")

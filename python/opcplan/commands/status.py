@@ -8,6 +8,7 @@ from opcplan.cli import colours, words
 from opcplan.cli.colours import Paint
 from opcplan.commands import desk_plan, late
 from opcplan.desk import client
+from opcplan.errors import WrongWords
 from opcplan.plans import locks, plan_definitions, plan_file, waits
 from opcplan.plans.plan_file import Plan
 from opcplan.plans.waits import Row
@@ -47,8 +48,7 @@ def run(given: argparse.Namespace) -> int:
     """Does what the words ask for; the exit status."""
     desk = given.desk or (client.usual() if given.plan is None else None)
     if (given.plan is None) == (desk is None):
-        words.tell("PLAN.db or --desk DESK is wanted, one of them; ./plan status --help says more")
-        return 2
+        raise WrongWords("PLAN.db or --desk DESK is wanted, one of them; ./plan status --help says more")
     now = moments.now() if given.now is None else given.now
     if desk is None:
         with plan_file.opened(given.plan) as plan:
