@@ -211,6 +211,13 @@ class Installed(unittest.TestCase):
                 self.assertIn("has a part `..`", said.stderr)
         self.assertEqual(below(root.parent), ["root"])
 
+    def test_pages_link_no_folder_of_the_sources(self):
+        for name in ("GUIDE.md", "RECIPES.md"):
+            text = (self.prefix / "share" / "doc" / "opcplan" / name).read_text(encoding="utf-8")
+            self.assertNotIn("ln -s", text)
+            self.assertNotIn("top folder", text)
+            self.assertEqual(text.count("$(mktemp -d) && cd "), 1, name)
+
     def test_pages_that_are_named_are_there(self):
         named = 0
         for path in self.prefix.rglob("*"):

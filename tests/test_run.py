@@ -12,7 +12,7 @@ import unittest
 from contextlib import closing
 from pathlib import Path
 
-from support import plans
+from support import desks, expected, plans
 from support.plans import plain
 
 from test_check import BASE, HOLIDAY
@@ -218,6 +218,54 @@ class Run(unittest.TestCase):
                                  encoding="utf-8")
             self.assertEqual(ran.returncode, status, ran.stderr)
         self.assertTrue(ran.stdout.endswith("ok rows 6\n"), ran.stdout)
+
+
+    def test_colours_where_they_are_wanted(self):
+        ran = self.asked("cp-start --app SALES --ia 2026-12-30/09.00 --job 91\n", "--yes", "--color", "always")
+        self.assertEqual(ran.returncode, 4)
+        self.assertIn("\x1b[31mrefused 28\x1b[0m\n", ran.stdout)
+        plain = self.asked("cp-start --app SALES --ia 2026-12-30/09.00 --job 91\n", "--yes")
+        self.assertNotIn("\x1b", plain.stdout)
+
+
+@unittest.skipIf(desks.why_not(), desks.why_not())
+class ByADesk(desks.Case):
+    """A stream that a desk does, once it was tried on a copy of its plan."""
+
+    TEXT = plans.stream("monday")
+    STREAM = ("define applications\nMORE,A,\n/*\ncp-start --app REPORT --ia 2024-01-01/20.00 --job 700000001\n"
+              "cp-start --app REPORT --ia 2024-01-01/20.00\n")
+    DONE = ("define applications --job 500000001\nMORE,A,\n/*\ncp-start --app REPORT --ia 2024-01-01/20.00 --job 700000001\n"
+            "cp-start --app REPORT --ia 2024-01-01/20.00 --job 500000003\n")
+
+    def asked(self, *words):
+        stream = self.room / "x.in"
+        stream.write_text(self.STREAM, encoding="ascii")
+        return plans.plan("run", *words, stream, "--program", plans.PROGRAM, text="")
+
+    def test_a_desk_does_what_was_tried(self):
+        desk = self.desk()
+        ran = self.asked("--desk", desk.socket)
+        self.assertEqual(ran.returncode, 1, ran.stderr)
+        self.assertIn("applications new: MORE", ran.stdout)
+        self.assertIn("line 5: refused 29:", ran.stdout)
+        self.assertIn("--yes runs it without asking: nothing was done", ran.stderr)
+        ran = self.asked(self.plan, "--yes")
+        self.assertEqual((ran.returncode, ran.stdout), (1, ""))
+        self.assertIn("a desk has it; `./plan run --desk DESK STREAM`", ran.stderr)
+        ran = self.asked("--desk", f"http://127.0.0.1:{desk.port}", "--yes")
+        self.assertEqual(ran.returncode, 4, ran.stderr)
+        answers = [line for line in ran.stdout.splitlines() if line.startswith(("ok", "refused"))]
+        planner = plans.planner_of(self.TEXT).copy()
+        self.assertEqual(answers, plans.plain.run(self.DONE.encode(), planner))
+        self.end(desk)
+        self.assertEqual(expected.of_file(self.plan), expected.of_stream(self.TEXT, self.DONE))
+
+    def test_wrong_words_and_a_desk_that_is_away(self):
+        for words, status in (((), 2), ((self.plan, "--desk", "127.0.0.1:1"), 2), (("--desk", "127.0.0.1:1", "--new"), 2),
+                              (("--desk", "127.0.0.1:1", "--yes"), 1), (("--desk", "x:y"), 1)):
+            ran = self.asked(*words)
+            self.assertEqual((ran.returncode, ran.stdout, ran.stderr.count("\n")), (status, "", 1), ran.stderr)
 
 
 if __name__ == "__main__":

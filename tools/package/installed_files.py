@@ -24,6 +24,16 @@ SHARE, DOC = "share/opcplan", "share/doc/opcplan"
 CALLED = {"./plan": "opcplan-plan", "./opcplan": "opcplan"}
 COMMAND = re.compile(r"(?<![\w./-])\./(?:opc)?plan(?![\w/-]|\.\w)")
 PAGE = re.compile(rf"(?<![\w./-])docs/(?:\w+/)?(?=(?:{'|'.join(map(re.escape, PAGES))})\b)")
+# what pages say of the folder of the sources, and what is right where the commands are installed
+LINKS = re.compile(r' && ln -s (?:"\$PWD/\w+" )+"\$\w+"')
+OF_TOP = {
+    "There are two commands, given in the top folder of this repository.": "There are two commands.",
+    "For this page both are put into a folder of its own,": "For this page there is a folder of its own,",
+    "The first line is typed in the top folder; it makes the new one and goes into it,": "The first line makes it and goes "
+                                                                                        "into it,",
+    "The first line is typed in the top folder of this repository; it makes the folder, puts both commands there, and goes "
+    "into it.": "The first line makes the folder and goes into it.",
+}
 STREAM = re.compile(rf"(?<![\w./-])crates/worked_streams/data/(?=(?:{'|'.join(EXAMPLES)})\.in\b)")
 
 
@@ -58,6 +68,9 @@ def day_of(name):
 
 def said(text, prefix):
     """A text as it is right where it is installed."""
+    text = LINKS.sub("", text)
+    for of_top, installed in OF_TOP.items():
+        text = text.replace(of_top, installed)
     text = COMMAND.sub(lambda it: CALLED[it[0]], text)
     text = PAGE.sub(f"{prefix}/{DOC}/", text)
     text = STREAM.sub(f"{prefix}/{DOC}/examples/", text)
