@@ -57,11 +57,12 @@ class Days(unittest.TestCase):
             with self.subTest(fields):
                 given = dict(one.split("=") for one in fields.split())
                 record = ",".join(["A", "RC", "N", given["period"], given.get("rule", "E"),
-                                   given.get("offsets", "1").replace(",", " "), given.get("in-effect", "1972-01-01"), "",
-                                   "00.00", "0", "23.59"])
+                                   given.get("offsets", "1").replace(",", " "), given.get("in-effect", "1972-01-01"),
+                                   "", "00.00", "0", "23.59"])
                 text = f"{BASE}define applications --job 3\nA,A,{given.get('calendar', '')}\n/*\n" \
                     f"define run-cycles --job 4\n{record}\n/*\n"
-                wanted = [line.split()[1] for line in named_by_planner(plans.planner_of(text), "2027-01-01", "2027-03-31")]
+                lines = named_by_planner(plans.planner_of(text), "2027-01-01", "2027-03-31")
+                wanted = [line.split()[1] for line in lines]
                 ran = self.asked(path, "--from", "2027-01-01", "--to", "2027-03-31", "--try", *fields.split())
                 self.assertEqual([re.search("[0-9-]{10}", line)[0] for line in ran.stdout.splitlines()], wanted)
                 for line in ran.stdout.splitlines():
@@ -71,7 +72,8 @@ class Days(unittest.TestCase):
     def test_what_names_nothing_or_is_wrong_is_told(self):
         path = plans.of_stream(BASE)
         for words, status in ((["NOBODY"], 1), (["--try", "rule=1"], 2), (["--try", "period=MONHT"], 1),
-                              (["--try", "period=MONTH", "offsets=0"], 2), (["--from", "2027-02-01", "--to", "2027-01-01"], 2),
+                              (["--try", "period=MONTH", "offsets=0"], 2),
+                              (["--from", "2027-02-01", "--to", "2027-01-01"], 2),
                               (["--from", "2027-02-01", "--to", "2037-01-01"], 2),
                               (["--try", "period=MONTH", "calendar=USA"], 1)):
             ran = self.asked(path, *words)

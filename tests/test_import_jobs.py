@@ -1,4 +1,5 @@
-"""./plan import --cron --jobs: the job files of a crontab's lines, run as an agent runs them, and the names of lines."""
+"""./plan import --cron --jobs: the job files of a crontab's lines, run as an agent runs them, and what lines are
+called."""
 
 import getpass
 import os

@@ -154,12 +154,15 @@ ltp-create --from 2027-01-04 --to 2027-01-31 --job 5
              "LEDGER,FREE,X,MONTH,3,5,2027-01-04,,20.00,,\n/*\n"),
             ("period QUARTER new quarters 2027-01..2027-06",
              "define periods --job 6\nQUARTER,N,2027-01-01,2027-03-31\nQUARTER,N,2027-04-01,2027-06-30\n/*\n"),
-            ("period WEEK new type=A origin=2027-01-04 interval=7", "define periods --job 6\nWEEK,A,2027-01-04,7\n/*\n"),
+            ("period WEEK new type=A origin=2027-01-04 interval=7",
+             "define periods --job 6\nWEEK,A,2027-01-04,7\n/*\n"),
         ):
             with self.subTest(words):
                 status, text, told = self.edited(*words.split(), "--job", "6")
-                self.assertEqual((status, definitions_of(self.BASE + text)), (0, definitions_of(self.BASE + block)), told)
-                self.assertEqual(expected.asked(plans.copy_of(self.plan, self.plan.parent, "try.db"), text.encode())[1], 0)
+                self.assertEqual(status, 0, told)
+                self.assertEqual(definitions_of(self.BASE + text), definitions_of(self.BASE + block))
+                copy = plans.copy_of(self.plan, self.plan.parent, "try.db")
+                self.assertEqual(expected.asked(copy, text.encode())[1], 0)
                 os.remove(self.plan.parent / "try.db")
 
     def test_a_new_application_comes_into_the_plan(self):

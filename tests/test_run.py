@@ -219,7 +219,6 @@ class Run(unittest.TestCase):
             self.assertEqual(ran.returncode, status, ran.stderr)
         self.assertTrue(ran.stdout.endswith("ok rows 6\n"), ran.stdout)
 
-
     def test_colours_where_they_are_wanted(self):
         ran = self.asked("cp-start --app SALES --ia 2026-12-30/09.00 --job 91\n", "--yes", "--color", "always")
         self.assertEqual(ran.returncode, 4)
@@ -235,7 +234,8 @@ class ByADesk(desks.Case):
     TEXT = plans.stream("monday")
     STREAM = ("define applications\nMORE,A,\n/*\ncp-start --app REPORT --ia 2024-01-01/20.00 --job 700000001\n"
               "cp-start --app REPORT --ia 2024-01-01/20.00\n")
-    DONE = ("define applications --job 500000001\nMORE,A,\n/*\ncp-start --app REPORT --ia 2024-01-01/20.00 --job 700000001\n"
+    DONE = ("define applications --job 500000001\nMORE,A,\n/*\n"
+            "cp-start --app REPORT --ia 2024-01-01/20.00 --job 700000001\n"
             "cp-start --app REPORT --ia 2024-01-01/20.00 --job 500000003\n")
 
     def asked(self, *words):
@@ -262,8 +262,9 @@ class ByADesk(desks.Case):
         self.assertEqual(expected.of_file(self.plan), expected.of_stream(self.TEXT, self.DONE))
 
     def test_wrong_words_and_a_desk_that_is_away(self):
-        for words, status in (((), 2), ((self.plan, "--desk", "127.0.0.1:1"), 2), (("--desk", "127.0.0.1:1", "--new"), 2),
-                              (("--desk", "127.0.0.1:1", "--yes"), 1), (("--desk", "x:y"), 1)):
+        for words, status in (((), 2), ((self.plan, "--desk", "127.0.0.1:1"), 2),
+                              (("--desk", "127.0.0.1:1", "--new"), 2), (("--desk", "127.0.0.1:1", "--yes"), 1),
+                              (("--desk", "x:y"), 1)):
             ran = self.asked(*words)
             self.assertEqual((ran.returncode, ran.stdout, ran.stderr.count("\n")), (status, "", 1), ran.stderr)
 

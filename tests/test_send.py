@@ -343,7 +343,8 @@ class ToADesk(desks.Case):
         self.addCleanup(listener.close)
 
         def answer():
-            for body in (b"a\r\nok rows 0\n\r\n0\r\n\r\n", b"14\r\nok serial 2 ", b"15\r\nok serial 2 status S\n\r\n0\r\n\r\n"):
+            for body in (b"a\r\nok rows 0\n\r\n0\r\n\r\n", b"14\r\nok serial 2 ",
+                         b"15\r\nok serial 2 status S\n\r\n0\r\n\r\n"):
                 one, _ = listener.accept()
                 with one, one.makefile("rb") as lines:
                     heads = list(iter(lines.readline, b"\r\n"))
@@ -365,7 +366,8 @@ class ToADesk(desks.Case):
         where = ["--desk", desk.socket]
         ran = self.send(*where, "start", "REPROT", "2024-01-01/20.00")
         self.assertEqual((ran.returncode, ran.stdout), (2, ""))
-        self.assertIn("the application REPROT isn't defined, or is pending (is REPORT meant?); nothing was sent", ran.stderr)
+        self.assertIn("the application REPROT isn't defined, or is pending (is REPORT meant?); nothing was sent",
+                      ran.stderr)
         ran = self.send(*where, "start", "REPORT", "2024-01-01/20.00")
         self.assertEqual(ran.stdout, "ok serial 2 status S\n")
         self.end(desk)
@@ -379,7 +381,8 @@ class ToADesk(desks.Case):
 
     def test_a_serial_is_taken_by_a_desk(self):
         desk = self.desk()
-        for words, status, answer in ((["start", "2"], 0, "ok serial 2 status S\n"), (["fail", "2"], 0, "ok serial 2 status E\n"),
+        for words, status, answer in ((["start", "2"], 0, "ok serial 2 status S\n"),
+                                      (["fail", "2"], 0, "ok serial 2 status E\n"),
                                       (["start", "99999"], 2, "")):
             ran = self.send("--desk", desk.socket, *words)
             self.assertEqual((ran.returncode, ran.stdout), (status, answer), ran.stderr)

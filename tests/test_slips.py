@@ -109,8 +109,8 @@ class Slips(unittest.TestCase):
     def test_refusals_say_which_name_is_meant(self):
         text = BASE.replace("LEDGER,DAILY,N,DAY", "LEDGER,DAILY,N,DYA") + "undefine calendars --name USB --job 6\n"
         (self.room / "slip.in").write_text(text)
-        (self.room / "slip.out").write_text("ok defined 2\nok defined 2\nok defined 2\nok defined 1\nrefused 23 LEDGER\n"
-                                            "refused 13\n")
+        answers = [*["ok defined 2"] * 3, "ok defined 1", "refused 23 LEDGER", "refused 13", ""]
+        (self.room / "slip.out").write_text("\n".join(answers))
         told = plans.plan_in_here("explain", "slip.in", "slip.out").stdout
         self.assertIn("DAILY names the period DYA (line 14) (is DAY meant?)", " ".join(told.split()))
         self.assertIn("of calendars the name USB isn't defined (is USA meant?)", told)
@@ -119,8 +119,8 @@ class Slips(unittest.TestCase):
         (self.room / "blank.in").write_text("define calendars --job 7\nDEFAULT, 2027-12-24,FREE\n/*\n")
         (self.room / "blank.out").write_text("refused 11 1\n")
         told = " ".join(plans.plan_in_here("explain", "blank.in", "blank.out").stdout.split())
-        self.assertIn("it has to be MON, TUE, WED, THU, FRI, SAT, SUN or a day YYYY-MM-DD (without the blanks it would be)",
-                      told)
+        self.assertIn("it has to be MON, TUE, WED, THU, FRI, SAT, SUN or a day YYYY-MM-DD (without the blanks it would "
+                      "be)", told)
 
     def test_a_calendar_that_nobody_goes_by(self):
         ran = plans.plan_in_here("edit", "plan.db", "calendar", "USA", "2027-12-24", "free")

@@ -84,7 +84,8 @@ class Status(unittest.TestCase):
             b"define applications --job 51\nENDS,A,\n/*\n" \
             b"define run-cycles --job 52\nENDS,RC,N,END,3,1 2,2024-01-01,,08.00,0,09.00\n/*\n"
         ran = plans.plan_in_here("status", plans.of_stream(text), "--now", "2024-01-01/12.00")
-        self.assertIn("  END ends 2024-01-07 and the plan goes to 2024-01-31: ENDS has no occurrence after it.", ran.stdout)
+        self.assertIn("  END ends 2024-01-07 and the plan goes to 2024-01-31: ENDS has no occurrence after it.",
+                      ran.stdout)
         self.assertEqual(ran.returncode, 1)
 
     def test_no_plan_yet(self):
@@ -95,7 +96,8 @@ class Status(unittest.TestCase):
 
     def test_colours_only_where_they_are_wanted(self):
         path = plans.of_worked("monday")
-        for words, env, is_coloured in ((["--color", "always"], {}, True), (["--color", "never"], {}, False), ([], {}, False),
+        for words, env, is_coloured in ((["--color", "always"], {}, True), (["--color", "never"], {}, False),
+                                        ([], {}, False),
                                         (["--color", "always"], {"NO_COLOR": "1"}, True)):
             ran = plans.plan("status", path, "--now", "2024-03-01/12.00", *words, env={**os.environ, **env})
             self.assertEqual("\x1b[31m" in ran.stdout, is_coloured)

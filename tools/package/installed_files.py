@@ -29,10 +29,9 @@ LINKS = re.compile(r' && ln -s (?:"\$PWD/\w+" )+"\$\w+"')
 OF_TOP = {
     "There are two commands, given in the top folder of this repository.": "There are two commands.",
     "For this page both are put into a folder of its own,": "For this page there is a folder of its own,",
-    "The first line is typed in the top folder; it makes the new one and goes into it,": "The first line makes it and goes "
-                                                                                        "into it,",
-    "The first line is typed in the top folder of this repository; it makes the folder, puts both commands there, and goes "
-    "into it.": "The first line makes the folder and goes into it.",
+    "The first line is typed in the top folder; it makes the new one and": "The first line makes it and",
+    "The first line is typed in the top folder of this repository; it makes the folder, puts both commands there, and":
+    "The first line makes the folder, and",
 }
 STREAM = re.compile(rf"(?<![\w./-])crates/worked_streams/data/(?=(?:{'|'.join(EXAMPLES)})\.in\b)")
 

@@ -1,5 +1,5 @@
-"""The job files of a crontab's lines, as `./plan agent` runs them: each with the command, its input, user and environment
-of its line."""
+"""The job files of a crontab's lines, as `./plan agent` runs them: each with the command, the input, the user and the
+environment of its line."""
 
 import os
 import re
@@ -20,8 +20,8 @@ def ask_folder(folder: str, apps: list[str]) -> None:
         raise Unmade(f"{folder}: it is no folder", 2)
     there = [app for app in apps if os.path.lexists(os.path.join(folder, app))]
     if there:
-        raise Unmade(f"{folder}: there is a file {there[0]} in it already; no job file is written over, and nothing was "
-                     "written")
+        raise Unmade(f"{folder}: there is a file {there[0]} in it already; no job file is written over, and nothing "
+                     "was written")
 
 
 def write(folder: str, lines: dict[str, Line]) -> list[str]:

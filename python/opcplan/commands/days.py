@@ -38,7 +38,8 @@ def add_words(parser: words.Parser) -> None:
         "is 1 where no day is named."
     )
     words.add_plan(parser)
-    parser.add_argument("app", metavar="APP", type=words.name, nargs="?", help="the application (else all that are active)")
+    parser.add_argument("app", metavar="APP", type=words.name, nargs="?",
+                        help="the application (else all that are active)")
     parser.add_argument("--try", dest="tried", metavar="FIELD=VALUE", type=edit_words.pair, nargs="+",
                         help="period= and what else a run cycle has (rule=E, offsets=1, type=N, in-effect=, "
                         "out-of-effect=, ia=00.00, deadline=), and calendar= for another than the default one")
@@ -114,7 +115,8 @@ def tried_lines(found: Definitions, given: argparse.Namespace, first: int, last:
     cycle = edit_run_cycle.cycle_of({"application": TRIED, "name": TRIED, **usual, **fields})
     if cycle.period not in found.periods:
         raise Unmade(edit_words.lack("period", cycle.period, found.periods))
-    tried = dataclasses.replace(found, applications={TRIED: Application(True, name)}, run_cycles={TRIED: {TRIED: cycle}})
+    applications, run_cycles = {TRIED: Application(True, name)}, {TRIED: {TRIED: cycle}}
+    tried = dataclasses.replace(found, applications=applications, run_cycles=run_cycles)
     lines = []
     for day in range(first, last + 1):
         (answer,) = naming.names(tried, TRIED, day).answers

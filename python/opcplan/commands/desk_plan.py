@@ -50,9 +50,11 @@ def answer(desk: client.Client, text: bytes, used: str) -> bytes:
     except client.Refused as why:
         raise Unreadable(f"{desk.name}: {why}") from None
     except client.Away as why:
-        told = f"`./plan send --desk {desk.name} --key {used} < STREAM` sends it again, and nothing is done twice"
-        raise Unreadable(f"{why}; {'it may be done all the same: ' + told if why.may_be_done else 'nothing was sent'}") \
-            from None
+        told = "nothing was sent"
+        if why.may_be_done:
+            told = f"it may be done all the same: `./plan send --desk {desk.name} --key {used} < STREAM` sends it "
+            told += "again, and nothing is done twice"
+        raise Unreadable(f"{why}; {told}") from None
 
 
 def of_words(name: str) -> client.Client:

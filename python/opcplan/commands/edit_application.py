@@ -18,9 +18,9 @@ def add_words(parser: Parser) -> None:
     """Adds its words to a parser."""
     parser.add_argument("name", metavar="NAME", type=edit_words.name, help="the application")
     parser.add_argument("changes", metavar="CHANGE", type=change_of, nargs="+",
-                        help="active, pending, calendar=NAME, or calendar= for the default one; new, for one that isn't "
-                        "there yet, and then also period=, ia=, deadline=, rule=, offsets= and other fields of its run "
-                        "cycle, whose name cycle=NAME gives (else that of its period)")
+                        help="active, pending, calendar=NAME, or calendar= for the default one; new, for one that "
+                        "isn't there yet, and then also period=, ia=, deadline=, rule=, offsets= and other fields of its "
+                        "run cycle, whose name cycle=NAME gives (else that of its period)")
 
 
 def change_of(text: str) -> tuple[str, bool | str | None]:
@@ -50,8 +50,8 @@ def change(plan: Plan, found: Definitions, given: argparse.Namespace) -> Change:
         raise Unmade(f"there is no application {app}{meant_text(app, found.applications)}; `./plan edit PLAN.db "
                      f"application {app} new period=DAY ia=20.00 deadline=0/23.00` makes one")
     if fields := wanted.keys() - {"status", "calendar"}:
-        raise Unmade(f"{app} is there already: `./plan edit PLAN.db run-cycle {app} NAME {min(fields)}=..` changes a run "
-                     "cycle of it", 2)
+        raise Unmade(f"{app} is there already: `./plan edit PLAN.db run-cycle {app} NAME {min(fields)}=..` changes a "
+                     "run cycle of it", 2)
     before = found.applications[app]
     after = Application(wanted.get("status", before.is_active), wanted.get("calendar", before.calendar))
     if after == before:
@@ -73,8 +73,8 @@ def new_application(plan: Plan, found: Definitions, app: str, wanted: dict[str, 
     if after.calendar is not None and after.calendar not in found.calendars:
         raise Unmade(edit_words.lack("calendar", after.calendar, found.calendars))
     then = dataclasses.replace(found, applications={**found.applications, app: after})
-    made = Change("applications", {app: after}, [f"{app} is new: {status_text(after)}, {calendar_text(found, after)}."], app,
-                  after.is_active)
+    told = [f"{app} is new: {status_text(after)}, {calendar_text(found, after)}."]
+    made = Change("applications", {app: after}, told, app, after.is_active)
     cycle = wanted.pop("cycle", None)
     if wanted or cycle:
         name = cycle or edit_words.short_name(wanted.get("period") or "DAY")

@@ -94,7 +94,8 @@ def new_cycle(
         raise Unmade(f"{short.get(lacking[0], lacking[0])}= is wanted too: a new run cycle has a period=, an ia= and a "
                      "deadline=", 2)
     begin = plan.meta["first_day"] if plan.is_created else first_day(found.periods.get(given["period"]))
-    usual = {**USUAL, "in effect": moments.day_text(begin), "out of effect": "", "deadline day": "", "deadline time": ""}
+    usual = {**USUAL, **dict.fromkeys(("out of effect", "deadline day", "deadline time"), ""),
+             "in effect": moments.day_text(begin)}
     if given.get("deadline time"):
         usual["deadline day"] = "0"
     after = cycle_of({"application": app, "name": name, **usual, **given})
@@ -102,8 +103,8 @@ def new_cycle(
         raise Unmade(edit_words.lack("period", after.period, found.periods))
     then = {**cycles, name: after}
     fields = dump.run_cycle_record(app, after).split(",")
-    told = [f"{name} of {app} is new: " + ", ".join(f"{key} {value}" for key, value in zip(NAMES[2:], fields[2:]) if value)
-            + "."]
+    shown = ", ".join(f"{key} {value}" for key, value in zip(NAMES[2:], fields[2:]) if value)
+    told = [f"{name} of {app} is new: {shown}."]
     told += [f"Its other run cycles stay: {few(cycles)}."] if cycles else []
     is_active = found.applications[app].is_active
     told += [] if is_active or is_new_app else [f"{app} isn't an active application, so nothing of it is planned."]

@@ -5,7 +5,9 @@ import datetime
 import sys
 
 from opcplan.cli import words
-from opcplan.commands import cron_jobs, edit_calendar, edit_change, edit_words, import_cron, import_csv, import_forms, import_ics
+from opcplan.commands import (
+    cron_jobs, edit_calendar, edit_change, edit_words, import_cron, import_csv, import_forms, import_ics,
+)
 from opcplan.commands.edit_calendar import Entry
 from opcplan.commands.edit_change import Unmade
 from opcplan.commands.imported import Changes

@@ -22,8 +22,9 @@ MONTHS = [name.upper() for name in crontab.MONTHS]
 BEFORE = set("sudo nice ionice nohup env exec time chronic sh bash python3 python perl".split())
 WITH_VALUE = {"-n", "-u", "-g"}
 # names that say little of what runs, so that the folder above is named too; and folders that say nothing
-GENERIC = {"RUN", "MAIN", "START", "JOB", "INDEX", "SCRIPT", "CRON", "EXECUTE", "APP", "DO", "GO", "BATCH", "TASK", "UPDATE",
-           "DAILY", "WEEKLY", "MONTHLY", "HOURLY", "NIGHTLY", "BACKUP", "SYNC", "CLEANUP", "IMPORT", "EXPORT", "LOAD"}
+GENERIC = {"RUN", "MAIN", "START", "JOB", "INDEX", "SCRIPT", "CRON", "EXECUTE", "APP", "DO", "GO", "BATCH", "TASK",
+           "UPDATE", "DAILY", "WEEKLY", "MONTHLY", "HOURLY", "NIGHTLY", "BACKUP", "SYNC", "CLEANUP", "IMPORT", "EXPORT",
+           "LOAD"}
 PLACES = {"BIN", "SBIN", "LOCAL", "USR", "OPT", "SRV", "HOME", "ETC", "VAR", "LIB", "TMP", "SCRIPTS", "JOBS", "TOOLS"}
 ASIDE = {"cd", "test", "[", "[[", "command", "true", ":", "export", "sleep", "umask", "."}
 

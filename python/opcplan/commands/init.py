@@ -43,10 +43,10 @@ def add_words(parser: words.Parser) -> None:
         "it has; with --stream it prints them as a job stream and makes nothing."
     )
     words.add_plan(parser)
-    parser.add_argument("--years", type=years, metavar="Y[..Y]", help="the years for which months and quarters are listed, "
-                        "as 2027..2028 (else this year and the next one)")
-    parser.add_argument("--weekend", type=weekend, metavar="DAYS", help="the days of the week that are free, as SAT,SUN or "
-                        "FRI,SAT, or none (else SAT,SUN)")
+    parser.add_argument("--years", type=years, metavar="Y[..Y]", help="the years for which months and quarters are "
+                        "listed, as 2027..2028 (else this year and the next one)")
+    parser.add_argument("--weekend", type=weekend, metavar="DAYS", help="the days of the week that are free, as "
+                        "SAT,SUN or FRI,SAT, or none (else SAT,SUN)")
     parser.add_argument("--holidays", type=words.file, metavar="FILE", action="append",
                         help="a file of holidays, iCalendar or CSV as `./plan import` takes them; also several times")
     parser.add_argument("--stream", action="store_true", help="print the job stream alone")
@@ -97,8 +97,8 @@ def run(given: argparse.Namespace) -> int:
         status = run_command.run(argparse.Namespace(plan=given.plan, stream=path, program=given.program, yes=given.yes,
                                                     new=True, desk=None, color=given.color))
     if status == 0:
-        words.tell(f"`./plan edit {given.plan} application NAME new period=DAY ia=20.00 deadline=0/23.00` makes the first "
-                   "application, and `ltp-create` the long-term plan")
+        words.tell(f"`./plan edit {given.plan} application NAME new period=DAY ia=20.00 deadline=0/23.00` makes the "
+                   "first application, and `ltp-create` the long-term plan")
     return status
 
 
@@ -110,7 +110,8 @@ def this_year() -> int:
 def ask(given: argparse.Namespace) -> None:
     """Asks on the terminal for what no option says."""
     now = this_year()
-    questions = (("years", f"Years [{now}..{now + 1}]: ", years), ("weekend", "Free days of the week [SAT,SUN]: ", weekend),
+    questions = (("years", f"Years [{now}..{now + 1}]: ", years),
+                 ("weekend", "Free days of the week [SAT,SUN]: ", weekend),
                  ("holidays", "File of holidays, iCalendar or CSV [none]: ", lambda text: [words.file(text)]))
     for name, question, read in questions:
         while getattr(given, name) is None:

@@ -14,8 +14,8 @@ def add_words(parser: words.Parser) -> None:
     """Adds its words to a parser."""
     parser.description = (
         "Prints the greatest job number that PLAN.db keeps, and the next one; those that a desk gave itself are passed "
-        "over, and so are those of streams that `edit` or `import` printed and nobody ran yet. The exit status is 1 where "
-        "no greater number is left."
+        "over, and so are those of streams that `edit` or `import` printed and nobody ran yet. The exit status is 1 "
+        "where no greater number is left."
     )
     words.add_plan(parser)
     parser.add_argument("--short", action="store_true", help="the next number alone, for a script")

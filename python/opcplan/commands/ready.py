@@ -28,8 +28,8 @@ def add_words(parser: words.Parser) -> None:
     parser.description = (
         "Prints the occurrences of the current plan that wait, have arrived, and wait for nothing that isn't complete, "
         "the earliest deadline first: application, input arrival and serial, as statements and `./plan agent` have "
-        "them. On a terminal, and with --table, it is a table with the deadlines. The exit status is 1 where nothing is "
-        "ready."
+        "them. On a terminal, and with --table, it is a table with the deadlines. The exit status is 1 where nothing "
+        "is ready."
     )
     words.add_plan(parser)
     parser.add_argument("--app", type=words.name, help="of this application alone")
@@ -71,7 +71,8 @@ def table_lines(rows: list[Row], now: int, paint: Paint) -> list[str]:
     if not rows:
         return [f"Nothing is ready at {moments.moment_text(now)}."]
     wide = max(11, *(len(row.app) for row in rows))
-    lines = [paint(f"{'application':{wide}}  {'arrives':16}  {'due':16}  {'left':>16}  {'run cycle':9}  serial", "bold")]
+    title = f"{'application':{wide}}  {'arrives':16}  {'due':16}  {'left':>16}  {'run cycle':9}  serial"
+    lines = [paint(title, "bold")]
     for row in rows:
         left = waits.late_text(row, now) or waits.length_text(row.deadline - now)
         text = f"{row.app:{wide}}  {moments.moment_text(row.ia)}  {moments.moment_text(row.deadline)}  {left:>16}  " \

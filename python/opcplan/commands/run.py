@@ -26,16 +26,17 @@ def add_words(parser: words.Parser) -> None:
     parser.description = (
         "Checks STREAM over PLAN.db as `./plan check` does, shows what it would change as `./plan what-if` does, asks, "
         "and then runs it by opcplan --db, each refusal explained below its answer. With --desk the plan is that of a "
-        "desk: the stream is tried on a copy that the desk gives, and sent to it; what others ask the desk meanwhile isn't "
-        "in the copy. The exit status is that of opcplan "
+        "desk: the stream is tried on a copy that the desk gives, and sent to it; what others ask the desk meanwhile "
+        "isn't in the copy. The exit status is that of opcplan "
         "(0 all accepted, 4 some refused, 8 a fault); 1 where nothing was run, 2 where the words are wrong. "
         + stream.BOUND
     )
     parser.add_argument("plan", metavar="PLAN.db", nargs="?", type=words.file,
                         help="the file that opcplan --db keeps (not with --desk)")
     trial_words.add_words(parser, "runs")
-    parser.add_argument("--desk", metavar="DESK", help="the desk that has the plan: http://HOST:PORT, or the path of its "
-                        "socket (else what OPCPLAN_DESK has, where no PLAN.db is named)")
+    parser.add_argument("--desk", metavar="DESK",
+                        help="the desk that has the plan: http://HOST:PORT, or the path of its socket "
+                        "(else what OPCPLAN_DESK has, where no PLAN.db is named)")
     parser.add_argument("--yes", action="store_true", help="run it without asking")
     colours.add_words(parser)
     parser.add_argument("--new", action="store_true", help="make a new plan in PLAN.db, which isn't there yet")
@@ -45,8 +46,8 @@ def run(given: argparse.Namespace) -> int:
     """Does what the words ask for; the exit status."""
     desk = given.desk or (client.usual() if given.plan is None else None)
     if (desk is None) == (given.plan is None) or desk is not None and given.new:
-        raise WrongWords("PLAN.db or --desk DESK is wanted, one of them, and --new goes with PLAN.db; ./plan run --help "
-                         "says more")
+        raise WrongWords("PLAN.db or --desk DESK is wanted, one of them, and --new goes with PLAN.db; ./plan run "
+                         "--help says more")
     return run_by_desk(given, desk_plan.of_words(desk)) if desk else run_over_file(given)
 
 

@@ -38,8 +38,8 @@ def add_words(parser: words.Parser) -> None:
         "current plan is at its end, or a definition is."
     )
     parser.add_argument("plan", metavar="PLAN.db", nargs="?", type=words.file, help="the file that opcplan --db keeps")
-    parser.add_argument("--desk", metavar="DESK", help="the desk that has the plan: http://HOST:PORT, or the path of its "
-                        "socket (else what OPCPLAN_DESK has, where no PLAN.db is named)")
+    parser.add_argument("--desk", metavar="DESK", help="the desk that has the plan: http://HOST:PORT, or the path of "
+                        "its socket (else what OPCPLAN_DESK has, where no PLAN.db is named)")
     words.add_now(parser)
     colours.add_words(parser)
 
@@ -100,7 +100,8 @@ def count_lines(plan: Plan, model: Model) -> list[Line]:
     known = dict(plan.db.execute("SELECT status, count(*) FROM cp_row GROUP BY status"))
     counts = Counter({"C": known.get("C", 0), "D": known.get("D", 0)})
     counts.update(model.states)
-    told = [f"{counts[state]:,} {'to come' if state == 'F' else statuses.STATES[state]}" for state in "ESRBFCD" if counts[state]]
+    names = {**statuses.STATES, "F": "to come"}
+    told = [f"{counts[state]:,} {names[state]}" for state in "ESRBFCD" if counts[state]]
     total = count_text(sum(counts.values()), "occurrence")
     return [Line(f"The current plan has {total}{': ' if told else ''}{', '.join(told)}.")]
 
