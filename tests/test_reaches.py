@@ -147,6 +147,43 @@ class Forms(unittest.TestCase):
 class ByThePlainPlanner(unittest.TestCase):
     """Over definitions at random: an application is told exactly where nothing of it is named after the day."""
 
+    def test_a_run_cycle_that_excludes_no_day_any_more(self):
+        """Where the next interval would have begun in the plan; not a month of a year, nor one that is meant to end."""
+        text = """define periods --job 1
+DAY,A,2027-01-01,1
+MONTH,N,2027-01-01,2027-01-31
+MONTH,N,2027-02-01,2027-02-28
+AUGUST,N,2027-08-01,2027-08-31
+/*
+define applications --job 2
+LEDGER,A,
+SALES,A,
+WAGES,A,
+/*
+define run-cycles --job 3
+LEDGER,DAILY,N,DAY,3,1,2027-01-01,,18.00,0,20.00
+LEDGER,NOTLAST,X,MONTH,3,-1,2027-01-01,,18.00,,
+SALES,DAILY,N,DAY,3,1,2027-01-01,,18.00,0,20.00
+SALES,HOLIDAYS,X,AUGUST,3,1,2027-01-01,,18.00,,
+SALES,OLD,X,MONTH,3,1,2027-01-01,2027-03-01,18.00,,
+WAGES,MONTHLY,N,MONTH,3,2,2027-01-01,,18.00,0,20.00
+WAGES,NOTFIRST,X,MONTH,3,1,2027-01-01,,18.00,,
+/*
+"""
+        now = stream_state.Known()
+        for item in plans.items_of(text):
+            now.take(item)
+        first, last = moments.day_of("2027-01-01"), moments.day_of("2027-12-31")
+        self.assertEqual([one.text for one in reaches.shortfalls(now.defined, first, last)], [
+            "MONTH ends 2027-02-28 and the plan goes to 2027-12-31: WAGES has no occurrence after it, and NOTLAST of LEDGER "
+            "excludes no day after it. `./plan edit PLAN.db period MONTH months ..2027-12` adds the rest."])
+        days = defined_by(text.encode()).named("LEDGER", first, last)
+        gone = {day for day in range(first, last + 1)} - {day for day, _ in days}
+        self.assertEqual(sorted(map(moments.day_text, gone)), ["2027-01-31", "2027-02-28"])
+        (august,) = [one for one in reaches.shortfalls(now.defined, first, moments.day_of("2028-12-31"))
+                     if one.text.startswith("AUGUST")]
+        self.assertIn("and the plan goes to 2028-12-31: HOLIDAYS of SALES excludes no day after it. ", august.text)
+
     def test_at_random(self):
         first, last, told = moments.day_of("2027-01-01"), moments.day_of("2027-06-30"), 0
         for seed in range(60):

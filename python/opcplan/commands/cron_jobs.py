@@ -63,7 +63,7 @@ def text_of(line: Line) -> str:
                    f"    exec runuser -u {shlex.quote(line.user)} -- \"$0\" \"$@\"", "fi"] if line.user else []
     return "\n".join(["#!/bin/sh", f"# line {line.number} of a crontab: {printable(line.text)}",
                       "# application, input arrival and serial are its arguments", *run_by_user, *home, *settings,
-                      'cd "${HOME:-/}" || exit 1', run if given is not None else f"exec {run}", ""])
+                      'cd "${HOME:-/}" 2> /dev/null || cd /', run if given is not None else f"exec {run}", ""])
 
 
 def parted(command: str) -> tuple[str, str | None]:

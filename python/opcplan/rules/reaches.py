@@ -46,6 +46,9 @@ def shortfalls(defined: Definitions, first: int, last: int, only: Collection[str
     for one in lasts:
         by_app[one.app].append(one)
     ends = {app: end_of(defined, app, ended) for app, ended in by_app.items()}
+    for app in apps:
+        if naming.obstacle_of(defined, app) is None:
+            lasts += unexcluded(defined, app, last, ends.get(app))
     return [*of_periods(defined, lasts, ends, last), *of_calendars(defined, apps, first, last),
             *of_run_cycles(lasts, ends, first, last)]
 
@@ -61,6 +64,25 @@ def lasts_of(defined: Definitions, app: str, last: int) -> list[Last]:
         day = min((one for one in (listed, until) if one is not None), default=None)
         if day is not None and day < last:
             found.append(Last(app, cycle, day, day == listed))
+    return found
+
+
+def unexcluded(defined: Definitions, app: str, last: int, end: int | None) -> list[Last]:
+    """The excluding run cycles of an application that take no day away any more, though others of it still name some:
+    where their period would have listed another interval before the plan ends, as far apart as the longest are."""
+    cycles, found = defined.run_cycles.get(app, {}), []
+    for _, cycle in sorted(cycles.items()):
+        period = defined.periods[cycle.period]
+        if not cycle.excludes or period.kind != "N" or all(other.excludes for other in cycles.values()):
+            continue
+        first, day = period.listed()[-1]
+        origins = [entry.origin for entry in period.entries]
+        longest = max((after - before for before, after in zip(origins, origins[1:])), default=YEAR)
+        if day is None:
+            day = last_counted(cycle, defined.work_days(app), first)
+        is_meant = cycle.out_effect is not None and cycle.out_effect <= day + 1
+        if first + longest <= last and not is_meant and (end is None or day < end):
+            found.append(Last(app, cycle, day, True))
     return found
 
 
@@ -123,11 +145,15 @@ def of_periods(
         first, end = period.listed()[-1]
         begins = f"{name} ends {day_text(end)}" if end is not None else \
             f"{name} lists no interval after the one from {day_text(first)} on"
-        wholly = sorted({one.app for one in members if is_within(ends[one.app], after)})
-        partly = [f"{one.cycle.name} of {one.app}" for one in members if one.app not in wholly]
+        naming_ones = [one for one in members if not one.cycle.excludes]
+        wholly = sorted({one.app for one in naming_ones if is_within(ends[one.app], after)})
+        partly = [f"{one.cycle.name} of {one.app}" for one in naming_ones if one.app not in wholly]
+        excluding = [f"{one.cycle.name} of {one.app}" for one in members if one.cycle.excludes]
         since = "it" if after == end else day_text(after)
         said = [f"{few(wholly)} {'has' if len(wholly) == 1 else 'have'} no occurrence after {since}"] if wholly else []
         said += [f"{few(partly)} {'names' if len(partly) == 1 else 'name'} no day after {since}"] if partly else []
+        said += [f"{few(excluding)} {'excludes' if len(excluding) == 1 else 'exclude'} no day after {since}"] \
+            if excluding else []
         text = f"{begins} and the plan goes to {day_text(last)}: {', and '.join(said)}. {way_on(name, period, last)}"
         found.append(Shortfall("ends", (name, end or first, last), text))
     return found
