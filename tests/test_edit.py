@@ -331,6 +331,7 @@ class Edit(unittest.TestCase):
         self.assertTrue(text.startswith("define options --job 9\n"), text)
 
     def test_what_is_told(self):
+        """Each stream that is printed here and not run has a number of its own, from 9 on."""
         file = self.written(plans.planner_of(BASE))
         for given, says in (
             ("calendar DEFAULT 2027-01-04 free",
@@ -341,7 +342,7 @@ class Edit(unittest.TestCase):
              ["in 2 entries", "2027-01-10 (SUN), not listed, free by its weekday", "1 of this stood so already"]),
             ("application SALES pending", ["active -> pending", "2 run cycles", "(LEDGER)"]),
             ("run-cycle SALES DAILY deadline=17.00", ["deadline time: 20.00 -> 17.00", "before it arrives", "NOT",
-                                                      "`ltp-modify-one --app SALES --job 10`"]),
+                                                      "`ltp-modify-one --app SALES --job 14`"]),
             ("run-cycle BACKUP FIFTH offset=6", ["past each interval of WORK5"]),
             ("predecessor LEDGER add BACKUP 12", ["loop"]),
             ("predecessor SALES add SHOP", ["SALES waits for SHOP too, without a limit", "waits for no other"]),

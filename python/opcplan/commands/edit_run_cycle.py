@@ -51,9 +51,8 @@ def change(plan: Plan, found: Definitions, given: argparse.Namespace) -> Change:
     if given.pairs[0] == (NEW, ""):
         return new_cycle(plan, found, given.app, given.name, given.pairs[1:])
     if given.name not in cycles:
-        meant = meant_text(given.name, cycles)
-        raise Unmade(f"{given.app} has no run cycle {given.name}{meant}, but {few(cycles) or 'none'}; "
-                     f"`run-cycle {given.app} {given.name} new ..` gives it one")
+        raise Unmade(f"there is no run cycle {given.name} of {given.app}{meant_text(given.name, cycles)}; it has "
+                     f"{few(cycles) or 'none'}, and `run-cycle {given.app} {given.name} new ..` gives it one")
     before = cycles[given.name]
     wanted = wanted_fields(given.pairs)
     after = cycle_of({**fields_of(plan, given.app, before), **wanted})

@@ -211,7 +211,7 @@ def name_of(line: Line) -> str:
         folder, _, base = "".join(words[:1]).rpartition(".")
     name = letters_of(base.partition(".")[0] or base)
     above = letters_of(re.split("[/.]" if is_module else "/", folder)[-1])
-    if name in GENERIC and above and above not in PLACES:
+    if name in GENERIC and above not in ("", name, *PLACES):
         name = f"{above}{name}"
     return name.lstrip("0123456789")[:16] or f"CRON{line.number}"[:16]
 
