@@ -1,8 +1,8 @@
 """./plan agent: each job is run once and its end told, whatever is killed; the desk is the plain planner here, and a
 real one where a day is worked off."""
 
-import argparse
 import contextlib
+import dataclasses
 import datetime
 import hashlib
 import io
@@ -21,7 +21,7 @@ from pathlib import Path
 from support import plans
 from support.plans import plain
 
-from opcplan.agent import record, watch, work
+from opcplan.agent import record, state, work
 from opcplan.desk import client
 
 
@@ -49,16 +49,17 @@ class PlainDesk:
     """A desk that is a plain planner, as an agent asks it. `faults` are done in turn at the next statements."""
 
     name, life = "plain", "log"
+    turn = 0
 
     def __init__(self, text):
         self.planner, self.log, self.keys, self.faults = plain.Planner(), [], {}, []
         plain.run(text.encode(), self.planner)
 
     def request(self, method, path, body=None, heads=()):
-        if method == "POST":
-            return {}, self.statement(body.decode(), dict(heads)["Idempotency-Key"])
-        word, _, query = path.partition("?")
         position = len(self.log)
+        if method == "POST":
+            return {}, self.statement(body.decode(), heads["Idempotency-Key"], heads["If-Match"])
+        word, _, query = path.partition("?")
         if word == "/health":
             return {}, json.dumps({"position": position, "tag": f"{self.life}-{position}"}).encode()
         if word == "/journal":
@@ -72,10 +73,15 @@ class PlainDesk:
         return [{"serial": row[0], "app": row[1], "ia": plain.moment_text(row[2], "/"), "status": status,
                  "deadline": plain.moment_text(row[3], "/")} for row, status in self.planner.current.values()]
 
-    def statement(self, text, key):
+    def go_over(self):
+        self.turn += 1
+
+    def statement(self, text, key, condition):
         fault = self.faults.pop(0) if self.faults else None
         if fault == "before":
             raise client.Away("it is away", False)
+        if key not in self.keys and condition != f'"{self.life}-{len(self.log)}"':
+            raise client.Refused(412, "the plan has changed since it was looked at; nothing was done")
         if key not in self.keys:
             self.keys[key] = self.put(text.strip(), key)
         if fault == "after":
@@ -117,8 +123,7 @@ class Room(unittest.TestCase):
         path.chmod(0o755)
 
     def agent(self, desk):
-        given = argparse.Namespace(jobs=str(self.jobs), logs=str(self.logs), most=4, limit=None,
-                                   now=plain.read_moment("2024-01-01/12.00"))
+        given = work.Settings(str(self.jobs), str(self.logs), now=plain.read_moment("2024-01-01/12.00"))
         found = work.Agent(given, desk)
         found.load()
         return found
@@ -180,7 +185,7 @@ class Step(Room):
         for name in ("AA", "BB", "CC", "DD", "EE"):
             self.job(name, f"echo b >> {self.room}/runs; sleep 0.2; echo e >> {self.room}/runs")
         agent = self.agent(desk)
-        agent.given.most = 2
+        agent.given = dataclasses.replace(agent.given, most=2)
         self.until(lambda: len(desk.log) == 10, agent)
         running = greatest = 0
         for (sign,) in self.runs():
@@ -195,7 +200,7 @@ class Step(Room):
         for name in ("BB", "CC"):
             self.job(name, f"echo >> {self.room}/runs")
         agent = self.agent(desk)
-        agent.given.now = plain.read_moment("2024-01-01/08.01")
+        agent.given = dataclasses.replace(agent.given, now=plain.read_moment("2024-01-01/08.01"))
         self.until(lambda: True, agent)
         self.assertEqual((desk.log, record.serials(self.logs)), ([], []))
         for statement in ("cp-start", "cp-complete"):
@@ -213,7 +218,7 @@ class Step(Room):
         self.until(lambda: True, agent)
         desk.put("cp-reset --app BB --ia 2024-01-01/08.01")
         known = len(desk.log)
-        self.until(lambda: agent.watched.position == known, agent)
+        self.until(lambda: agent.state.plan.position == known, agent)
         self.assertEqual(len(desk.log), known)  # the agent asks for nothing that is refused
         for word in ("start", "complete"):
             desk.put(f"cp-{word} --app AA --ia 2024-01-01/08.01")
@@ -230,7 +235,7 @@ class Step(Room):
                 agent = self.agent(desk)
                 end = time.monotonic() + PATIENCE
                 with contextlib.redirect_stderr(io.StringIO()):
-                    while agent.records or desk.status("AA") != "C":
+                    while agent.state.records or desk.status("AA") != "C":
                         with contextlib.suppress(client.Away):
                             agent.step()
                         self.assertLess(time.monotonic(), end)
@@ -262,19 +267,20 @@ class Step(Room):
 
     def test_an_agent_that_goes_over_to_another_desk_of_its_log_waits_for_it(self):
         first, behind = (PlainDesk(day_stream({"AA": "", "BB": ""})) for _ in range(2))
-        watched = watch.Watched(first)
+        agent = self.agent(first)
         first.put("cp-start --app AA --ia 2024-01-01/08.00")
-        watched.refresh()
-        watched.desk = behind
+        self.until(lambda: True, agent)
+        agent.asking.desk = agent.desk = behind
         with self.assertRaisesRegex(client.Away, "behind entry 1"):
-            watched.refresh()
-        self.assertEqual((watched.position, watched.rows[1].status), (1, "S"))
+            agent.step()
+        plan = agent.state.plan
+        self.assertEqual((plan.position, plan.rows[1].status, behind.turn), (1, "S", 1))
         behind.put("cp-start --app AA --ia 2024-01-01/08.00")
-        watched.refresh()
+        self.until(lambda: True, agent)
         behind.life = "another"
         behind.log.pop()
-        watched.refresh()
-        self.assertEqual(watched.position, 0)
+        self.until(lambda: True, agent)
+        self.assertEqual(plan.position, 0)
 
     def test_killed_before_the_statement_it_is_begun_by_the_next_agent(self):
         desk = PlainDesk(day_stream({"AA": ""}))
@@ -302,7 +308,7 @@ class Step(Room):
         (runner,), (job,) = self.runs()
         os.kill(int(runner), signal.SIGKILL)
         self.addCleanup(os.kill, int(job), signal.SIGKILL)
-        told = self.until(lambda: agent.lost, agent)
+        told = self.until(lambda: agent.state.lost, agent)
         self.assertIn("left no end; nothing is touched", told)
         told = self.until(lambda: True, self.agent(desk))
         self.assertIn("left no end; nothing is touched", told)
@@ -328,7 +334,7 @@ class Step(Room):
         for word in ("fail", "reset", "start"):
             desk.put(f"cp-{word} --app AA --ia 2024-01-01/08.00")
         self.go()
-        told = self.until(lambda: not agent.records, agent)
+        told = self.until(lambda: not agent.state.records, agent)
         self.assertIn("the desk isn't told", told)
         self.assertEqual((desk.status("AA"), len(desk.log), len(self.runs())), ("S", 4, 1))
 
@@ -349,7 +355,7 @@ class Step(Room):
         desk = PlainDesk(day_stream({"AA": ""}))
         self.job("AA", f"sleep 60 & echo $! >> {self.room}/runs; wait")
         agent = self.agent(desk)
-        agent.given.limit = 0.5
+        agent.given = dataclasses.replace(agent.given, limit=0.5)
         told = self.until(lambda: desk.status("AA") == "E", agent)
         self.assertIn("by signal 15; it ran longer than 0.5 seconds", told)
         ((job,),) = self.runs()
@@ -359,18 +365,32 @@ class Step(Room):
     def test_what_another_agent_has_is_left_to_it(self):
         desk = PlainDesk(day_stream({"AA": ""}))
         self.job("AA", f"touch {self.room}/runs")
-        agent, refresh = self.agent(desk), watch.Watched.refresh
+        agent, send = self.agent(desk), state.State.send
 
-        def slow(watched, since=None):
-            refresh(watched, since)
+        def slow(known, *words):
             if not desk.log:  # it is started behind what this agent sees
                 desk.put("cp-start --app AA --ia 2024-01-01/08.00")
+            send(known, *words)
 
-        with unittest.mock.patch.object(watch.Watched, "refresh", slow):
+        with unittest.mock.patch.object(state.State, "send", slow):
             told = self.until(lambda: True, agent)
-        self.assertIn("it isn't started: the desk says `refused 29`", told)
+        self.assertIn("AA 2024-01-01/08.00 (serial 1): it is started by now", told)
         self.until(lambda: True, agent)
-        self.assertEqual((len(desk.log), self.runs(), sorted(os.listdir(self.logs))), (2, [], []))
+        self.assertEqual((len(desk.log), self.runs(), sorted(os.listdir(self.logs))), (1, [], []))
+
+    def test_what_the_desk_refuses_rests(self):
+        desk = PlainDesk(day_stream({"AA": ""}))
+        self.job("AA", f"touch {self.room}/runs")
+
+        def refuse(text, key):
+            desk.log.append({"seq": 1, "statement": text, "job": FIRST_JOB, "reply": "refused 29", "key": key})
+            return desk.log[-1]
+
+        desk.put, agent = refuse, self.agent(desk)
+        told = self.until(lambda: True, agent)
+        self.assertIn("it isn't started: the desk says `refused 29`", told)
+        self.assertEqual(self.until(lambda: True, agent), "")
+        self.assertEqual((self.runs(), sorted(os.listdir(self.logs))), ([], []))
 
     def test_hostile_names_begin_nothing(self):
         desk = PlainDesk(day_stream({"AA": ""}))

@@ -10,13 +10,14 @@ import fcntl
 import json
 import os
 import re
+from collections.abc import Iterator
 
 from opcplan.errors import Unreadable
 
 FILE = re.compile(r"([0-9]{9})\.run")
 
 
-@dataclasses.dataclass
+@dataclasses.dataclass(frozen=True)
 class Record:
     """A run of an occurrence."""
 
@@ -32,28 +33,44 @@ class Record:
     why: str | None = None  # what else there is to say of its end
 
     @property
-    def name(self):
+    def name(self) -> str:
+        """The occurrence, in words."""
         return f"{self.app} {self.ia} (serial {self.serial})"
 
     @property
-    def is_good(self):
+    def is_good(self) -> bool:
         """Whether a job that ended did what it had to do."""
         return self.status == 0 and self.why is None
+
+    @property
+    def end_key(self) -> str:
+        """The key under which a desk is told how the job ended."""
+        return f"{self.key}-end"
+
+    @property
+    def ended_text(self) -> str:
+        """How the job ended, in words."""
+        if self.status is None:
+            return self.why or ""
+        told = f"status {self.status}" if self.status >= 0 else f"by signal {-self.status}"
+        return f"{told}; {self.why}" if self.why else told
 
 
 class Faulty(Unreadable):
     """What is wrong with a file of a record."""
 
 
-def path_of(folder, serial):
+def path_of(folder: str, serial: int) -> str:
+    """The path of a record."""
     return os.path.join(folder, f"{serial:09}.run")
 
 
-def log_of(folder, serial):
+def log_of(folder: str, serial: int) -> str:
+    """The path of the log of a serial's runs."""
     return os.path.join(folder, f"{serial:09}.log")
 
 
-def write(folder, one):
+def write(folder: str, one: Record) -> None:
     """Puts a record in the place of what was there, on the disk, whole. Raises OSError."""
     path = path_of(folder, one.serial)
     part = f"{path}.part"
@@ -66,7 +83,8 @@ def write(folder, one):
     sync(folder)
 
 
-def sync(folder):
+def sync(folder: str) -> None:
+    """Has the disk keep which files a folder has."""
     number = os.open(folder, os.O_RDONLY | os.O_DIRECTORY | os.O_CLOEXEC)
     try:
         os.fsync(number)
@@ -74,7 +92,7 @@ def sync(folder):
         os.close(number)
 
 
-def read(folder, serial):
+def read(folder: str, serial: int) -> Record:
     """The record of a serial. Raises Faulty and OSError."""
     path = path_of(folder, serial)
     with open(path, encoding="utf-8") as file:
@@ -87,29 +105,39 @@ def read(folder, serial):
     return one
 
 
-def serials(folder):
+def serials(folder: str) -> list[int]:
     """The serials of which there are records."""
     return sorted(int(found[1]) for found in map(FILE.fullmatch, os.listdir(folder)) if found)
 
 
-def forget(folder, serial):
+def forget(folder: str, serial: int) -> None:
     """Takes a record away."""
     os.remove(path_of(folder, serial))
     sync(folder)
 
 
-@contextlib.contextmanager
-def locked_log(folder, serial):
+def open_log(folder: str, serial: int) -> int | None:
     """The number of the log's open file, with its lock; None where another one has that. Raises OSError."""
     flags = os.O_WRONLY | os.O_CREAT | os.O_APPEND | os.O_NOFOLLOW | os.O_CLOEXEC
     number = os.open(log_of(folder, serial), flags, 0o640)
+    if is_taken(number):
+        return number
+    os.close(number)
+    return None
+
+
+@contextlib.contextmanager
+def locked_log(folder: str, serial: int) -> Iterator[int | None]:
+    """A context with the number of the log's open file, as `open_log` has it, which is closed then. Raises OSError."""
+    number = open_log(folder, serial)
     try:
-        yield number if is_taken(number) else None
+        yield number
     finally:
-        os.close(number)
+        if number is not None:
+            os.close(number)
 
 
-def is_taken(number):
+def is_taken(number: int) -> bool:
     """Whether an open file got its lock."""
     try:
         fcntl.flock(number, fcntl.LOCK_EX | fcntl.LOCK_NB)
@@ -118,7 +146,7 @@ def is_taken(number):
     return True
 
 
-def is_run(folder, serial):
+def is_run(folder: str, serial: int) -> bool:
     """Whether a runner has the job of a serial. Raises OSError."""
     with locked_log(folder, serial) as log:
         return log is None

@@ -3,6 +3,7 @@
 Its words are the folder of the records, a serial, the folder of the jobs, and the number of the open log, whose lock it
 has. The job gets a session of its own, and neither the lock nor the token for the desk."""
 
+import dataclasses
 import datetime
 import os
 import signal
@@ -11,6 +12,7 @@ import sys
 import time
 
 from opcplan.agent import record
+from opcplan.agent.record import Record
 
 # between the signal that asks a job to end and the one that ends it
 GRACE = 10
@@ -18,23 +20,23 @@ PRIVATE = ("OPCPLAN_TOKEN", "OPCPLAN_TOKEN_FILE")
 REST = 1
 
 
-def main(folder, serial, jobs, log):
+def main(folder: str, serial: str, jobs: str, number: str) -> None:
+    """Runs the job of a serial to its end."""
     for one in (signal.SIGTERM, signal.SIGINT, signal.SIGHUP):
         signal.signal(one, lambda *_: None)  # the job gets its own signals; how it ended is told all the same
     os.chdir("/")  # it began in the folder of the package
-    log = int(log)
+    log = int(number)
     os.set_inheritable(log, False)
-    one = record.read(folder, int(serial))
-    one.began = clock()
-    keep(folder, one)
-    say(log, f"begins {one.app} {one.ia} {one.serial} at {one.began}")
-    one.status, one.why = outcome(one, jobs, record.log_of(folder, one.serial))
-    one.ended = clock()
-    say(log, f"ended at {one.ended}: {ended_text(one)}")
-    keep(folder, one)
+    begun = dataclasses.replace(record.read(folder, int(serial)), began=clock())
+    keep(folder, begun)
+    say(log, f"begins {begun.app} {begun.ia} {begun.serial} at {begun.began}")
+    status, why = outcome(begun, jobs, record.log_of(folder, begun.serial))
+    ended = dataclasses.replace(begun, ended=clock(), status=status, why=why)
+    say(log, f"ended at {ended.ended}: {ended.ended_text}")
+    keep(folder, ended)
 
 
-def outcome(one, jobs, log):
+def outcome(one: Record, jobs: str, log: str) -> tuple[int | None, str | None]:
     """The status with which a job ends, and what else there is to say."""
     try:
         with open(log, "ab") as output:
@@ -50,12 +52,12 @@ def outcome(one, jobs, log):
         return stopped(job), f"it ran longer than {one.limit:g} seconds, and was ended"
 
 
-def environment():
+def environment() -> dict[str, str]:
     """The environment of this process without the token: a job can read that of its runner."""
     return {name: value for name, value in os.environ.items() if name not in PRIVATE}
 
 
-def stopped(job):
+def stopped(job: subprocess.Popen[bytes]) -> int:
     """Ends a job and all of its group; its status."""
     os.killpg(job.pid, signal.SIGTERM)
     try:
@@ -69,15 +71,7 @@ def stopped(job):
     return job.wait()
 
 
-def ended_text(one):
-    """How a job ended, in words."""
-    if one.status is None:
-        return one.why
-    told = f"status {one.status}" if one.status >= 0 else f"by signal {-one.status}"
-    return f"{told}; {one.why}" if one.why else told
-
-
-def keep(folder, one):
+def keep(folder: str, one: Record) -> None:
     """Writes the record, as soon as the disk takes it."""
     while True:
         try:
@@ -86,7 +80,7 @@ def keep(folder, one):
             time.sleep(REST)
 
 
-def say(log, text):
+def say(log: int, text: str) -> None:
     """A line in the log, where the disk takes it."""
     try:
         os.write(log, f"== agent: {text}\n".encode())
@@ -94,7 +88,8 @@ def say(log, text):
         pass
 
 
-def clock():
+def clock() -> str:
+    """This moment by the local clock."""
     return datetime.datetime.now().astimezone().isoformat(" ", "seconds")
 
 

@@ -54,6 +54,7 @@ def seconds(text: str) -> float:
 
 def run(given: argparse.Namespace) -> int:
     """Does what the words ask for; the exit status."""
-    from opcplan.agent import service
+    from opcplan.agent import service, work
 
-    return service.run(given)
+    settings = work.Settings(given.jobs, given.logs or "", given.most, given.limit, given.every, given.now)
+    return service.run(given.desk, settings)

@@ -2,6 +2,7 @@
 answered, under one key, so that nothing is done twice."""
 
 import contextlib
+import email.message
 import http.client
 import os
 import random
@@ -10,6 +11,8 @@ import shutil
 import socket
 import time
 import urllib.parse
+from collections.abc import Iterator, Mapping
+from typing import BinaryIO, NamedTuple
 
 from opcplan.errors import Error, WrongWords
 
@@ -17,6 +20,8 @@ from opcplan.errors import Error, WrongWords
 PATIENCE, PATIENCE_OF_MANY = 300, 30
 SHORTEST_REST, LONGEST_REST = 0.05, 2.0
 BETWEEN = re.compile(r",(?=https?://|/)")
+Heads = Mapping[str, str]
+NO_HEADS: Heads = {}
 
 
 class Wrong(WrongWords):
@@ -26,7 +31,7 @@ class Wrong(WrongWords):
 class Away(Error):
     """Why there is no whole answer; `may_be_done` tells whether the stream may have been taken all the same."""
 
-    def __init__(self, text, may_be_done):
+    def __init__(self, text: str, may_be_done: bool) -> None:
         super().__init__(text)
         self.may_be_done = may_be_done
 
@@ -34,32 +39,49 @@ class Away(Error):
 class Refused(Error):
     """Why a desk does nothing of what it was asked, in its words, with HTTP's status."""
 
-    def __init__(self, status, text):
+    def __init__(self, status: int, text: str) -> None:
         super().__init__(text)
         self.status = status
+
+
+class Place(NamedTuple):
+    """Where a desk is reached: the path of a socket, or by http or https a host and perhaps a port."""
+
+    scheme: str
+    name: str
+    port: int | None = None
+
+    def connection(self, patience: float) -> http.client.HTTPConnection:
+        """A connection that isn't begun yet, whose answers are waited for so many seconds."""
+        if self.scheme == "socket":
+            return BySocket(self.name, patience)
+        if self.scheme == "https":
+            return http.client.HTTPSConnection(self.name, self.port, timeout=patience)
+        return http.client.HTTPConnection(self.name, self.port, timeout=patience)
 
 
 class BySocket(http.client.HTTPConnection):
     """A connection by a Unix socket."""
 
-    def __init__(self, path, patience):
+    def __init__(self, path: str, patience: float) -> None:
         super().__init__("localhost", timeout=patience)
         self.path = path
 
-    def connect(self):
+    def connect(self) -> None:
+        """Begins it."""
         self.sock = socket.socket(socket.AF_UNIX, socket.SOCK_STREAM)
         self.sock.settimeout(self.timeout)
         self.sock.connect(self.path)
 
 
-def place_of(name):
-    """How a desk is reached, and where. Raises Wrong."""
+def place_of(name: str) -> Place:
+    """Where a desk is reached. Raises Wrong."""
     if "/" in name and "://" not in name:
-        return "socket", name
+        return Place("socket", name)
     found = urllib.parse.urlsplit(name if "://" in name else f"http://{name}")
     with contextlib.suppress(ValueError):
         if found.scheme in ("http", "https") and found.hostname and found.path in ("", "/") and not found.query:
-            return found.scheme, (found.hostname, found.port)
+            return Place(found.scheme, found.hostname, found.port)
     raise Wrong(f"{name!r} is no desk: a desk is http://HOST:PORT, or the path of its socket")
 
 
@@ -67,19 +89,22 @@ class Client:
     """Asks a desk: `http://HOST:PORT`, `https://NAME`, `HOST:PORT`, or the path of a socket. Several desks of one log,
     with commas between them, are asked in turn. Raises Wrong."""
 
-    def __init__(self, name, token=None):
+    def __init__(self, name: str, token: str | None = None) -> None:
         self.name, self.token = name, token
         self.places, self.turn = [place_of(one) for one in BETWEEN.split(name)], 0
 
-    def connection(self):
-        scheme, where = self.places[self.turn % len(self.places)]
+    def connection(self) -> http.client.HTTPConnection:
+        """A connection to the desk whose turn it is."""
         patience = PATIENCE if len(self.places) == 1 else PATIENCE_OF_MANY
-        if scheme == "socket":
-            return BySocket(where, patience)
-        kind = http.client.HTTPSConnection if scheme == "https" else http.client.HTTPConnection
-        return kind(*where, timeout=patience)
+        return self.places[self.turn % len(self.places)].connection(patience)
 
-    def request(self, method, path, body=None, heads=()):
+    def go_over(self) -> None:
+        """The next desk is asked from here on, where there are several."""
+        self.turn += 1
+
+    def request(
+        self, method: str, path: str, body: bytes | None = None, heads: Heads = NO_HEADS
+    ) -> tuple[email.message.Message, bytes]:
         """Headers and body of an answer; of several desks the first that answers gives it, from the one on that did
         last. What changes something has a key. Raises Away and Refused."""
         for left in reversed(range(len(self.places))):
@@ -88,17 +113,19 @@ class Client:
             except (Away, Refused) as why:
                 if isinstance(why, Refused) and why.status != 503:
                     raise
-                self.turn += 1
+                self.go_over()
                 if not left:
                     raise
         raise AssertionError("a client has a desk")
 
-    def asked(self, method, path, body=None, heads=()):
+    def asked(
+        self, method: str, path: str, body: bytes | None = None, heads: Heads = NO_HEADS
+    ) -> tuple[email.message.Message, bytes]:
         """Headers and body of the answer of one desk. Raises Away and Refused."""
         with self.answer(method, path, body, heads) as answer:
             return answer.headers, answer.read()
 
-    def download(self, path, file):
+    def download(self, path: str, file: BinaryIO) -> email.message.Message:
         """Puts the body of an answer into a file, and answers its headers. Raises Away and Refused."""
         with self.answer("GET", path) as answer:
             shutil.copyfileobj(answer, file)
@@ -107,9 +134,11 @@ class Client:
             return answer.headers
 
     @contextlib.contextmanager
-    def answer(self, method, path, body=None, heads=()):
+    def answer(
+        self, method: str, path: str, body: bytes | None = None, heads: Heads = NO_HEADS
+    ) -> Iterator[http.client.HTTPResponse]:
         """A context with an answer that isn't read yet. Raises Away and Refused."""
-        given = {"X-Opcplan": "desk", **dict(heads)}
+        given = {"X-Opcplan": "desk", **heads}
         if self.token:
             given["Authorization"] = f"Bearer {self.token}"
         with contextlib.closing(self.connection()) as connection:
@@ -126,11 +155,11 @@ class Client:
             except (OSError, http.client.HTTPException) as error:
                 raise Away(f"{self.name}: the answer broke off: {error}", True) from None
 
-    def statements(self, text, key, until, heads=()):
+    def statements(self, text: bytes, key: str, until: float, heads: Heads = NO_HEADS) -> bytes:
         """What a stream is answered; it is sent again, up to a moment of the steady clock, while the desk is away.
         Raises Away and Refused."""
         rest, may_be_done = SHORTEST_REST, False
-        heads = {"Idempotency-Key": key, "Content-Type": "text/plain", **dict(heads)}
+        heads = {"Idempotency-Key": key, "Content-Type": "text/plain", **heads}
         while True:
             for _ in self.places:
                 try:
@@ -143,19 +172,19 @@ class Client:
                         raise
                     may_be_done = True
                     last = Away(f"{self.name}: {why}", True)
-                self.turn += 1
+                self.go_over()
             if time.monotonic() + rest > until:
                 raise last
             time.sleep(random.uniform(rest / 2, rest))
             rest = min(2 * rest, LONGEST_REST)
 
 
-def usual():
+def usual() -> str | None:
     """The desk that the environment names, or None."""
     return os.environ.get("OPCPLAN_DESK") or None
 
 
-def token():
+def token() -> str | None:
     """The token that the environment has, or that stands in the file it names, or None. Raises OSError."""
     if path := os.environ.get("OPCPLAN_TOKEN_FILE"):
         with open(path, encoding="utf-8") as file:

@@ -6,10 +6,13 @@ import os
 import re
 import sqlite3
 import time
+from collections.abc import Iterable, Iterator
 from typing import NamedTuple
 
 from opcplan.errors import LogUnwritable, Unreadable
 from opcplan.plans import chain, entry, journal_plan, plan_file, tempfiles
+from opcplan.plans.entry import Entry
+from opcplan.plans.plan_file import Plan
 
 SCHEMA = """
 CREATE TABLE entry (
@@ -39,6 +42,8 @@ NEW_JOURNAL = ("Where that was meant, begin a new journal: name a file by --jour
                "times of the old one stay there")
 # how long a plan may be written to before it is opened, in seconds
 PATIENCE = 30
+# what entries were answered: the number of each, its reply, and the digest of the log up to it where that is known
+Replies = Iterable[tuple[int, str, str | None]]
 
 
 class Happened(NamedTuple):
@@ -58,7 +63,17 @@ class OfPlan(NamedTuple):
     path: str
     device: int
     inode: int
-    jobs: set
+    jobs: set[int]
+
+
+class Begun(NamedTuple):
+    """From where on a journal keeps a log that several desks share: which log, behind which entry, how many jobs the
+    plan had then, and the digest of the log up to that entry, where it is known."""
+
+    log: str
+    seq: int
+    jobs: int
+    digest: str | None
 
 
 class Journal:
@@ -66,7 +81,7 @@ class Journal:
     and `keep_replies`. Each entry is on the disk then, but with `is_copy`: what a power cut takes of one whose log
     stands elsewhere is read there again."""
 
-    def __init__(self, path, floor=0, is_copy=False):
+    def __init__(self, path: str, floor: int = 0, is_copy: bool = False) -> None:
         self.path, self.floor = path, floor
         try:
             self.db = sqlite3.connect(path, isolation_level=None, check_same_thread=False)
@@ -78,7 +93,7 @@ class Journal:
         except sqlite3.Error as error:
             raise Unreadable(f"{path}: it can't be opened as a journal: {fault_text(error, path)}") from None
 
-    def make_tables(self):
+    def make_tables(self) -> None:
         """Makes the tables in a new file. Raises Unreadable where it is another one's."""
         (version,) = self.db.execute("PRAGMA user_version").fetchone()
         names = {name for (name,) in self.db.execute("SELECT name FROM sqlite_schema WHERE type = 'table'")}
@@ -91,14 +106,14 @@ class Journal:
             if name not in columns:
                 self.db.execute(f"ALTER TABLE entry ADD COLUMN {name} TEXT")
 
-    def position(self):
+    def position(self) -> int:
         """The number of the last entry, at least the floor."""
         (last,) = self.reader.execute("SELECT max(seq) FROM entry").fetchone()
         return max(last or 0, self.floor)
 
-    def put(self, entries, replies=()):
-        """Keeps Entries under their numbers, and replies [(seq, reply, digest)], all or nothing. One that stands there
-        stays, and has to be the same. Raises Unwritable."""
+    def put(self, entries: Iterable[Entry], replies: Replies = ()) -> None:
+        """Keeps Entries under their numbers, and replies, all or nothing. One that stands there stays, and has to be
+        the same. Raises LogUnwritable."""
         with self.transaction():
             for one in entries:
                 if one.key is not None:  # that of an entry which is so old that its key was free
@@ -111,21 +126,22 @@ class Journal:
                     raise LogUnwritable(f"entry {one.seq} of the journal {self.path} isn't that of the log")
             self.put_replies(replies)
 
-    def has(self, one):
+    def has(self, one: Entry) -> bool:
         """Whether an Entry's text stands under its number."""
-        return self.db.execute("SELECT text FROM entry WHERE seq = ?", (one.seq,)).fetchone() == (stored(one.text),)
+        row = self.db.execute("SELECT text FROM entry WHERE seq = ?", (one.seq,)).fetchone()
+        return bool(row == (stored(one.text),))
 
-    def begun(self):
-        """Which log a plan shares, behind which entry it is kept here, the jobs of the plan then, and the digest of the
-        log up to that entry or None; or None."""
+    def begun(self) -> Begun | None:
+        """From where on it keeps a log that several desks share, or None."""
         columns = {name for _, name, *_ in self.db.execute("PRAGMA table_info(begun)")}
         if not columns:
             return None
         digest = "digest" if "digest" in columns else "NULL"
-        return self.db.execute(f"SELECT log, seq, jobs, {digest} FROM begun").fetchone()
+        row = self.db.execute(f"SELECT log, seq, jobs, {digest} FROM begun").fetchone()
+        return None if row is None else Begun(*row)
 
-    def begin(self, log_id, seq, jobs, digest=None):
-        """Keeps which log the plan shares from an entry on, whose digest is that. Raises Unwritable."""
+    def begin(self, log_id: str, seq: int, jobs: int, digest: str | None = None) -> None:
+        """Keeps which log the plan shares from an entry on, whose digest is that. Raises LogUnwritable."""
         with self.transaction():
             self.db.execute("DROP TABLE IF EXISTS begun")
             self.db.execute("DROP TABLE IF EXISTS of_plan")
@@ -133,18 +149,19 @@ class Journal:
             self.db.execute("INSERT INTO begun VALUES (?, ?, ?, ?)", (log_id, seq, jobs, digest))
         self.floor = seq
 
-    def keep_replies(self, replies):
-        """Keeps what entries were answered, [(seq, reply, digest)]. Raises Unwritable."""
+    def keep_replies(self, replies: Replies) -> None:
+        """Keeps what entries were answered. Raises LogUnwritable."""
         with self.transaction():
             self.put_replies(replies)
 
-    def put_replies(self, replies):
+    def put_replies(self, replies: Replies) -> None:
+        """The same within a transaction."""
         for seq, reply, digest in replies:
             self.db.execute("UPDATE entry SET reply = ?, digest = ? WHERE seq = ?", (reply, digest, seq))
             if found := STATUS.fullmatch(reply):
                 self.keep_status(seq, int(found.group(1)), found.group(2))
 
-    def keep_status(self, seq, serial, status):
+    def keep_status(self, seq: int, serial: int, status: str) -> None:
         """Keeps when an occurrence got a status, where that isn't a job which was answered before."""
         at, job, text = self.db.execute("SELECT at, job, text FROM entry WHERE seq = ?", (seq,)).fetchone()
         if self.db.execute("SELECT 1 FROM entry WHERE job = ? AND seq < ?", (job, seq)).fetchone():
@@ -154,8 +171,8 @@ class Journal:
                         (serial, named["app"], named["ia"], status, at, seq))
 
     @contextlib.contextmanager
-    def transaction(self):
-        """A context that is done whole and synced, or not at all. Raises Unwritable."""
+    def transaction(self) -> Iterator[None]:
+        """A context that is done whole and synced, or not at all. Raises LogUnwritable."""
         try:
             self.db.execute("BEGIN IMMEDIATE")
             yield
@@ -167,12 +184,12 @@ class Journal:
                 raise
             raise LogUnwritable(f"the journal {self.path} can't be written: {fault_text(error, self.path)}") from None
 
-    def entries(self, since=0, most=-1, upto=NO_END):
+    def entries(self, since: int = 0, most: int = -1, upto: int = NO_END) -> list[Entry]:
         """At most so many Entries behind a position, and up to another one, in their order, that are answered."""
         asked = f"SELECT {COLUMNS} FROM entry WHERE seq > ? AND seq <= ? AND reply IS NOT NULL ORDER BY seq LIMIT ?"
         return [entry_of(row) for row in self.reader.execute(asked, (since, upto, most)).fetchall()]
 
-    def every(self):
+    def every(self) -> Iterator[Entry]:
         """All Entries, by and by, those without a reply too."""
         since = -1
         while found := self.reader.execute(f"SELECT {COLUMNS} FROM entry WHERE seq > ? ORDER BY seq LIMIT 1000",
@@ -180,30 +197,33 @@ class Journal:
             since = found[-1][0]
             yield from map(entry_of, found)
 
-    def unanswered(self):
+    def unanswered(self) -> list[Entry]:
         """The Entries from the first one on whose reply isn't kept, in their order."""
         asked = f"""SELECT {COLUMNS} FROM entry WHERE seq >= (SELECT min(seq) FROM entry WHERE reply IS NULL)
             ORDER BY seq"""
         return [entry_of(row) for row in self.reader.execute(asked).fetchall()]
 
-    def stream_of(self, who, key):
+    def stream_of(self, who: str, key: str) -> str | None:
         """The digest of the stream that a caller's key stands for, or None where it stands for none that is known."""
         row = self.reader.execute("""SELECT stream FROM entry WHERE who = ? AND (key = ? OR key > ? AND key < ?)
             AND stream IS NOT NULL LIMIT 1""", (who, key, f"{key}#", f"{key}$")).fetchone()
-        return row and row[0]
+        return None if row is None else str(row[0])
 
-    def first(self):
+    def first(self) -> int:
         """The number of the first entry, one behind the position where there is none."""
+        first: int | None
         (first,) = self.reader.execute("SELECT min(seq) FROM entry").fetchone()
         return self.position() + 1 if first is None else first
 
-    def digest_at(self, seq, base, begin):
+    def digest_at(self, seq: int, base: int, begin: str | None) -> str | None:
         """The digest of the log up to an entry, where that of the entry `base` is `begin`; None where it isn't known.
-        Entries get theirs which an earlier program kept without. Raises Unwritable."""
+        Entries get theirs which an earlier program kept without. Raises LogUnwritable."""
         if seq == base:
             return begin
         row = self.reader.execute("""SELECT seq, digest FROM entry WHERE seq <= ? AND seq > ? AND digest IS NOT NULL
             ORDER BY seq DESC LIMIT 1""", (seq, base)).fetchone()
+        last: int
+        digest: str | None
         last, digest = row or (base, begin)
         found = []
         for one in self.entries(last, -1, seq):
@@ -216,43 +236,43 @@ class Journal:
                 self.db.executemany("UPDATE entry SET digest = ? WHERE seq = ?", found)
         return digest if last == seq else None
 
-    def digests(self, most, upto=NO_END):
+    def digests(self, most: int, upto: int = NO_END) -> dict[int, str]:
         """The last digests that are kept, up to an entry, by the numbers of their entries."""
         asked = "SELECT seq, digest FROM entry WHERE digest IS NOT NULL AND seq <= ? ORDER BY seq DESC LIMIT ?"
         return dict(self.reader.execute(asked, (upto, most)).fetchall())
 
-    def find(self, who, key):
+    def find(self, who: str, key: str) -> Entry | None:
         """The Entry of a caller's key, or None."""
         row = self.reader.execute(f"SELECT {COLUMNS} FROM entry WHERE who = ? AND key = ?", (who, key)).fetchone()
-        return row and entry_of(row)
+        return None if row is None else entry_of(row)
 
-    def last_kept(self, most=1, upto=NO_END):
+    def last_kept(self, most: int = 1, upto: int = NO_END) -> list[Entry]:
         """The last Entries whose job the plan keeps with its reply, up to a position, the last one first."""
         asked = f"""SELECT {COLUMNS} FROM entry WHERE reply IS NOT NULL AND reply NOT LIKE 'refused 10%'
             AND reply NOT LIKE 'refused 11%' AND reply NOT LIKE 'refused 12%' AND seq <= ?
             ORDER BY seq DESC LIMIT ?"""
         return [entry_of(row) for row in self.reader.execute(asked, (upto, most)).fetchall()]
 
-    def jobs(self):
+    def jobs(self) -> set[int]:
         """The job numbers of all entries."""
         return {number for (number,) in self.reader.execute("SELECT job FROM entry")}
 
-    def of_plan(self):
+    def of_plan(self) -> OfPlan | None:
         """The OfPlan that is noted, or None."""
         if self.db.execute("SELECT 1 FROM sqlite_schema WHERE name = 'of_plan'").fetchone() is None:
             return None
         row = self.db.execute("SELECT path, device, inode, jobs FROM of_plan").fetchone()
-        return row and OfPlan(*row[:3], journal_plan.numbers_of(row[3]))
+        return None if row is None else OfPlan(row[0], row[1], row[2], journal_plan.numbers_of(row[3]))
 
-    def note_plan(self, path, device, inode, jobs):
-        """Notes whose journal it is. Raises Unwritable."""
+    def note_plan(self, path: str, device: int, inode: int, jobs: str) -> None:
+        """Notes whose journal it is. Raises LogUnwritable."""
         with self.transaction():
             self.db.execute(journal_plan.TABLE)
             self.db.execute("DELETE FROM of_plan")
             self.db.execute("INSERT INTO of_plan VALUES (?, ?, ?, ?)", (path, device, inode, jobs))
 
-    def happened(self):
-        """What happened, in its order: serial, application, input arrival, status, when, and the entry's seq."""
+    def happened(self) -> list[Happened]:
+        """What happened, in its order."""
         found = self.reader.execute("SELECT serial, app, ia, status, at, seq FROM happened ORDER BY seq").fetchall()
         for serial, app, ia, status, at, seq in found:
             texts = (app, ia, status, at)
@@ -260,7 +280,7 @@ class Journal:
                 raise sqlite3.DatabaseError(f"what happened by entry {seq} is nothing that a desk writes")
         return [Happened(*row) for row in found]
 
-    def close(self):
+    def close(self) -> None:
         """Leaves all in one file."""
         self.reader.close()
         with contextlib.suppress(sqlite3.Error):
@@ -268,7 +288,7 @@ class Journal:
         self.db.close()
 
 
-def fault_text(error, path):
+def fault_text(error: sqlite3.Error, path: str) -> str:
     """What a fault of SQLite over a file means: of a full disk it says `disk I/O error` too."""
     with contextlib.suppress(OSError):
         room = os.statvfs(os.path.dirname(os.path.abspath(path)))
@@ -277,17 +297,17 @@ def fault_text(error, path):
     return str(error)
 
 
-def entry_of(row):
+def entry_of(row: tuple[int, str, str, str | None, int, str | bytes, str | None, str | None]) -> Entry:
     """The Entry of a row. Raises DatabaseError where no desk wrote it."""
     seq, at, who, key, job, text, reply, stream = row
     texts = [at, who, *(one for one in (key, reply, stream) if one is not None)]
     if not (all(isinstance(one, str) for one in texts) and entry.is_moment(at) and isinstance(job, int)
             and isinstance(text, (str, bytes))):
         raise sqlite3.DatabaseError(f"entry {seq} is none of a desk")
-    return entry.Entry(seq, at, who, key, job, text.encode() if isinstance(text, str) else text, reply, stream)
+    return Entry(seq, at, who, key, job, text.encode() if isinstance(text, str) else text, reply, stream)
 
 
-def stored(text):
+def stored(text: bytes) -> str | bytes:
     """A text as it is kept: as text where it is one."""
     try:
         return text if b"\0" in text else text.decode("utf-8")
@@ -295,7 +315,7 @@ def stored(text):
         return text
 
 
-def options(text):
+def options(text: str | bytes) -> dict[str, str]:
     """The options of a statement's line by name."""
     line = text.encode() if isinstance(text, str) else text
     given = line.split(b"\n", 1)[0].decode("ascii").replace("=", " ").split()
@@ -303,7 +323,7 @@ def options(text):
 
 
 @contextlib.contextmanager
-def opened(path):
+def opened(path: str) -> Iterator[Journal]:
     """A Journal to read: a private copy, which goes when the context ends. Raises Unreadable."""
     if os.path.exists(path) and not os.path.isfile(path):
         raise Unreadable(f"{path}: it is no file")
@@ -327,12 +347,12 @@ def opened(path):
                 raise Unreadable(f"{path}: it can't be read as a journal: {error}") from None
 
 
-def beside(plan):
+def beside(plan: str) -> str:
     """The path of the usual journal of a plan."""
     return os.path.realpath(plan) + TAIL
 
 
-def for_desk(path, plan):
+def for_desk(path: str, plan: str) -> Journal:
     """The Journal of a desk over a plan: it goes on behind what either has. Raises Unreadable where the plan is older
     than the journal."""
     with at_rest(plan) as held:
@@ -353,15 +373,16 @@ def for_desk(path, plan):
     return journal
 
 
-def position_of(held):
+def position_of(held: Plan) -> int:
     """How far a plan has a log by itself: the entry of the greatest number that a desk gave."""
     asked = "SELECT max(number) FROM job WHERE number BETWEEN ? AND ?"
+    greatest: int | None
     (greatest,) = held.db.execute(asked, (entry.FIRST_JOB, entry.LAST_JOB)).fetchone()
     return greatest - entry.FIRST_JOB + 1 if greatest else 0
 
 
 @contextlib.contextmanager
-def at_rest(plan):
+def at_rest(plan: str) -> Iterator[Plan]:
     """A Plan of the file; where the opcplan of a killed desk still writes, it is waited for. Raises Unreadable."""
     with contextlib.ExitStack() as files:
         until = time.monotonic() + PATIENCE
