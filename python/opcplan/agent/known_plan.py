@@ -104,7 +104,7 @@ class KnownPlan:
             self.rows[row.serial] = row._replace(status=found[2])
 
     def take_latest(self, one: Entry) -> None:
-        """Notes who gave an occurrence its status. What is started isn't started again."""
+        """Notes who gave an occurrence its status. An old answer doesn't start what is started."""
         found = STATUS.fullmatch(one.reply)
         if not found:
             return
@@ -112,15 +112,17 @@ class KnownPlan:
         known = self.latest.get(serial)
         if one.is_old:
             self.sure.setdefault(serial, known)
-        if known is None or (status, known.status) != ("S", "S"):
+        if not one.is_old or known is None or (status, known.status) != ("S", "S"):
             self.latest[serial] = Latest(status, one.key)
 
     def settle(self) -> None:
         """Takes back what the rows don't show: a caller's own number that was answered again as it once was."""
         for serial, known in self.sure.items():
-            row = self.rows.get(serial)
-            if known and row and row.status != self.latest[serial].status:
-                self.latest[serial] = known
+            row, found = self.rows.get(serial), self.latest.get(serial)
+            if row and found and row.status != found.status:
+                del self.latest[serial]
+                if known:
+                    self.latest[serial] = known
         self.sure = {}
 
     def take_rows(self, rows: Mapping[int, Row], position: int) -> None:

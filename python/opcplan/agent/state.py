@@ -106,7 +106,7 @@ class Fetched:
     rows: dict[int, Row] | None = None
     rows_at: int = 0
     is_whole: bool = False  # whether the journal is asked for from its beginning
-    tries: int = TRIES
+    tries: int = dataclasses.field(default_factory=lambda: TRIES)
 
 
 class State:

@@ -1,0 +1,527 @@
+"""Small worlds around the state of an agent: a desk with its log, the agent's disk, runners with their jobs, and people
+who act besides. Each step that may come next is a state of its own; what the agent promises is asked there of what the
+log has and what the jobs did.
+
+The desk may be behind its log: one that was begun again, or another one of the same log, answers for a while as it was
+some entries before."""
+
+import copy
+import dataclasses
+from collections import deque
+from typing import NamedTuple
+
+from opcplan.agent import known_plan, state
+from opcplan.agent.known_plan import Entry, Pair, Row
+from opcplan.agent.record import Record
+from opcplan.plans.entry import FIRST_JOB
+
+NOW = 10
+# statuses from which an act goes, and to which; as docs/rules/STATEMENTS.md has them
+ACTS = {"start": ("W", "S"), "complete": ("SE", "C"), "fail": ("S", "E"), "reset": ("E", "W"), "delete": ("WE", "D")}
+GOOD, BAD = 0, 1
+OLD_JOB = 20
+ANY = "any"
+ROUNDS = 12
+
+
+class Wrong(Exception):
+    """What a world shows that must not be."""
+
+
+class Kind(NamedTuple):
+    """A small world: how many occurrences there are, each of which waits for the one before it, what people do, and how
+    often what goes wrong."""
+
+    rows: int = 1
+    most: int = 2
+    acts: tuple = ()  # what people do, in this order, at any moment
+    olds: int = 0  # old jobs that are answered again
+    fails: int = 0  # jobs that end badly
+    agent_ends: int = 0
+    runner_ends: int = 0
+    desk_ends: int = 0
+    others: int = 0  # times that another desk of the log is asked
+    joined: int = 0  # the same, of one whose journal begins where it is
+    lost: int = 0  # requests whose answer is lost
+    away: int = 0  # requests that don't come to the desk
+    late: int = 0  # requests that come to the desk later
+
+
+class Sent(NamedTuple):
+    """A statement on its way."""
+
+    serial: int
+    act: str
+    key: str
+    tag: str
+
+
+class Runner(NamedTuple):
+    """A runner: `begun` (it has the log), `noted` (the record says that the job begins), `running`, `over` (the job
+    ended), `last` (the record says so)."""
+
+    serial: int
+    key: str
+    phase: str
+
+
+class Job(NamedTuple):
+    """A job that began, and how it ended."""
+
+    serial: int
+    key: str
+    outcome: int | None = None
+
+
+@dataclasses.dataclass
+class World:
+    """One state of all that there is."""
+
+    kind: Kind
+    left: Kind
+    agent: state.State | None = None
+    log: tuple = ()
+    served: int = 0  # the entry up to which the desk that is asked has answers
+    begins: int = 0  # the entry behind which its journal begins
+    life: int = 0
+    disk: tuple = ()  # records by serial
+    claimed: frozenset = frozenset()  # serials whose log the agent has
+    runners: tuple = ()
+    jobs: tuple = ()
+    late: tuple = ()
+    done: int = 0  # how many of the acts people did
+    keys: int = 0
+
+    def next(self):
+        """A copy that is to change."""
+        found = copy.copy(self)
+        if self.agent is not None:
+            found.agent = copied(self.agent)
+            found.agent.plan = copied(self.agent.plan)
+            found.agent.fetched = copy.copy(self.agent.fetched)
+        return found
+
+    def frozen(self):
+        """What tells this state from others."""
+        return (frozen(self.agent), self.left, self.log, self.served, self.begins, self.life, self.disk, self.claimed,
+                self.runners, self.jobs, self.late, self.done, self.keys)
+
+    def spent(self, name):
+        """Notes that something went wrong once more."""
+        self.left = self.left._replace(**{name: getattr(self.left, name) - 1})
+
+    # The desk.
+
+    def status(self, serial, upto=None):
+        """The status of an occurrence after some entries."""
+        found = [one.reply[-1] for one in self.of_serial(serial, upto)]
+        return found[-1] if found else "W"
+
+    def of_serial(self, serial, upto=None):
+        """The entries that changed an occurrence, up to one."""
+        return [one for one in self.log[:upto] if one.reply.startswith(f"ok serial {serial} ") and one.job >= FIRST_JOB]
+
+    def answered(self):
+        """The entries that the desk's journal has."""
+        return self.log[: self.served]
+
+    def rows(self):
+        """The rows that the desk tells."""
+        return [Row(serial, f"A{serial}", str(serial), serial, serial, self.status(serial, self.served))
+                for serial in range(1, self.kind.rows + 1)]
+
+    def put(self, act, serial, key=None):
+        """The entry that a statement becomes, at the end of the log."""
+        before, after = ACTS[act]
+        status = self.status(serial)
+        if act == "start" and serial > 1 and self.status(serial - 1) != "C":
+            reply = "refused 30"
+        else:
+            reply = f"ok serial {serial} status {after}" if status in before else "refused 29"
+        seq = len(self.log) + 1
+        self.log += (Entry(seq, f"cp-{act} --app A{serial} --ia {serial}", FIRST_JOB + seq - 1, reply, key),)
+        return self.log[-1]
+
+    def deliver(self, sent):
+        """What the desk answers to a statement with a key and a condition; None where the plan has changed."""
+        known = next((one for one in self.log if one.key == sent.key), None)
+        if known is not None:
+            return known
+        return self.put(sent.act, sent.serial, sent.key) if self.is_state(sent.tag) else None
+
+    def is_state(self, tag):
+        """Whether a tag names the state of the plan; ANY names each."""
+        life, _, seq = tag.rpartition("-")
+        changed = max((one.seq for one in self.log if one.reply.startswith("ok")), default=0)
+        return tag == ANY or life == str(self.life) and changed <= int(seq) <= len(self.log)
+
+    # The machine of the agent.
+
+    def record(self, serial):
+        """The record of a serial on the disk, or None."""
+        return next((one for one in self.disk if one.serial == serial), None)
+
+    def keep(self, one):
+        """Puts a record on the disk."""
+        self.disk = tuple(sorted((*self.without(one.serial), one)))
+
+    def without(self, serial):
+        """The records of others."""
+        return tuple(one for one in self.disk if one.serial != serial)
+
+    def runner(self, serial):
+        """The runner of a serial, or None."""
+        return next((one for one in self.runners if one.serial == serial), None)
+
+    def set_runner(self, one, phase):
+        """A runner comes to a phase, None where it is gone."""
+        others = tuple(other for other in self.runners if other.serial != one.serial)
+        self.runners = others if phase is None else tuple(sorted((*others, one._replace(phase=phase))))
+
+    def rest(self):
+        """The look is over, and the logs that the agent has are closed."""
+        self.agent.command, self.claimed = None, frozenset()
+
+
+Record.__lt__ = lambda one, other: one.serial < other.serial
+
+
+def copied(one):
+    """A copy with containers of its own."""
+    found = copy.copy(one)
+    for name, value in vars(one).items():
+        if isinstance(value, (list, dict, set, deque)):
+            setattr(found, name, value.copy())
+    return found
+
+
+def frozen(one):
+    """The values of an agent's state, without what it says."""
+    if isinstance(one, (state.State, known_plan.KnownPlan, state.Fetched)):
+        return tuple(frozen(value) for name, value in vars(one).items() if name not in ("messages", "said"))
+    if isinstance(one, dict):
+        return tuple(sorted(one.items()))
+    if isinstance(one, set):
+        return frozenset(one)
+    return tuple(one) if isinstance(one, (list, deque)) else one
+
+
+# What may come next.
+
+
+def steps(world, kind_of_state=state.State):
+    """Each state that may come next, with what happens."""
+    if world.agent is None:
+        found = world.next()
+        found.agent = kind_of_state(found.disk)
+        yield "an agent begins", found
+    elif world.agent.command is None:
+        found = world.next()
+        found.agent.look(NOW, world.kind.most)
+        yield "the agent looks", found
+    else:
+        yield from steps_of_the_agent(world)
+    if world.agent is not None and world.left.agent_ends:
+        found = world.next()
+        found.spent("agent_ends")
+        found.agent, found.claimed = None, frozenset()
+        yield "the agent is killed", found
+    for one in world.runners:
+        yield from steps_of_a_runner(world, one)
+    yield from steps_of_the_desk(world)
+    yield from steps_of_people(world)
+
+
+def steps_of_the_agent(world):
+    """The agent does its command, or what it asks comes to nothing."""
+    command = world.agent.command
+    found = world.next()
+    label = do(found, command)
+    yield label, found
+    if not isinstance(command, (state.AskStanding, state.AskPairs, state.AskRows, state.AskEntries, state.Send)):
+        return
+    if world.left.away:
+        found = world.next()
+        found.spent("away")
+        found.rest()
+        yield f"{label}: the desk is away", found
+    if isinstance(command, state.Send):
+        sent = sent_by(command)
+        if world.left.lost:
+            found = world.next()
+            found.spent("lost")
+            found.deliver(sent)
+            found.rest()
+            yield f"{label}: the answer is lost", found
+        if world.left.late:
+            found = world.next()
+            found.spent("late")
+            found.late += (sent,)
+            found.rest()
+            yield f"{label}: it is on its way for long", found
+
+
+def sent_by(command):
+    """What a command sends."""
+    return Sent(command.record.serial, command.act, command.key, command.tag)
+
+
+def do(world, command):
+    """Does what the agent's state says, as opcplan.agent.work does; what that is."""
+    agent = world.agent
+    try:
+        if isinstance(command, state.AskStanding):
+            agent.standing(world.served, str(world.life))
+        elif isinstance(command, state.AskPairs):
+            agent.pairs([Pair(serial, serial - 1) for serial in range(2, world.kind.rows + 1)], world.served)
+        elif isinstance(command, state.AskRows):
+            agent.rows(world.rows(), world.served)
+        elif isinstance(command, state.AskEntries):
+            agent.entries([one for one in world.answered() if one.seq > max(command.since, world.begins)])
+        elif isinstance(command, state.Send):
+            answer = world.deliver(sent_by(command))
+            world.served = len(world.log)
+            agent.changed() if answer is None else agent.answered(answer)
+        else:
+            do_here(world, command)
+    except state.Behind:
+        world.rest()
+        return f"{type(command).__name__}: the desk is behind"
+    if agent.command is None:
+        world.rest()
+    more = f" {command.act} under {command.key} at {command.tag}" if isinstance(command, state.Send) else ""
+    return f"{type(command).__name__}{more}"
+
+
+def do_here(world, command):
+    """What an agent does with its disk and its runners."""
+    agent = world.agent
+    if isinstance(command, state.Look):
+        world.claimed -= {command.serial}
+        one = world.record(command.serial) or agent.records[command.serial]
+        agent.seen(one, world.runner(command.serial) is not None)
+    elif isinstance(command, state.Prepare):
+        if world.runner(command.row.serial):
+            agent.prepared(None)
+            return
+        world.keys += 1
+        one = Record(command.row.serial, command.row.app, command.row.ia, f"k{world.keys}", command.after, None)
+        world.keep(one)
+        world.claimed |= {one.serial}
+        agent.prepared(one)
+    elif isinstance(command, state.Claim):
+        is_free = world.runner(command.record.serial) is None
+        if is_free:
+            world.claimed |= {command.record.serial}
+            world.keep(command.record)
+        agent.claimed(is_free)
+    elif isinstance(command, state.Run):
+        one = command.record
+        if one.serial not in world.claimed or world.runner(one.serial):
+            raise Wrong(f"two runners of {one.serial}")
+        if [other.key for other in world.of_serial(one.serial, agent.plan.position)][-1:] != [one.key]:
+            raise Wrong(f"{one.key} is run, and by what the agent knows it isn't started")
+        world.runners = tuple(sorted((*world.runners, Runner(one.serial, one.key, "begun"))))
+        world.claimed -= {one.serial}
+        agent.begun()
+    else:
+        world.disk = world.without(command.record.serial)
+        world.claimed -= {command.record.serial}
+        agent.forgotten()
+
+
+def steps_of_a_runner(world, one):
+    """A runner goes on, or is killed."""
+    yield from ((label, found) for label, found, _ in moves(world, one))
+    if world.left.runner_ends:
+        found = world.next()
+        found.spent("runner_ends")
+        found.set_runner(one, None)
+        yield f"the runner of {one.key} is killed, {one.phase}", found
+
+
+def moves(world, one):
+    """How a runner goes on: what happens, the state then, and whether the job ends badly."""
+    found = world.next()
+    kept = found.record(one.serial)
+    if one.phase == "begun":
+        found.set_runner(one, "noted" if kept else None)  # without a record it ends at once
+        if kept:
+            found.keep(dataclasses.replace(kept, began="then"))
+    elif one.phase == "noted":
+        found.set_runner(one, "running")
+        found.jobs += (Job(one.serial, one.key),)
+    elif one.phase == "running":
+        for outcome in (GOOD, BAD) if world.left.fails else (GOOD,):
+            other = world.next()
+            other.jobs = tuple(job._replace(outcome=outcome) if job.key == one.key else job for job in world.jobs)
+            other.set_runner(one, "over")
+            if outcome == BAD:
+                other.spent("fails")
+            yield f"the job of {one.key} ends with {outcome}", other, outcome == BAD
+        return
+    elif one.phase == "over":
+        outcome = next(job.outcome for job in world.jobs if job.key == one.key)
+        found.keep(dataclasses.replace(kept, ended="then", status=outcome))
+        found.set_runner(one, "last")
+    else:
+        found.set_runner(one, None)
+    yield f"the runner of {one.key} goes on, {one.phase}", found, False
+
+
+def steps_of_the_desk(world):
+    """The desk comes nearer to the end of its log, is begun again, or another one is asked."""
+    if world.served < len(world.log):
+        found = world.next()
+        found.served += 1
+        yield "the desk answers one more", found
+    behind = sorted({max(0, world.served - 1), max(0, world.served - 2)})
+    if world.left.desk_ends:
+        for served in behind:
+            found = world.next()
+            found.spent("desk_ends")
+            found.life, found.served = world.life + 1, served
+            yield f"the desk is begun again, at {served}", found
+    if world.left.others:
+        for served in behind:
+            found = world.next()
+            found.spent("others")
+            found.served, found.begins = served, 0
+            yield f"another desk is asked, at {served}", found
+    if world.left.joined and not world.begins:
+        found = world.next()
+        found.spent("joined")
+        found.begins = world.served
+        yield f"another desk is asked, which joined at {world.served}", found
+    for place, sent in enumerate(world.late):
+        found = world.next()
+        found.late = world.late[:place] + world.late[place + 1 :]
+        found.deliver(sent)
+        yield f"{sent.act} under {sent.key} comes late", found
+
+
+def steps_of_people(world):
+    """Somebody changes the first occurrence."""
+    if world.done < len(world.kind.acts):
+        found = world.next()
+        found.done += 1
+        is_level = found.served == len(found.log)
+        found.put(world.kind.acts[world.done], 1)
+        found.served = len(found.log) if is_level else found.served
+        yield f"somebody says {world.kind.acts[world.done]}", found
+    if world.left.olds:
+        for status in "SE":
+            found = world.next()
+            found.spent("olds")
+            seq = len(found.log) + 1
+            found.log += (Entry(seq, "cp-old", OLD_JOB, f"ok serial 1 status {status}", None),)
+            yield f"an old job is answered again, {status}", found
+
+
+# What has to hold.
+
+
+def check(world):
+    """Asks all that has to hold of a state. Raises Wrong."""
+    keys = [job.key for job in world.jobs]
+    if len(set(keys)) < len(keys):
+        raise Wrong(f"a job began twice: {keys}")
+    for job in world.jobs:
+        if not any(one.key == job.key and one.reply.endswith(" S") for one in world.log):
+            raise Wrong(f"the job of {job.key} began, and nobody was told")
+    for one in world.log:
+        if one.key is not None and one.key.endswith("-end") and one.reply.startswith("ok"):
+            check_end(world, one)
+    if world.agent is not None and world.agent.fetched is None and world.agent.plan.position is not None:
+        check_plan(world, world.agent.plan)
+
+
+def check_end(world, one):
+    """What is told of a job's end happened, and of the start that was in force."""
+    job = next((job for job in world.jobs if f"{job.key}-end" == one.key), None)
+    if job is None or job.outcome != (GOOD if one.reply.endswith(" C") else BAD):
+        raise Wrong(f"{one.statement} is told under {one.key}, and the job is {job}")
+    last = [other for other in world.of_serial(job.serial, one.seq - 1)][-1]
+    if last.key != job.key:
+        raise Wrong(f"{one.statement} is told under {one.key}, and {last} was in force")
+
+
+def check_plan(world, plan):
+    """What the agent knows of rows is so at its position."""
+    if plan.position > len(world.log):
+        raise Wrong(f"position {plan.position} of {len(world.log)} entries")
+    if plan.stale == known_plan.NOTHING:
+        for serial, row in plan.rows.items():
+            if row.status != world.status(serial, plan.position):
+                raise Wrong(f"{row} at entry {plan.position} isn't so")
+
+
+def check_outcome(world, kind_of_state=state.State):
+    """Where nothing goes wrong any more, each job that ended is reported, and nothing is left that nobody has."""
+    last = finished(world, kind_of_state)
+    for one in last.disk:
+        is_unknown = one.began is not None and one.ended is None or last.begins > one.after
+        if not is_unknown:
+            raise Wrong(f"a record is left: {one}")
+    for job in last.jobs:
+        told = any(one.key == f"{job.key}-end" and one.reply.startswith("ok") for one in last.log)
+        kept = last.record(job.serial)
+        if not told and last.of_serial(job.serial)[-1].key == job.key and (kept is None or kept.key != job.key):
+            raise Wrong(f"the end of {job} is never told")
+    for serial in range(1, last.kind.rows + 1):
+        changes = last.of_serial(serial)
+        if changes and changes[-1].reply.endswith(" S") and changes[-1].key and last.record(serial) is None:
+            raise Wrong(f"{changes[-1]} is started, and nobody has it")
+        is_free = serial == 1 or last.status(serial - 1) == "C"
+        if last.status(serial) == "W" and is_free and last.record(serial) is None:
+            raise Wrong(f"{serial} is ready, and nobody begins it")
+
+
+def finished(world, kind_of_state):
+    """What a world comes to where nothing goes wrong any more, and all jobs end well."""
+    found, before = world.next(), None
+    for _ in range(ROUNDS):
+        found.served = len(found.log)
+        while found.runners:
+            _, found, _ = next(moves(found, found.runners[0]))
+        if found.agent is None:
+            found.agent = kind_of_state(found.disk)
+        if found.agent.command is None:
+            found.agent.look(NOW, found.kind.most)
+        while found.agent.command is not None:
+            do(found, found.agent.command)
+            check(found)
+        now = found.log, found.disk, found.runners, found.jobs
+        if now == before:
+            return found
+        before = now
+    raise Wrong("the agent comes to no end")
+
+
+def explored(kind, kind_of_state=state.State):
+    """How many states a world has. Raises Wrong, with how it comes to that."""
+    first = World(kind, kind)
+    seen, waiting = {hash(first.frozen()): (None, "")}, deque([first])
+    while waiting:
+        world = waiting.popleft()
+        number = hash(world.frozen())
+        try:
+            check(world)
+            if world.agent is None or world.agent.command is None:
+                check_outcome(world, kind_of_state)
+            for label, found in steps(world, kind_of_state):
+                if (other := hash(found.frozen())) not in seen:
+                    seen[other] = number, label
+                    waiting.append(found)
+        except (Wrong, AssertionError) as why:
+            raise Wrong(f"{why}\n" + "\n".join(path_to(seen, number))) from None
+    return len(seen)
+
+
+def path_to(seen, number):
+    """What happened up to a state."""
+    found = []
+    while number is not None:
+        number, label = seen[number]
+        found.append(label)
+    return found[::-1]
