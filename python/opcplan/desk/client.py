@@ -12,7 +12,7 @@ import socket
 import time
 import urllib.parse
 from collections.abc import Iterator, Mapping
-from typing import BinaryIO, NamedTuple
+from typing import IO, NamedTuple
 
 from opcplan.errors import Error, WrongWords
 
@@ -125,7 +125,7 @@ class Client:
         with self.answer(method, path, body, heads) as answer:
             return answer.headers, answer.read()
 
-    def download(self, path: str, file: BinaryIO) -> email.message.Message:
+    def download(self, path: str, file: IO[bytes]) -> email.message.Message:
         """Puts the body of an answer into a file, and answers its headers. Raises Away and Refused."""
         with self.answer("GET", path) as answer:
             shutil.copyfileobj(answer, file)

@@ -14,6 +14,8 @@ import time
 from collections.abc import Callable, Iterator
 from typing import Any, NamedTuple
 
+from opcplan.errors import Error
+
 FILE = "printed-numbers"
 LONGEST = 7 * 86_400  # seconds
 MOST_BYTES, MOST_STREAMS = 1 << 20, 200
@@ -28,7 +30,7 @@ class Printed(NamedTuple):
     at: float
 
 
-class Untrusted(Exception):
+class Untrusted(Error):
     """Why what a file has isn't taken."""
 
 
