@@ -4,6 +4,7 @@ import argparse
 import datetime
 import json
 import sys
+from typing import NamedTuple
 
 from opcplan.cli import words
 from opcplan.errors import Error
@@ -12,6 +13,21 @@ from opcplan.plans.entry import Entry
 from opcplan.rules import moments, printable
 
 SUMMARY = "what a desk was asked, by whom, when, and what it answered"
+
+
+class Choice(NamedTuple):
+    """Which entries are asked for: of an application, from a day to another one."""
+
+    app: str | None
+    first: int | None
+    last: int | None
+
+    def has(self, one: Entry) -> bool:
+        """Whether an entry is one of them."""
+        day = (local(one.at).date() - moments.EPOCH.date()).days
+        if self.first is not None and day < self.first or self.last is not None and day > self.last:
+            return False
+        return self.app is None or journal.options(one.text).get("app") == self.app
 
 
 def add_words(parser: words.Parser) -> None:
@@ -39,11 +55,9 @@ def add_journal(parser: words.Parser, usual: str = "PLAN.db.journal beside the p
 
 def run(given: argparse.Namespace) -> int:
     """Does what the words ask for; the exit status."""
-    found = 0
+    choice, found = Choice(given.app, given.first, given.last), 0
     with journal.opened(given.journal or journal.beside(given.plan)) as held:
-        for one in held.every():
-            if not is_asked(one, given):
-                continue
+        for one in filter(choice.has, held.every()):
             found += 1
             if given.stream:
                 sys.stdout.flush()
@@ -53,14 +67,6 @@ def run(given: argparse.Namespace) -> int:
     if not found:
         raise Error("the journal has no such statement")
     return 0
-
-
-def is_asked(one: Entry, given: argparse.Namespace) -> bool:
-    """Whether an entry is of the application and the days that are asked for."""
-    day = (local(one.at).date() - moments.EPOCH.date()).days
-    if given.first is not None and day < given.first or given.last is not None and day > given.last:
-        return False
-    return given.app is None or journal.options(one.text).get("app") == given.app
 
 
 def local(at: str) -> datetime.datetime:

@@ -1,6 +1,7 @@
 """./plan log: the log in etcd that several desks share."""
 
 import argparse
+import dataclasses
 import importlib.util
 import os
 
@@ -12,6 +13,24 @@ from opcplan.plans.program import built_program
 
 SUMMARY = "shows the log in etcd that several desks share, trims it, begins it, moves its version"
 USUAL_KEPT = 5000
+
+
+@dataclasses.dataclass(frozen=True)
+class Settings:
+    """Which log is meant and what is done with it, by the words of the command."""
+
+    log: log_words.Where
+    trim: bool
+    version: bool
+    begin: str | None
+    keep: int
+    forget: list[str]
+    program: str | None
+    journal: str | None
+    etcd_ca: str | None
+    etcd_cert: str | None
+    etcd_key: str | None
+    etcd_user: str | None
 
 
 def add_words(parser: words.Parser) -> None:
@@ -52,14 +71,16 @@ def run(given: argparse.Namespace) -> int:
     """Does what the words ask for; the exit status."""
     if importlib.util.find_spec("aiohttp") is None:
         by_debian()
-    if wrong := log_words.wrong_etcd(given):
+    settings = Settings(**vars(given))
+    if wrong := log_words.wrong_etcd(settings):
         raise WrongWords(wrong)
     import asyncio  # with log_tool the greater part of what an import of this module would take
 
     from opcplan.desk import log_tool
 
-    if given.begin and not os.path.isfile(given.begin):
-        raise Unreadable(f"{given.begin}: there is no such file")
-    program = os.path.abspath(given.program or built_program()) if given.version or given.begin else None
-    print("\n".join(asyncio.run(log_tool.done(given, program))))
+    if settings.begin and not os.path.isfile(settings.begin):
+        raise Unreadable(f"{settings.begin}: there is no such file")
+    is_answered = settings.version or settings.begin
+    program = os.path.abspath(settings.program or built_program()) if is_answered else None
+    print("\n".join(asyncio.run(log_tool.done(settings, program))))
     return 0
