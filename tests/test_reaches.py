@@ -175,8 +175,8 @@ WAGES,NOTFIRST,X,MONTH,3,1,2027-01-01,,18.00,,
             now.take(item)
         first, last = moments.day_of("2027-01-01"), moments.day_of("2027-12-31")
         self.assertEqual([one.text for one in reaches.shortfalls(now.defined, first, last)], [
-            "MONTH ends 2027-02-28 and the plan goes to 2027-12-31: WAGES has no occurrence after it, and NOTLAST of LEDGER "
-            "excludes no day after it. `./plan edit PLAN.db period MONTH months ..2027-12` adds the rest."])
+            "MONTH ends 2027-02-28 and the plan goes to 2027-12-31: WAGES has no occurrence after it, and NOTLAST of "
+            "LEDGER excludes no day after it. `./plan edit PLAN.db period MONTH months ..2027-12` adds the rest."])
         days = defined_by(text.encode()).named("LEDGER", first, last)
         gone = {day for day in range(first, last + 1)} - {day for day, _ in days}
         self.assertEqual(sorted(map(moments.day_text, gone)), ["2027-01-31", "2027-02-28"])

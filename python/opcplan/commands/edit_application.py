@@ -19,8 +19,8 @@ def add_words(parser: Parser) -> None:
     parser.add_argument("name", metavar="NAME", type=edit_words.name, help="the application")
     parser.add_argument("changes", metavar="CHANGE", type=change_of, nargs="+",
                         help="active, pending, calendar=NAME, or calendar= for the default one; new, for one that "
-                        "isn't there yet, and then also period=, ia=, deadline=, rule=, offsets= and other fields of its "
-                        "run cycle, whose name cycle=NAME gives (else that of its period)")
+                        "isn't there yet, and then also period=, ia=, deadline=, rule=, offsets= and other fields of "
+                        "its run cycle, whose name cycle=NAME gives (else that of its period)")
 
 
 def change_of(text: str) -> tuple[str, bool | str | None]:

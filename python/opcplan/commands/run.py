@@ -63,7 +63,7 @@ def run_over_file(given: argparse.Namespace) -> int:
         answers = f"{tried.stream}.out"
         status, said = trial.done(tried, os.path.abspath(given.plan), answers)
         for line in said.splitlines():
-            print(printable.fit(re.sub(r"\bFILE\b", lambda _: given.plan, line)), file=sys.stderr)
+            print(printable.fit(re.sub(r"\bFILE\b", lambda _: str(given.plan), line)), file=sys.stderr)
         status = status if status >= 0 else 128 - status
         try:
             show_answers(tried, answers, given.color)

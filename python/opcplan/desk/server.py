@@ -116,8 +116,8 @@ class Server:
             raise Refused(400, str(why)) from None
         if is_fresh:
             await self.desk.catch_up()
-        if why := self.desk.planner.has_moved():
-            raise Stopped(why)
+        if moved := self.desk.planner.has_moved():
+            raise Stopped(moved)
         state = state_of(self.desk.tag(), self.desk.position)
         if self.desk.planner.stopped or request.headers.get("If-None-Match") != state["ETag"]:
             shown = await self.desk.lists.shown(request["who"], selection)
