@@ -33,6 +33,7 @@ def add_words(parser: words.Parser) -> None:
     parser.add_argument("year", metavar="YEAR", type=year, nargs="?", help="the year (else that of the clock)")
     parser.add_argument("--period", action="store_true", help="the period, also where a calendar has the same name")
     colours.add_words(parser)
+    parser.is_mixed = True
 
 
 def year(text: str) -> int:

@@ -40,6 +40,7 @@ def add_words(parser: words.Parser) -> None:
     parser.add_argument("--yes", action="store_true", help="run it without asking")
     colours.add_words(parser)
     parser.add_argument("--new", action="store_true", help="make a new plan in PLAN.db, which isn't there yet")
+    parser.is_mixed = True
 
 
 def run(given: argparse.Namespace) -> int:
