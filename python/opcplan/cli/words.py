@@ -11,7 +11,6 @@ from collections.abc import Callable, Sequence
 from typing import NoReturn
 
 from opcplan.errors import WrongWords
-from opcplan.plans import kept_checks
 from opcplan.rules import hints, moments, printable
 
 CALLED = "./plan"  # by make install as the command is called there
@@ -159,6 +158,8 @@ class Again(argparse.Action):
     """Has each file checked anew."""
 
     def __call__(self, *_: object, **__: object) -> None:
+        from opcplan.plans import kept_checks  # which no help needs
+
         kept_checks.distrust()
 
 
