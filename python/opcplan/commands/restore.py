@@ -49,7 +49,9 @@ def run(given: argparse.Namespace) -> int:
         try:
             aside = put_back(copy, path, os.path.realpath(given.backup))
         except locks.Held:
-            raise Unwritable(f"{given.plan}: another program has it open; nothing is changed") from None
+            is_desk = locks.is_held(given.plan, locks.OF_A_DESK)
+            who = "a desk has it, which has to end first" if is_desk else "another program has it open"
+            raise Unwritable(f"{given.plan}: {who}; nothing is changed") from None
         except OSError as error:
             raise Unwritable(f"{given.plan}: the backup can't be put there: {error.strerror}; once that is mended, "
                              "the same words again") from None
