@@ -19,8 +19,8 @@ BUILTIN = {name for name, one in vars(builtins).items() if isinstance(one, type)
 # a signal is no error: `__main__.run` takes it, and the process ends by it
 SIGNAL = ("cli/signals.py", "Stopped", "BaseException")
 SAYS = {"tell", "print"}
-# what a process is run by: the command itself, and the one that makes a desk's page
-MAINS = {"__main__.py", "desk/page_process.py"}
+# what a process is run by: the command itself, and those that make the page and the lists of a desk
+MAINS = {"__main__.py", "desk/page_process.py", "desk/rows_process.py"}
 
 
 def trees():

@@ -7,6 +7,7 @@ from collections.abc import Callable
 from opcplan.cli import colours, words
 from opcplan.cli.colours import Paint
 from opcplan.commands import edit_words
+from opcplan.errors import Error
 from opcplan.plans import plan_definitions, plan_file
 from opcplan.rules import moments
 from opcplan.rules.definitions import FIRST_DAY, LAST_DAY, Calendar, Definitions, Period, WorkDays
@@ -58,9 +59,8 @@ def run(given: argparse.Namespace) -> int:
             f"( an interval begins, by the work days of {found.default_calendar}"
     else:
         known = [*([] if given.period else found.calendars), *found.periods]
-        words.tell(f"{given.plan}: there is no {'' if given.period else 'calendar and no '}period {given.name}"
-                   f"{meant_text(given.name, known)}; the plan has {few(known) or 'none'}")
-        return 1
+        raise Error(f"{given.plan}: there is no {'' if given.period else 'calendar and no '}period {given.name}"
+                    f"{meant_text(given.name, known)}; the plan has {few(known) or 'none'}")
     print("\n".join([f"{title}, {at}", "", *year_lines(at, sign, Paint(given.color)), "", legend]))
     return 0
 
