@@ -1,4 +1,4 @@
-"""The lists of subcommands that tests and tools go by: each one is in them, or is among those that have no place there."""
+"""The lists of subcommands that tests and tools go by: each is in them, or among those that have no place there."""
 
 import importlib
 import importlib.machinery

@@ -11,10 +11,11 @@ from opcplan.desk.events import Events
 from opcplan.desk.feed import Feed, PATIENCE
 from opcplan.desk.held_files import HeldFiles
 from opcplan.desk.lists import Lists
-from opcplan.desk.log import Kept, Log
+from opcplan.desk.log import Log
 from opcplan.desk.planner import Ask, Planner, Stopped
 from opcplan.errors import LogUnwritable
 from opcplan.plans.entry import Entry, Wanted
+from opcplan.plans.journal import Kept
 
 # seconds until replies are put into the journal where no change comes that takes them along
 LATE = 0.5

@@ -17,7 +17,7 @@ from opcplan.desk.store import Appended, Head, head_of, Report, State, Store
 from opcplan.desk.versions import different, first_line, version_at
 from opcplan.errors import LogUnwritable
 from opcplan.plans import chain, entry
-from opcplan.plans.journal import Journal
+from opcplan.plans.journal import Journal, Kept
 
 # seconds between two looks at the head where nothing is heard of it, and between two at the nodes
 POLL, LOOK = 0.5, 5.0
@@ -103,7 +103,7 @@ class Shared(log.Log):
 
     # What is appended.
 
-    async def append(self, batch: Sequence[entry.Wanted], replies: Sequence[log.Kept],
+    async def append(self, batch: Sequence[entry.Wanted], replies: Sequence[Kept],
                      until: float) -> list[entry.Entry]:
         if why := self.lost or self.held:
             raise LogUnwritable(why)
@@ -168,7 +168,7 @@ class Shared(log.Log):
             self.lease_begun = begun
         return self.lease_id
 
-    async def keep(self, entries: Sequence[entry.Entry], replies: Sequence[log.Kept]) -> None:
+    async def keep(self, entries: Sequence[entry.Entry], replies: Sequence[Kept]) -> None:
         await super().keep(entries, replies)
         if entries:
             self.applied = self.read_behind = entries[-1].seq

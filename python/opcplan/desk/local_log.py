@@ -5,7 +5,7 @@ from collections.abc import Sequence
 
 from opcplan.desk import log
 from opcplan.plans import chain, entry
-from opcplan.plans.journal import Journal
+from opcplan.plans.journal import Journal, Kept
 
 
 class Alone(log.Log):
@@ -32,7 +32,7 @@ class Alone(log.Log):
         base = self.journal.first() - 1
         return self.journal.digest_at(position, base, chain.chain_of("journal", base))
 
-    async def append(self, batch: Sequence[entry.Wanted], replies: Sequence[log.Kept],
+    async def append(self, batch: Sequence[entry.Wanted], replies: Sequence[Kept],
                      until: float) -> list[entry.Entry]:
         entries = entry.placed(batch, self.known)
         await self.keep(entries, replies)

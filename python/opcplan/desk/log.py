@@ -7,23 +7,14 @@ import abc
 import asyncio
 from collections.abc import Callable, Mapping, Sequence
 from concurrent.futures import ThreadPoolExecutor
-from typing import Any, NamedTuple
+from typing import Any
 
 from opcplan.errors import Error, LogUnwritable
 from opcplan.plans.entry import Entry, Wanted
-from opcplan.plans.journal import Journal
+from opcplan.plans.journal import Journal, Kept
 
 # how many changes are appended together, at most
 MOST_TOGETHER = 64
-
-
-class Kept(NamedTuple):
-    """What an entry was answered, as the journal keeps it; `digest` is that of the log up to the entry, where it is
-    known."""
-
-    seq: int
-    reply: str
-    digest: str | None
 
 
 class Unsure(LogUnwritable):

@@ -42,8 +42,6 @@ NEW_JOURNAL = ("Where that was meant, begin a new journal: name a file by --jour
                "times of the old one stay there")
 # how long a plan may be written to before it is opened, in seconds
 PATIENCE = 30
-# what entries were answered: the number of each, its reply, and the digest of the log up to it where that is known
-Replies = Iterable[tuple[int, str, str | None]]
 
 
 class Happened(NamedTuple):
@@ -64,6 +62,15 @@ class OfPlan(NamedTuple):
     device: int
     inode: int
     jobs: set[int]
+
+
+class Kept(NamedTuple):
+    """What an entry was answered, as the journal keeps it; `digest` is that of the log up to the entry, where it is
+    known."""
+
+    seq: int
+    reply: str
+    digest: str | None
 
 
 class Begun(NamedTuple):
@@ -111,7 +118,7 @@ class Journal:
         (last,) = self.reader.execute("SELECT max(seq) FROM entry").fetchone()
         return max(last or 0, self.floor)
 
-    def put(self, entries: Iterable[Entry], replies: Replies = ()) -> None:
+    def put(self, entries: Iterable[Entry], replies: Iterable[Kept] = ()) -> None:
         """Keeps Entries under their numbers, and replies, all or nothing. One that stands there stays, and has to be
         the same. Raises LogUnwritable."""
         with self.transaction():
@@ -149,12 +156,12 @@ class Journal:
             self.db.execute("INSERT INTO begun VALUES (?, ?, ?, ?)", (log_id, seq, jobs, digest))
         self.floor = seq
 
-    def keep_replies(self, replies: Replies) -> None:
+    def keep_replies(self, replies: Iterable[Kept]) -> None:
         """Keeps what entries were answered. Raises LogUnwritable."""
         with self.transaction():
             self.put_replies(replies)
 
-    def put_replies(self, replies: Replies) -> None:
+    def put_replies(self, replies: Iterable[Kept]) -> None:
         """The same within a transaction."""
         for seq, reply, digest in replies:
             self.db.execute("UPDATE entry SET reply = ?, digest = ? WHERE seq = ?", (reply, digest, seq))
