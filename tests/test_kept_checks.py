@@ -15,7 +15,7 @@ from unittest import mock
 from support import plans
 
 from opcplan.errors import Unreadable
-from opcplan.plans import kept_checks, plan_file, sound_rows
+from opcplan.plans import kept_checks, plan_file, sound_rows, tempfiles
 
 PLAN = "week-of-daily-plans"
 NOW = "2024-01-03/12.00"
@@ -250,6 +250,15 @@ class KeptChecks(unittest.TestCase):
             rest, _ = ran.communicate(b"list cp\n")
         self.assertEqual(ran.returncode, 0)
         self.assertIn(b"ok rows ", rest)
+
+    def test_copy_that_passes_is_not_kept(self):
+        path = self.plan()
+        with tempfiles.folder("kept-") as folder:
+            copy = plans.copy_of(path, folder, "copy.db")
+            time.sleep(2 * plan_file.COARSE)
+            self.assert_checks(1, copy)
+            self.assert_checks(1, copy)
+        self.assertEqual(self.kept(), [])
 
     # Which results count.
 

@@ -25,7 +25,8 @@ from opcplan.rules.definitions import Definitions
 
 Moment = datetime.datetime | str
 OF_PLACE = {**dict.fromkeys("WSECD", "cp"), "L": "ltp", "H": "history", **dict.fromkeys("owp", "deletions")}
-LISTS = ("ltp", "cp", "history", "deletions")
+TABLES = {"ltp": "ltp_row", "cp": "cp_row", "history": "history_row", "deletions": "deletion_row"}
+LISTS = tuple(TABLES)
 # names the state of a desk that lacks entries which a reader doesn't have (desk/events.py)
 ANEW = "anew-0"
 
@@ -109,9 +110,8 @@ class Plan:
         another one, that have one of some statuses (`"WE"`)."""
         check_list(name)
         begin, end = (None if one is None else minutes_of(one) for one in (first, last))
-        found = [row_of(one) for one in waits.rows_where(self._plan, "(:v0 IS NULL OR app = :v0)", app)
-                 if (begin is None or one.ia >= begin) and (end is None or one.ia <= end)]
-        return [row for row in found if row.list == name and (status is None or (row.status or "-") in status)]
+        found = map(row_of, waits.rows_of_set(self._plan, TABLES[name], app, begin, end))
+        return [row for row in found if status is None or (row.status or "-") in status]
 
     def ready(self, now: Moment | None = None, *, app: str | None = None) -> list[Row]:
         """What may be started at a moment (else by the clock), the earliest deadline first."""

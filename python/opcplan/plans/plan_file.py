@@ -207,7 +207,8 @@ def prepare(db: sqlite3.Connection) -> None:
 def checked(path: str, db: sqlite3.Connection, copy: str, state: State) -> Plan:
     """The Plan of a copy of a file that was in a state. It is checked, unless it was found sound in that state; what is
     found is kept, if a later change of the file would show."""
-    kept = kept_checks.of_file(os.path.realpath(path), state.text)
+    real = os.path.realpath(path)
+    kept = None if tempfiles.is_held(real) else kept_checks.of_file(real, state.text)
     if kept is not None and kept_checks.is_there(kept):
         return Plan(path, db, state.written)
     with progress.of(f"checks {path}") as far:

@@ -84,6 +84,11 @@ def taken(path: str) -> Iterator[str]:
         drop(path)
 
 
+def is_held(path: str) -> bool:
+    """Whether a path is one of this command's own, or below one."""
+    return any(path == held or path.startswith(held + os.sep) for held in map(os.path.realpath, HELD))
+
+
 def drop(path: str) -> None:
     """Takes away what stands at a path that is held; where that fails the path is held still."""
     shutil.rmtree(path, ignore_errors=True)

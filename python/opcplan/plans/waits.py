@@ -1,5 +1,7 @@
 """Occurrences of a plan, where they stand, and what they wait for. why, why-day and late stand on it."""
 
+import itertools
+from collections.abc import Iterator
 from typing import NamedTuple
 
 from opcplan.plans.plan_file import Plan
@@ -56,6 +58,18 @@ def is_of_a_row(plan: Plan, app: str) -> bool:
     """Whether an application has a row in one of the four sets."""
     asked = " OR ".join(f"EXISTS (SELECT 1 FROM {table} WHERE app = :app)" for table in TABLES)
     return bool(plan.db.execute(f"SELECT {asked}", {"app": app}).fetchone()[0])
+
+
+def rows_of_set(plan: Plan, table: str, app: str | None, begin: int | None, end: int | None) -> Iterator[Row]:
+    """The rows of one table, one at a time, by input arrival, application and serial: of an application, that arrive
+    from a moment on up to another one, where these are named."""
+    named = (("app = :app", "app", app), ("ia >= :begin", "begin", begin), ("ia <= :end", "end", end))
+    where = " AND ".join(["1", *(text for text, _, value in named if value is not None)])
+    cursor = plan.db.cursor()
+    cursor.row_factory = None
+    (text,) = (text for text in SETS if text.endswith(f" {table}"))
+    asked = f"{text} WHERE {where} ORDER BY ia, app, serial"
+    return itertools.starmap(Row, cursor.execute(asked, {name: value for _, name, value in named}))
 
 
 def rows_of_current(plan: Plan, statuses: str) -> list[Row]:
