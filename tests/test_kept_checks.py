@@ -1,5 +1,6 @@
 """kept_checks: a plan's file that was checked isn't checked again until it changes; whatever changes it shows."""
 
+import ast
 import contextlib
 import os
 import shutil
@@ -23,6 +24,8 @@ NOW = "2024-01-03/12.00"
 UNSOUND = "UPDATE cp_row SET status = 'X' WHERE serial = (SELECT min(serial) FROM cp_row)"
 SOUND = "UPDATE plan_meta SET max_hours = max_hours - 1"
 OTHER = 54321  # a user
+# modules that a check imports and doesn't go by
+OF_NO_CHECK = {"errors.py", "rules/printable.py", "plans/kept_checks.py", "plans/progress.py", "plans/tempfiles.py"}
 
 
 @unittest.skipUnless(plans.PROGRAM.exists(), "opcplan is not built")
@@ -336,14 +339,18 @@ class KeptChecks(unittest.TestCase):
         self.assert_checks(0, path)
 
     def test_rules_are_what_decides(self):
-        """Each module that the check imports, but for words and folders, is among the rules."""
-        for name in kept_checks.RULES:
-            self.assertTrue(Path(kept_checks.PACKAGE, name).is_file(), name)
-        for name in ("plans/sound_rows.py", "plans/sound_pairs.py"):
-            text = Path(kept_checks.PACKAGE, name).read_text(encoding="utf-8")
-            for module in ("loops", "definitions"):
-                if f"import {module}" in text or f", {module}" in text:
-                    self.assertIn(f"rules/{module}.py", kept_checks.RULES)
+        """Each module that a check goes by is among the rules, but for errors, words, and files."""
+        left, seen = set(kept_checks.RULES), set()
+        while left:
+            name = left.pop()
+            seen.add(name)
+            tree = ast.parse(Path(kept_checks.PACKAGE, name).read_text(encoding="utf-8"))
+            for node in ast.walk(tree):
+                if isinstance(node, ast.ImportFrom) and node.module.startswith("opcplan"):
+                    found = {"/".join([*node.module.split(".")[1:], one.name]) + ".py" for one in node.names}
+                    found |= {"/".join(node.module.split(".")[1:]) + ".py"}
+                    left |= {one for one in found if Path(kept_checks.PACKAGE, one).is_file()} - seen - OF_NO_CHECK
+        self.assertEqual(seen, set(kept_checks.RULES))
 
     def test_where_results_are(self):
         path, home = self.plan(), self.room / "home"
