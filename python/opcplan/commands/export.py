@@ -1,6 +1,7 @@
 """./plan export: occurrences for a calendar, a spreadsheet or a program. They are printed as they are read."""
 
 import argparse
+import contextlib
 import csv
 import datetime
 import functools
@@ -17,7 +18,7 @@ from opcplan.cli import words
 from opcplan.commands import export_actual
 from opcplan.commands.export_actual import Ran
 from opcplan.errors import Error, WrongWords
-from opcplan.plans import plan_file
+from opcplan.plans import plan_file, progress
 from opcplan.plans.plan_file import Plan
 from opcplan.rules import moments, printable
 
@@ -98,9 +99,20 @@ def run(given: argparse.Namespace) -> int:
             raise Error(f"{given.plan}: it has no such occurrence")
         ran = export_actual.of_journal(given.journal, plan, given.now) if given.journal else None
         sys.stdout.flush()
-        for text in form(plan, itertools.chain([one], found), ran):
-            sys.stdout.buffer.write(text.encode())
+        with shown(plan, itertools.chain([one], found), given.sets or USUAL) as rows:
+            for text in form(plan, rows, ran):
+                sys.stdout.buffer.write(text.encode())
     return 0
+
+
+@contextlib.contextmanager
+def shown(plan: Plan, rows: Iterable[Occurrence], sets: Collection[str]) -> Iterator[Iterator[Occurrence]]:
+    """Rows of some sets that are printed; how far that is shows at a terminal, unless they are printed there."""
+    with progress.of(f"prints rows of {plan.path}", not sys.stdout.isatty()) as far:
+        tables = [SETS[name][0] for name in SETS if name in sets]
+        most = sum(int(plan.db.execute(f"SELECT count(*) FROM {table}").fetchone()[0]) for table in tables)
+        count = itertools.count(1)
+        yield progress.along(rows, far, lambda: next(count) / max(1, most))
 
 
 def occurrences(

@@ -2,12 +2,13 @@
 
 import argparse
 import functools
+import os
 import textwrap
 from collections.abc import Iterable, Iterator
 
 from opcplan.cli import words
 from opcplan.commands import explain
-from opcplan.plans import stream_file, stream_state
+from opcplan.plans import progress, stream_file, stream_state
 from opcplan.plans.stream_state import Known
 from opcplan.rules import blocks, changes, definitions, lint_checks, moments, printable, reaches, stream
 from opcplan.rules.lint_checks import Finding
@@ -39,7 +40,10 @@ def run(given: argparse.Namespace) -> int:
     """Does what the words ask for; the exit status."""
     with explain.known_at_first(given.plan) as now, stream_file.opened(given.stream) as source:
         unread: list[int] = []
-        found = findings(noted(stream.items(source), unread), now)
+        size = os.path.getsize(given.stream) if os.path.isfile(given.stream) else 0
+        with progress.of(f"looks through {given.stream}") as far:
+            items = progress.along(stream.items(source), far, lambda: source.size / size if size else 0)
+            found = findings(noted(items, unread), now)
     for finding in found:
         print("\n".join(finding_lines(finding)))
     if not found:

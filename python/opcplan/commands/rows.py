@@ -112,8 +112,9 @@ def run(given: argparse.Namespace) -> int:
     else:
         with plan_file.opened(given.plan) as plan:
             seen = Counted(wanted(plan, given, now))
-            for text in given.form(plan, seen):
-                sys.stdout.write(colours.text(text, color, colours.of_row))
+            with export.shown(plan, seen, sets_of(given)) as passing:
+                for text in given.form(plan, passing):
+                    sys.stdout.write(colours.text(text, color, colours.of_row))
             count, notes = seen.count, notes_on(plan, given, now)
     for note in notes:
         words.tell(note)
@@ -153,10 +154,14 @@ def fault_of(given: argparse.Namespace) -> str | None:
     return None
 
 
+def sets_of(given: argparse.Namespace) -> list[str]:
+    """The sets whose rows are asked for."""
+    return [given.what] if given.what else ["cp"] if given.late else export.USUAL
+
+
 def wanted(plan: Plan, given: argparse.Namespace, now: int) -> Iterator[Occurrence]:
     """The rows of the sets that meet all filters."""
-    sets = [given.what] if given.what else ["cp"] if given.late else export.USUAL
-    found = export.occurrences(plan.db, sets, given.app, given.first, given.last)
+    found = export.occurrences(plan.db, sets_of(given), given.app, given.first, given.last)
     return (one for one in found if is_wanted(one, given, now))
 
 

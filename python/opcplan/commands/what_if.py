@@ -7,7 +7,7 @@ from collections.abc import Iterator
 
 from opcplan.cli import words
 from opcplan.commands import trial_words
-from opcplan.plans import plan_definitions, trial, waits
+from opcplan.plans import plan_definitions, progress, trial, waits
 from opcplan.plans.plan_file import Plan
 from opcplan.plans.stream_state import Known
 from opcplan.plans.waits import Row
@@ -67,7 +67,9 @@ def difference(before: Plan, after: Plan, most: int | None = None) -> list[str]:
     most."""
     lines = definition_lines(plan_definitions.of_plan(before), plan_definitions.of_plan(after))
     lines += bound_lines(before.meta, after.meta)
-    lines += occurrence_lines(changed_rows(before, after), most)
+    with progress.of("compares the plans"):
+        changed = changed_rows(before, after)
+    lines += occurrence_lines(changed, most)
     return lines or ["", "Nothing would be different but the jobs that are kept."]
 
 

@@ -33,7 +33,8 @@ def made(path: str, folder: str, program: str | None = None) -> tuple[str, sqlit
 def taken_by_opcplan(path: str, copy: str, folder: str, program: str | None) -> sqlite3.Row:
     """Makes the copy, and answers what plan_meta has. Raises Unreadable."""
     with plan_file.opened(path, is_own=True) as plan:
-        (told,) = plan.db.execute("PRAGMA integrity_check(1)").fetchone()
+        with progress.of(f"checks the pages of {path}"):
+            (told,) = plan.db.execute("PRAGMA integrity_check(1)").fetchone()
         if told != "ok":
             raise Unreadable(f"{path}: it is damaged: {' '.join(told.split())}")
         source, meta, version = plan.db.execute("PRAGMA database_list").fetchone()["file"], plan.meta, plan.version

@@ -5,10 +5,12 @@ It is shown only if standard error is a terminal, and only for what takes more t
 import contextlib
 import sys
 import time
-from collections.abc import Iterator
+from collections.abc import Callable, Iterable, Iterator
+from typing import TypeVar
 
 from opcplan.rules import printable
 
+T = TypeVar("T")
 FIRST, BETWEEN = 1.0, 0.25  # seconds before the first line, and between two
 LEAST = 0.02  # the share from which on the rest can be estimated
 CLEAR = "\r\x1b[K"
@@ -69,9 +71,10 @@ def put(text: str) -> bool:
 
 
 @contextlib.contextmanager
-def of(what: str) -> Iterator[Progress]:
-    """A Progress of something, as long as the context lasts."""
-    if not is_terminal():
+def of(what: str, is_seen: bool = True) -> Iterator[Progress]:
+    """A Progress of something, as long as the context lasts; it is shown if it would be `seen`, and not between other
+    lines."""
+    if not is_seen or not is_terminal():
         yield Progress(what)
         return
     shown = Shown(what)
@@ -79,6 +82,13 @@ def of(what: str) -> Iterator[Progress]:
         yield shown
     finally:
         shown.end()
+
+
+def along(items: Iterable[T], far: Progress, share: Callable[[], float]) -> Iterator[T]:
+    """Items that pass; behind each of them it is asked how much is done."""
+    for item in items:
+        yield item
+        far.at(share())
 
 
 def is_terminal() -> bool:

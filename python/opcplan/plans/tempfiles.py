@@ -86,7 +86,8 @@ def taken(path: str) -> Iterator[str]:
 
 def is_held(path: str) -> bool:
     """Whether a path is one of this command's own, or below one."""
-    return any(path == held or path.startswith(held + os.sep) for held in map(os.path.realpath, HELD))
+    places = [os.path.realpath(held) for held in HELD]
+    return any(path == place or path.startswith(place + os.sep) for place in places)
 
 
 def drop(path: str) -> None:

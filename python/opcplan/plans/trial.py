@@ -121,18 +121,11 @@ def answered(
             size = max(1, os.path.getsize(text))
             try:
                 with progress.of("opcplan opens a copy and runs the stream") as far:
-                    items = seen(stream.items(source), lambda: far.at(source.size / size))
+                    items = progress.along(stream.items(source), far, lambda: source.size / size)
                     found = take(items, stream.Source(ran.stdout, program, OF_ANSWERS))
             except explanations.Unlike as why:
                 raise Unreadable(f"{program}: it doesn't answer as opcplan does: {why}") from None
     return found, ran.returncode
-
-
-def seen(items: Iterator[Item], tell: Callable[[], None]) -> Iterator[Item]:
-    """Items that pass; after each one is answered something is called."""
-    for item in items:
-        yield item
-        tell()
 
 
 def done(trial: Trial[F], path: str, output: str) -> tuple[int, str]:
