@@ -1,6 +1,5 @@
 """What ./plan takes over large plans, of 200,000 rows and of 2,000 applications in a chain: processor time, memory."""
 
-import os
 import sqlite3
 import subprocess
 import tempfile
@@ -17,16 +16,20 @@ from opcplan.rules import moments
 NOW = "2026-09-02/08.00"
 APPS, PAIRS = 2000, 300
 MOST_MEMORY = 60  # MB
+# a small process runs the command: what is counted as a process's memory begins with that of the one that made it
+MEASURED = """import resource, subprocess, sys
+status = subprocess.call(sys.argv[1:])
+used = resource.getrusage(resource.RUSAGE_CHILDREN)
+print(status, used.ru_utime + used.ru_stime, used.ru_maxrss / 1024, file=sys.stderr)
+"""
 
 
 def measured(*words):
     """Status, output, seconds of a processor and MB of a run of ./plan."""
-    with tempfile.TemporaryFile() as out:
-        ran = subprocess.Popen(["/usr/bin/python3", plans.TOP / "plan", *map(str, words)], stdout=out)
-        _, status, used = os.wait4(ran.pid, 0)
-        ran.returncode = os.waitstatus_to_exitcode(status)
-        out.seek(0)
-        return ran.returncode, out.read().decode(), used.ru_utime + used.ru_stime, used.ru_maxrss / 1024
+    given = ["/usr/bin/python3", "-c", MEASURED, "/usr/bin/python3", plans.TOP / "plan", *words]
+    ran = subprocess.run(list(map(str, given)), capture_output=True, encoding="utf-8", check=True)
+    status, took, memory = ran.stderr.splitlines()[-1].split()
+    return int(status), ran.stdout, float(took), float(memory)
 
 
 class TwoHundredThousandRows(unittest.TestCase):
