@@ -57,7 +57,7 @@ class Hints(unittest.TestCase):
                 out, told, status = self.typed(words, text)
                 self.assertEqual((out, status), (ANSWERS, 4))
                 self.assertEqual(self.heads(told), [*before, GREETING, HINT, HINT])
-                self.assertIn("docs/rules/STATEMENTS.md", told[-1])
+                self.assertIn("docs/STATEMENTS.md", told[-1])
 
     def test_hint_comes_at_once(self):
         """It follows its answer, before the next line is typed."""

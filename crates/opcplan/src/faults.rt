@@ -69,7 +69,7 @@ fn meaning(fault: &RunFault) -> &'static str {
         }
         RunFault::Device { part, .. } => match part {
             Part::Store => {
-                "opcplan: fault 41: the plan's disk failed, or an index or row of yours in FILE leaves no room for a row (docs/rules/REFUSALS.md); what was answered stands. Run the whole stream again once that is mended"
+                "opcplan: fault 41: the plan's disk failed, or an index or row of yours in FILE leaves no room for a row (docs/REFUSALS.md); what was answered stands. Run the whole stream again once that is mended"
             }
             Part::Reader => {
                 "opcplan: fault 41: standard input failed; what was answered stands. Run the whole stream again"

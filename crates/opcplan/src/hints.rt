@@ -7,7 +7,7 @@ const NO_STATEMENT: &[u8] = b"refused 10\n";
 
 /// Where the statements stand.
 const STATEMENTS: &str =
-    "opcplan: that line is no statement: a word is unknown, missing, doubled or not of its form. opcplan --help lists the statements, docs/rules/STATEMENTS.md has their words";
+    "opcplan: that line is no statement: a word is unknown, missing, doubled or not of its form. opcplan --help lists the statements, docs/STATEMENTS.md has their words";
 
 /// Writes answers, and says behind each to a line that is no statement where the statements stand, if that is asked for.
 #[derive(Drop)]

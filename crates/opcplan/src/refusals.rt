@@ -67,10 +67,10 @@ fn open_reason(
         Error::SqliteFailure(ErrorCode::NotADatabase) => Some(match left {
             Some(Leftover::Files(_)) => "opcplan: fault 50: FILE is no database; it is as it was",
             _ =>
-                "opcplan: fault 50: FILE is a database with an object that this program can't read, such as a view, trigger or virtual table of yours, or rows that break a rule of their table. Nothing need be damaged: sqlite3 shows them, docs/rules/TABLES.md lists them; take it away. FILE is as it was",
+                "opcplan: fault 50: FILE is a database with an object that this program can't read, such as a view, trigger or virtual table of yours, or rows that break a rule of their table. Nothing need be damaged: sqlite3 shows them, docs/TABLES.md lists them; take it away. FILE is as it was",
         }),
         Error::SqliteFailure(ErrorCode::DatabaseCorrupt) => Some(
-            "opcplan: fault 50: a page of FILE is damaged or has a wrong sum, or FILE is in auto_vacuum mode or keeps its texts in UTF-16, which this program can't read; docs/rules/TABLES.md says what to do. FILE is as it was",
+            "opcplan: fault 50: a page of FILE is damaged or has a wrong sum, or FILE is in auto_vacuum mode or keeps its texts in UTF-16, which this program can't read; docs/TABLES.md says what to do. FILE is as it was",
         ),
         _ => None,
     }

@@ -54,8 +54,8 @@ K: 1 to 21      C: A, all days, or W, work days
 Exit status: 0 all accepted, 4 some refused, 8 a fault or wrong words.
 A file with sums is held to them always: a page with a wrong one is a fault. sqlite3 reads
 such a file, but what it writes there spoils the sums, and the file is then refused.
-docs/rules/TABLES.md says how sums are taken off and put on.
-The statements stand in docs/rules/STATEMENTS.md, an operator's week in docs/use/GUIDE.md.";
+docs/TABLES.md says how sums are taken off and put on.
+The statements stand in docs/STATEMENTS.md, an operator's week in docs/GUIDE.md.";
 
 /// The words that may be given: `--db FILE`, `--sums` beside it, and `--help`.
 fn command<'a>(alloc: Global) -> Result<Command<'a>, AllocError> {
