@@ -1,21 +1,33 @@
 """./plan desk: lists as lines of JSON. Each is made once, given again while nothing changes, and holds nobody up."""
 
 import asyncio
+import contextlib
 import json
 import os
 import re
+import socket
 import tempfile
 import threading
 import time
 import unittest
 from contextlib import closing
 
-from support import desks, timing
+from support import desks, plans, timing
 
 from opcplan.desk import errors, lists, rows
 
 # each changes the plan where they come in this order, again and again
 START, FAIL, RESET = CHANGES = [f"cp-{what} --app APP00 --ia 2024-01-01/08.00" for what in ("start", "fail", "reset")]
+# runs ./plan where a list has to be sent within a second
+HASTY = f"""
+import sys
+sys.path.insert(0, {str(plans.TOP / "python")!r})
+sys.dont_write_bytecode = True
+from opcplan.__main__ import run_words
+from opcplan.desk import connections
+connections.BODY, connections.BYTES_A_SECOND = 1.0, 1 << 40
+run_words()
+"""
 LISTS = "ltp", "cp", "history", "deletions", "dependencies", "links"
 
 
@@ -114,13 +126,28 @@ class Long(desks.Case):
             fields = file.read().rpartition(")")[2].split()
         return (int(fields[11]) + int(fields[12])) / os.sysconf("SC_CLK_TCK")
 
+    def test_whoever_reads_too_slowly_is_cut_off(self):
+        desk = self.desk(command=("/usr/bin/python3", "-c", HASTY))
+        with closing(socket.socket()) as slow:
+            slow.setsockopt(socket.SOL_SOCKET, socket.SO_RCVBUF, 4096)
+            slow.settimeout(60)
+            slow.connect(("127.0.0.1", desk.port))
+            slow.sendall(f"GET /rows?list=ltp HTTP/1.0\r\nHost: 127.0.0.1:{desk.port}\r\n\r\n".encode())
+            self.assertTrue(slow.recv(1))
+            time.sleep(3)
+            with slow.makefile("rb") as lines, contextlib.suppress(ConnectionResetError):
+                self.assertLess(sum(map(len, lines)), 29_000 * 100)
+        self.assertEqual(desk.posted(START)[2], "ok serial 1 status S\n")
+        self.end(desk)
+        self.assertEqual([line for line in desk.said if "listening" not in line], [])
+
     def test_callers_who_hang_up_leave_no_traceback(self):
         desk = self.desk()
         for turn, wait in enumerate((0, 0.01, 0.05, 0.2, 0.5)):
             text = f"GET /rows?list=ltp HTTP/1.1\r\nHost: 127.0.0.1:{desk.port}\r\n\r\n" * 3
             with closing(desks.raw(desk.port, text.encode())) as one:
                 time.sleep(wait)
-                one.setsockopt(desks.socket.SOL_SOCKET, desks.socket.SO_LINGER, b"\1\0\0\0\0\0\0\0")
+                one.setsockopt(socket.SOL_SOCKET, socket.SO_LINGER, b"\1\0\0\0\0\0\0\0")
             desk.posted(CHANGES[turn % 3])
         self.assertGreater(desk.asked("GET", "/rows?list=ltp")[2].count("\n"), 29_000)
         self.end(desk)

@@ -51,9 +51,9 @@ def why_not():
 class Desk:
     """A desk that runs."""
 
-    def __init__(self, plan, *words, program=plans.PROGRAM):
+    def __init__(self, plan, *words, program=plans.PROGRAM, command=(plans.TOP / "plan",)):
         self.plan, self.socket = Path(plan), f"{plan}.socket"
-        given = [plans.TOP / "plan", "desk", plan, "--program", program, "--socket", self.socket, *words]
+        given = [*command, "desk", plan, "--program", program, "--socket", self.socket, *words]
         if "--listen" not in words:
             given += ["--listen", "127.0.0.1:0"]
         self.process = subprocess.Popen(given, stderr=subprocess.PIPE, text=True)

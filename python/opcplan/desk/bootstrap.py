@@ -91,14 +91,13 @@ class Joining:
     async def applied(self) -> int:
         """The entry that the plan has last. Raises Unfit."""
         known, last = self.record.begun(), next(iter(self.record.last_kept()), None)
-        log_id, begins, jobs, _ = known or (None, 0, 0, None)
-        is_own = log_id == self.state.id
+        own = known if known is not None and known.log == self.state.id else None
         has_last = last is None or journal_plan.written(self.job(last.job)) == last.text
-        is_level = is_own and self.jobs >= jobs and has_last
-        found = max(self.record.position(), begins) if is_level else self.by_file()
+        is_level = own is not None and self.jobs >= own.jobs and has_last
+        found = max(self.record.position(), own.seq) if own is not None and is_level else self.by_file()
         if self.state.first > found + 1:  # a journal may be older than its plan
             found = max(found, self.position)
-        if not is_own and not (has_last and self.record.position() <= found):
+        if own is None and not (has_last and self.record.position() <= found):
             raise Unfit(f"{self.record.path}: {OTHER_JOURNAL}")
         self.check_end(found)
         # without a journal of the log the last entry has to be there, so that it can be compared

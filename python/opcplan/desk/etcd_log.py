@@ -44,8 +44,7 @@ class Shared(log.Log):
         self.head, self.versions, self.moves = stands.head, stands.versions, stands.head.moves
         begun = journal.begun()
         assert begun is not None  # `bootstrap.joined` has kept it
-        self.applied = given
-        _, self.begins, _, self.digest_at_begin = begun
+        self.applied, self.begun, self.begins = given, begun, begun.seq
         # appended batches are read whole: the first one may have begun before
         self.read_behind = max(0, given - log.MOST_TOGETHER + 1)
         self.has_news = given < stands.head.last
@@ -85,7 +84,7 @@ class Shared(log.Log):
 
     def chain_at(self, position: int) -> str | None:
         base = self.begins
-        begin = chain.chain_of(self.state.id, base) if base == self.state.base else self.digest_at_begin
+        begin = chain.chain_of(self.state.id, base) if base == self.state.base else self.begun.digest
         return self.journal.digest_at(position, base, begin)
 
     def start(self, on_news: Callable[[], None], on_difference: Callable[[str], None]) -> None:

@@ -44,7 +44,7 @@ def begin(path: str, log_id: str, position: int, jobs: int, digest: str | None) 
     """Has a journal go on behind an entry of a log: a new one, or one that the same log had before. Raises Unfit."""
     with contextlib.closing(journal.Journal(path)) as record:
         known = record.begun()
-        if known is None and record.position() or known is not None and known[0] != log_id:
+        if known is None and record.position() or known is not None and known.log != log_id:
             raise Unfit(f"{path}: {bootstrap.OTHER_JOURNAL}")
         record.begin(log_id, position, jobs, digest)
 
