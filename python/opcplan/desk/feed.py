@@ -2,8 +2,9 @@
 
 import asyncio
 import collections
+import contextlib
 import time
-from collections.abc import Mapping, Sequence
+from collections.abc import AsyncIterator, Mapping, Sequence
 from typing import TYPE_CHECKING
 
 from opcplan.desk import log
@@ -22,8 +23,30 @@ BATCH_BYTES = 1 << 19
 PATIENCE = 10.0
 # seconds until what can't be taken for now is tried again
 REST = 0.1
-# so many times as long as the last question took, changes go first; a question waits so many seconds for them at most
+# so many times as long as the last question or copy took, changes go first; who waits for them waits so many seconds
+# at most
 SHARE, MOST_HELD = 3, 10.0
+
+
+class Turns:
+    """The turns of what isn't a change. As long as changes are under way, it has a quarter of the time."""
+
+    def __init__(self, feed: "Feed") -> None:
+        self.feed = feed
+        self.over = self.took = 0.0  # when the last turn was over, and how long it took
+
+    @contextlib.asynccontextmanager
+    async def next(self) -> AsyncIterator[None]:
+        """A turn; before it, changes go three times as long as the last one took."""
+        until = self.over + min(SHARE * self.took, MOST_HELD)
+        while self.feed.desk.is_busy and time.monotonic() < until and not self.feed.is_closing:
+            await asyncio.sleep(REST / 20)
+        begun = time.monotonic()
+        try:
+            yield
+        finally:
+            self.over = time.monotonic()
+            self.took = self.over - begun
 
 
 class Feed:
@@ -36,9 +59,10 @@ class Feed:
         self.batch: list[Ask] = []
         self.questions: collections.deque[Ask] = collections.deque()
         self.wake, self.question_wake, self.hold = asyncio.Event(), asyncio.Event(), asyncio.Lock()
-        self.is_closing = False
+        self.is_closing: bool = False
         self.asking: list[Ask] = []  # the question that opcplan has
-        self.over = self.took = 0.0  # when the last question was answered, and how long that took
+        self.turns, self.copies = Turns(self), Turns(self)  # of questions, and of copies of the plan
+        self.copying = asyncio.Lock()
         self.pumps: list[asyncio.Task[None]] = []
 
     def start(self) -> None:
@@ -94,30 +118,28 @@ class Feed:
         """Empties the queue of questions, until the desk closes."""
         while not self.is_closing or self.questions:
             if self.questions:
-                await self.let_changes_go()
-                if self.questions:
-                    await self.answered(self.questions.popleft())
+                async with self.turns.next():
+                    if self.questions:
+                        await self.answered(self.questions.popleft())
             else:
                 self.question_wake.clear()
                 await self.question_wake.wait()
 
-    async def let_changes_go(self) -> None:
-        """Waits three times as long as the last question took, where changes are under way: questions have a quarter of
-        the time."""
-        until = self.over + min(SHARE * self.took, MOST_HELD)
-        while self.desk.is_busy and time.monotonic() < until and not self.is_closing:
-            await asyncio.sleep(REST / 20)
+    @contextlib.asynccontextmanager
+    async def at_rest(self) -> AsyncIterator[None]:
+        """A context in which no statement is in flight, or opcplan is stopped: for one copy of the plan at a time."""
+        async with self.copying, self.copies.next(), self.hold:
+            await self.desk.planner.idle_or_stopped()
+            yield
 
     async def answered(self, ask: Ask) -> None:
         """Gives a question over, and waits until it is answered."""
-        begun, future, self.asking = time.monotonic(), ask.wait(), [ask]
+        future, self.asking = ask.wait(), [ask]
         await self.give([ask])
         await asyncio.wait([future])
         if not future.cancelled():
             future.exception()
         self.asking = []
-        self.over = time.monotonic()
-        self.took = self.over - begun
 
     async def give(self, asks: Sequence[Ask]) -> None:
         """Gives statements over to the planner."""

@@ -3,11 +3,11 @@
 A long one becomes JSON in a process of its own, and goes out from a file, so that callers aren't held up meanwhile."""
 
 import asyncio
-import collections
 import contextlib
 import os
 import sys
 import tempfile
+import weakref
 from typing import IO, NamedTuple, TYPE_CHECKING
 
 from opcplan.desk import rows
@@ -56,11 +56,12 @@ class Lists:
         self.desk = desk
         self.asks: dict[bytes, Ask] = {}  # by statement: what opcplan was asked, or is to be
         self.made: dict[rows.Selection, Made] = {}
-        self.callers: collections.defaultdict[str, asyncio.Lock] = collections.defaultdict(asyncio.Lock)
+        self.callers: weakref.WeakValueDictionary[str, asyncio.Lock] = weakref.WeakValueDictionary()
 
     async def shown(self, who: str, selection: rows.Selection) -> Shown:
         """A list for a caller, who has one made at a time. Raises Refused and Stopped."""
-        async with self.callers[who]:
+        lock = self.callers[who] = self.callers.get(who) or asyncio.Lock()
+        async with lock:
             made = self.made.get(selection)
             if made is None:
                 made = self.begin(selection)

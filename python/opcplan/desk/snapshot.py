@@ -8,14 +8,13 @@ from typing import NamedTuple, TYPE_CHECKING
 
 from aiohttp import web
 
+from opcplan.desk import connections
 from opcplan.desk.held_files import Moved
 from opcplan.errors import Unreadable
 from opcplan.plans import plan_file, tempfiles
 
 if TYPE_CHECKING:
     from opcplan.desk.core import Desk
-
-PIECE = 1 << 18
 
 
 class Position(NamedTuple):
@@ -36,26 +35,20 @@ async def handle(desk: "Desk", path: str, request: web.Request) -> web.StreamRes
             await asyncio.to_thread(in_one_file, copy)
         except (OSError, sqlite3.Error, Unreadable, Moved) as error:
             raise web.HTTPServiceUnavailable(text=f"there is no copy: {error}\n") from None
-        response = web.StreamResponse(headers={
+        heads = {
             "Content-Type": "application/vnd.sqlite3", "Content-Disposition": "attachment; filename=plan.db",
-            "Content-Length": str(os.path.getsize(copy)), "X-Opcplan-Position": str(stands.position),
-            "ETag": f'"{stands.tag}"',
+            "X-Opcplan-Position": str(stands.position), "ETag": f'"{stands.tag}"',
             "Cache-Control": "no-store", "X-Content-Type-Options": "nosniff",
             **({"X-Opcplan-Digest": stands.digest} if stands.digest else {}),
-            **({"X-Opcplan-Log": desk.log.life} if desk.log.is_shared else {})})
-        await response.prepare(request)
+            **({"X-Opcplan-Log": desk.log.life} if desk.log.is_shared else {})}
         with open(copy, "rb") as file:
-            while data := await asyncio.to_thread(file.read, PIECE):
-                await response.write(data)
-        await response.write_eof()
-        return response
+            return await connections.sent_file(request, heads, file, os.path.getsize(copy))
 
 
 async def copied(desk: "Desk", path: str, copy: str) -> Position:
     """Copies the plan and its log while no statement is in flight. Where the planner is stopped, the plan may have more
     than the position says. Raises Moved, Unreadable and OSError."""
-    async with desk.feed.hold:
-        await desk.planner.idle_or_stopped()
+    async with desk.feed.at_rest():
         if desk.planner.halted:
             raise Moved(desk.planner.halted)
         found = Position(desk.position, desk.tag(), desk.state.chain)
