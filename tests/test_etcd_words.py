@@ -146,10 +146,10 @@ class Nobody(desks.Case):
 class Names(unittest.TestCase):
     def test_desks_with_commas_between_them(self):
         for text, places in (
-            ("h:1", [("http", ("h", 1))]),
-            ("http://a:1,https://b", [("http", ("a", 1)), ("https", ("b", None))]),
-            ("/run/a,b.socket", [("socket", "/run/a,b.socket")]),
-            ("/run/a,/run/b,http://c:3", [("socket", "/run/a"), ("socket", "/run/b"), ("http", ("c", 3))]),
+            ("h:1", [("http", "h", 1)]),
+            ("http://a:1,https://b", [("http", "a", 1), ("https", "b", None)]),
+            ("/run/a,b.socket", [("socket", "/run/a,b.socket", None)]),
+            ("/run/a,/run/b,http://c:3", [("socket", "/run/a", None), ("socket", "/run/b", None), ("http", "c", 3)]),
         ):
             self.assertEqual(client.Client(text).places, places)
         for text in ("", "http://", "http://a:1,https://", "http://a:1/x", "ftp://a,http://b"):
