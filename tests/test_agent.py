@@ -58,7 +58,7 @@ class PlainDesk:
     def request(self, method, path, body=None, heads=()):
         position = len(self.log)
         if method == "POST":
-            return {}, self.statement(body.decode(), heads["Idempotency-Key"], heads["If-Match"])
+            return {}, self.statement(body.decode(), heads["Idempotency-Key"], heads.get("If-Match"))
         word, _, query = path.partition("?")
         if word == "/health":
             return {}, json.dumps({"position": position, "tag": f"{self.life}-{position}"}).encode()
@@ -80,7 +80,7 @@ class PlainDesk:
         fault = self.faults.pop(0) if self.faults else None
         if fault == "before":
             raise client.Away("it is away", False)
-        if key not in self.keys and condition != f'"{self.life}-{len(self.log)}"':
+        if key not in self.keys and condition not in (None, f'"{self.life}-{len(self.log)}"'):
             raise client.Refused(412, "the plan has changed since it was looked at; nothing was done")
         if key not in self.keys:
             self.keys[key] = self.put(text.strip(), key)
@@ -374,9 +374,31 @@ class Step(Room):
 
         with unittest.mock.patch.object(state.State, "send", slow):
             told = self.until(lambda: True, agent)
-        self.assertIn("AA 2024-01-01/08.00 (serial 1): it is started by now", told)
+        self.assertIn("it isn't started: the desk says `refused 29`", told)
         self.until(lambda: True, agent)
-        self.assertEqual((len(desk.log), self.runs(), sorted(os.listdir(self.logs))), (1, [], []))
+        self.assertEqual((len(desk.log), self.runs(), sorted(os.listdir(self.logs))), (2, [], []))
+
+    def test_an_end_is_told_once_the_plan_is_as_it_is_known(self):
+        """Also where it changes all the while: the last try has no condition."""
+        for changes in (1, state.TRIES, 3 * state.TRIES):
+            with self.subTest(changes=changes):
+                desk = PlainDesk(day_stream({"AA": "", "BB": ""}))
+                self.job("AA", "true")
+                agent, send, left = self.agent(desk), state.State.send, [changes]
+
+                def slow(known, one, act, key, desk=desk, send=send, left=left):
+                    send(known, one, act, key)
+                    if act != "start" and left[0]:  # it changes behind what this agent sees
+                        left[0] -= 1
+                        desk.put(f"cp-{'start' if desk.status('BB') == 'W' else 'fail'} --app BB --ia 2024-01-01/08.01")
+                        if desk.status("BB") == "E":
+                            desk.put("cp-reset --app BB --ia 2024-01-01/08.01")
+
+                with unittest.mock.patch.object(state.State, "send", slow):
+                    told = self.until(lambda: not agent.state.records and desk.status("AA") == "C", agent)
+                self.assertIn("status 0; it is complete", told)
+                self.assertEqual([one["key"][-4:] for one in desk.log if "complete" in one["statement"]], ["-end"])
+                self.assertEqual(left[0], max(0, changes - state.TRIES - 1))
 
     def test_what_the_desk_refuses_rests(self):
         desk = PlainDesk(day_stream({"AA": ""}))

@@ -18,7 +18,7 @@ TRIES = 3  # of a look, in a small world
 AGAIN = ("fail", "reset", "start")
 WORLDS = {
     "a job": Kind(),
-    "a job that waits for another one": Kind(rows=2, agent_ends=1, acts=("complete",)),
+    "a job that waits for another one": Kind(rows=2, agent_ends=1, lost=1),
     "an agent that is killed": Kind(agent_ends=2, fails=1),
     "people who start it anew": Kind(acts=AGAIN, fails=1),
     "people who start it before": Kind(acts=("start", "fail", "reset"), agent_ends=1),
@@ -27,7 +27,7 @@ WORLDS = {
     "answers that are lost, and people": Kind(lost=1, acts=("fail", "reset")),
     "a statement that comes late": Kind(late=1, acts=("start", "fail", "reset")),
     "a desk that is killed": Kind(desk_ends=1, lost=1, agent_ends=1),
-    "a desk that is killed, and people": Kind(desk_ends=1, lost=1, acts=("fail",)),
+    "a desk that is killed, and people": Kind(desk_ends=1, acts=("fail",)),
     "another desk of the log": Kind(others=2, lost=1),
     "a desk that joined its log": Kind(joined=1, agent_ends=1, acts=("fail",)),
     "old jobs that are answered again": Kind(olds=1, acts=("fail",)),
@@ -54,6 +54,17 @@ class Unconditional(state.State):
 
     def send(self, one, act, key):
         self.command = state.Send(one, act, key, ANY)
+
+
+class Early(state.State):
+    """A record is given up before its start is answered."""
+
+    def claimed(self, is_free):
+        one = self.command.record
+        if is_free and self.status_of(one) != "W" and not self.is_ours(one):
+            self.command = state.Forget(one, "it is another's")
+        else:
+            super().claimed(is_free)
 
 
 class Hesitant(state.State):
@@ -128,7 +139,7 @@ class Mutants(unittest.TestCase):
         self.assertIn("was in force", self.caught(Unread, "people who start it anew"))
 
     def test_a_start_that_comes_late(self):
-        self.assertIn("nobody has it", self.caught(Unconditional, "a statement that comes late"))
+        self.assertIn("nobody has it", self.caught(Early, "a statement that comes late"))
 
     def test_a_job_that_never_began(self):
         self.assertIn("a record is left", self.caught(Hesitant, "an agent that is killed"))

@@ -20,7 +20,7 @@ NOW = 10
 ACTS = {"start": ("W", "S"), "complete": ("SE", "C"), "fail": ("S", "E"), "reset": ("E", "W"), "delete": ("WE", "D")}
 GOOD, BAD = 0, 1
 OLD_JOB = 20
-ANY = "any"
+ANY = ""
 ROUNDS = 12
 
 
@@ -313,7 +313,6 @@ def do_here(world, command):
         is_free = world.runner(command.record.serial) is None
         if is_free:
             world.claimed |= {command.record.serial}
-            world.keep(command.record)
         agent.claimed(is_free)
     elif isinstance(command, state.Run):
         one = command.record

@@ -63,10 +63,10 @@ class Asking:
             return self.each(known_plan.entry_of, self.desk.request("GET", f"/journal?from={since + 1}")[1])
 
     def send(self, one: Record, act: str, key: str, tag: str) -> Entry | None:
-        """What the desk answers to a statement on an occurrence; None where the plan isn't in the state of the tag."""
+        """What the desk answers to a statement on an occurrence; None where the plan isn't in the state of a tag."""
         text = f"cp-{act} --app {one.app} --ia {one.ia}\n".encode("ascii")
         heads = {"Idempotency-Key": key, "Content-Type": "text/plain", "Accept": "application/x-ndjson"}
-        if not tag.startswith("-"):  # where the desk names its states
+        if tag:
             heads["If-Match"] = f'"{tag}"'
         try:
             with self.read():

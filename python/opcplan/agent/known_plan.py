@@ -79,6 +79,11 @@ class KnownPlan:
         self.latest: dict[int, Latest] = {}
         self.sure: dict[int, Latest | None] = {}  # `latest` as it was before entries that may be old answers
 
+    @property
+    def last(self) -> int:
+        """The entry up to which nothing more is asked for."""
+        return max(self.since, self.position or 0)
+
     def begin(self, since: int) -> None:
         """Nothing is known; entries behind a position will be taken."""
         self.position, self.since, self.stale = None, since, NOTHING
@@ -100,7 +105,7 @@ class KnownPlan:
             self.stale = ALL
         elif found and (row is None or one.is_old):
             self.stale = max(self.stale, STATUSES)
-        elif found and row:
+        if found and row and not one.is_old:
             self.rows[row.serial] = row._replace(status=found[2])
 
     def take_latest(self, one: Entry) -> None:

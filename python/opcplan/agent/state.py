@@ -6,10 +6,11 @@ What always holds (tests/test_agent_states.py asks it in each state of small wor
 - A job begins only once the desk has accepted its start under the key of its record, and never twice under one key.
 - The end of each job that began and has an end in its record is reported, once, as it was; unless the occurrence got
   another status meanwhile, and then the desk is told nothing.
-- A statement is sent on the condition that the plan is as it is known here, so that none is done late: what somebody
-  else did in between makes the agent look again.
-- Nothing is decided of a run by a desk that is behind its record, or behind the start of a job that began: a desk that
-  was begun again, or another desk of its log, may be for a while."""
+- An end is sent on the condition that the plan is as it is known here: what somebody else did in between makes the
+  agent look again. Only where the plan changes at each of TRIES tries it is sent without.
+- No record is given up before the desk has answered its start, so that none is done later which nobody waits for.
+- Nothing is decided of a job that began by a desk that is behind its start: a desk that was begun again, or another
+  desk of its log, may be for a while."""
 
 import dataclasses
 from collections import deque
@@ -65,14 +66,14 @@ class Prepare(NamedTuple):
 
 
 class Claim(NamedTuple):
-    """Command: the lock of a record's log is taken, and the record is put on the disk if it is another one there."""
+    """Command: the lock of a record's log is taken."""
 
     record: Record
 
 
 class Send(NamedTuple):
-    """Command: a statement on the occurrence of a record is sent under a key, on the condition that the plan is in the
-    state of a tag."""
+    """Command: a statement on the occurrence of a record is sent under a key; where there is a tag, on the condition
+    that the plan is in the state which that names."""
 
     record: Record
     act: str
@@ -105,7 +106,7 @@ class Fetched:
     pairs_at: int = 0
     rows: dict[int, Row] | None = None
     rows_at: int = 0
-    is_whole: bool = False  # whether the journal is asked for from its beginning
+    is_whole: bool = False  # whether the journal is asked for from its beginning, for it told nothing
     tries: int = dataclasses.field(default_factory=lambda: TRIES)
 
 
@@ -125,6 +126,8 @@ class State:
         self.left: deque[int] = deque()  # serials of runs that this look has yet to see
         self.offered: deque[int] | None = None  # serials of rows that were ready, None where none were looked for
         self.now = self.most = self.tries = 0
+        self.stood = 0  # the position that the desk told last
+        self.is_quick = False  # whether only entries are asked for, to decide of a run again
 
     @property
     def running(self) -> int:
@@ -142,24 +145,34 @@ class State:
 
     def refresh(self) -> None:
         """Asks what changed."""
-        self.fetched = None
+        self.fetched, self.is_quick = None, False
         self.command = AskStanding()
 
     def standing(self, position: int, life: str) -> None:
         """The desk is at a position of a log. Raises Behind."""
         plan = self.plan
+        if self.fetched is not None:
+            self.stands(position, life)
+            return
         if plan.position is not None and life and life == self.life and position < plan.position:
             raise Behind(f"it is behind entry {plan.position}")  # another desk of the same log, which hasn't all yet
         if plan.position is None or life != self.life or position < plan.position:
             plan.begin(min([position, *(one.after for one in self.records.values())]))
             self.keys.clear()
-        self.life = life
+        self.life, self.stood = life, position
         if plan.position is None:
             self.fetch_all()
         elif position > plan.position or plan.stale != NOTHING:
             self.command = AskEntries(plan.position)
         else:
             self.go_on()
+
+    def stands(self, position: int, life: str) -> None:
+        """The desk whose journal told nothing is at a position. Raises Behind where its rows were further."""
+        assert self.fetched is not None
+        if life != self.life or position < self.fetched.rows_at:
+            raise Behind("it was begun again meanwhile")
+        self.command = AskEntries(0)
 
     def fetch_all(self) -> None:
         """Asks for pairs and rows of one plan."""
@@ -179,8 +192,8 @@ class State:
         if known is not None and position < known:
             raise Behind(f"it is behind entry {known}")
         fetched.rows, fetched.rows_at = {row.serial: row for row in rows}, position
-        since = self.plan.since if known is None else known
-        self.command = AskEntries(since if fetched.pairs is None else min(since, fetched.pairs_at))
+        last = self.plan.last
+        self.command = AskEntries(last if fetched.pairs is None else min(last, fetched.pairs_at))
 
     def entries(self, entries: Sequence[Entry]) -> None:
         """The entries behind a position that was asked for, as far as the desk has them. Raises Behind."""
@@ -189,34 +202,33 @@ class State:
             return
         fetched = self.fetched
         assert fetched.rows is not None
-        if not entries and self.plan.position is None and self.plan.since < fetched.rows_at:
+        if self.plan.last < fetched.rows_at and not any(one.seq > self.plan.last for one in entries):
             if not fetched.is_whole:
-                fetched.is_whole, self.command = True, AskEntries(0)
+                fetched.is_whole, self.command = True, AskStanding()
                 return
-            self.plan.skip(fetched.rows_at)  # a journal that was begun anew
+            if not entries:
+                self.plan.skip(fetched.rows_at)  # the journal was begun anew, or by a desk that joined its log
         known = [one for one in entries if one.seq <= fetched.rows_at]
         if fetched.pairs is not None and any(one.changes_pairs for one in known if one.seq > fetched.pairs_at):
             fetched.tries -= 1
-            if not fetched.tries:
-                raise Behind("the plan changes all the while")
-            self.command = AskPairs()
-            return
+            if fetched.tries:
+                self.command = AskPairs()
+                return
+            self.plan.stale, fetched.pairs = ALL, None  # it changes all the while
         self.take_fetched(fetched, fetched.rows, known)
 
     def take_fetched(self, fetched: Fetched, rows: dict[int, Row], entries: Sequence[Entry]) -> None:
         """Takes what the desk told of one state of its plan, and the entries up to that. Raises Behind."""
-        position = self.plan.since if self.plan.position is None else self.plan.position
-        is_broken = self.note_gap(entries, fetched.rows_at)
+        last, is_broken, stale = self.plan.last, self.note_gap(entries, fetched.rows_at), self.plan.stale
         for one in entries:
-            if one.seq > position:
+            if one.seq > last:
                 self.note(one)
                 self.plan.take_latest(one)
         self.plan.take_rows(rows, fetched.rows_at)
         if fetched.pairs is not None:
             self.plan.take_pairs(fetched.pairs)
-        elif is_broken:
-            self.fetch_all()
-            return
+        elif is_broken or stale == ALL:
+            self.plan.stale = ALL
         self.go_on()
 
     def follow(self, entries: Sequence[Entry]) -> None:
@@ -227,7 +239,11 @@ class State:
         for one in entries:
             self.note(one)
             self.plan.take(one)
-        if self.plan.stale == ALL:
+        if self.is_quick and not entries:  # the desk lacks what it answered by
+            self.skip()
+        elif self.is_quick and not self.plan.sure:
+            self.go_on()
+        elif not self.is_quick and (self.plan.stale == ALL or self.stood > self.plan.position):
             self.fetch_all()
         elif self.plan.stale != NOTHING:
             self.fetched = Fetched()
@@ -237,7 +253,7 @@ class State:
 
     def note_gap(self, entries: Sequence[Entry], upto: int) -> bool:
         """Whether entries are lacking behind what is known. Raises Behind where they don't go up to a position."""
-        last = self.plan.since if self.plan.position is None else self.plan.position
+        last = self.plan.last
         behind = [one.seq for one in entries if one.seq > last]
         if upto > last and (not behind or behind[-1] < upto):
             raise Behind(f"it lacks entries up to {upto}")
@@ -257,7 +273,7 @@ class State:
 
     def go_on(self) -> None:
         """Looks at the next run, or where there is none, at what is ready."""
-        self.fetched = None
+        self.fetched, self.stood = None, 0
         while self.left and self.left[0] not in self.records:
             self.left.popleft()
         self.command = Look(self.left[0]) if self.left else self.next_ready()
@@ -266,28 +282,24 @@ class State:
         """What was under way isn't done in this look."""
         if self.left:
             self.left.popleft()
+        self.tries = TRIES
         self.go_on()
 
     def seen(self, one: Record, has_runner: bool) -> None:
         """The record of a run, as it was after it was seen whether a runner has its log."""
         self.records[one.serial] = one
-        position = self.plan.position or 0
         if one.ended is None and has_runner:
             self.skip()
-        elif position < one.after or one.began is not None and self.is_start_ahead(one):
+        elif one.began is None and one.serial in self.lost and self.status_of(one) == "S":
+            self.skip()
+        elif one.began is None:  # the runner notes on the disk that a job begins, before it does, so nothing began
+            self.command = Claim(one)
+        elif self.is_start_ahead(one):
             self.wait(one)
         elif one.ended is not None:
             self.report(one)
-        elif one.began is not None:
-            self.see_broken(one)
-        elif self.status_of(one) == "W":  # what was sent before counts no more
-            self.command = Claim(dataclasses.replace(one, after=position))
-        elif (is_ours := self.is_ours(one)) is None:
-            self.lose(one, f"is started, and {UNKNOWN}")
-        elif is_ours:  # the runner notes on the disk that a job begins, before it does, so nothing began
-            self.command = Claim(one)
         else:
-            self.command = Forget(one, f"it is {self.status_text(one)} by now")
+            self.see_broken(one)
 
     def see_broken(self, one: Record) -> None:
         """A job began, and nobody will say how it ended."""
@@ -349,20 +361,21 @@ class State:
             self.command = Forget(one, f"{how}; the desk isn't told, for it is {self.status_text(one)} by now")
 
     def send(self, one: Record, act: str, key: str) -> None:
-        """Has a statement sent, on the condition that the plan is as it is known."""
-        self.command = Send(one, act, key, f"{self.life}-{self.plan.position}")
+        """Has a statement sent, an end on the condition that the plan is as it is known."""
+        is_free = act == "start" or not self.life or self.tries <= 0
+        self.command = Send(one, act, key, "" if is_free else f"{self.life}-{self.plan.position}")
 
     def claimed(self, is_free: bool) -> None:
-        """The lock of a log was taken, or a runner has it."""
+        """The lock of a log was taken, or a runner has it. A start that may have been sent is sent again, also where it
+        can't be accepted any more: so it is answered, and isn't done later."""
         assert isinstance(self.command, Claim)
         one = self.command.record
         if not is_free:
             self.skip()
-        elif self.status_of(one) == "W":
-            self.records[one.serial] = one
-            self.send(one, "start", one.key)
-        else:
+        elif self.is_ours(one):
             self.command = Run(one)
+        else:
+            self.send(one, "start", one.key)
 
     def changed(self) -> None:
         """Nothing was done, for the plan isn't as it was known: it is looked at again, and decided anew."""
@@ -371,13 +384,12 @@ class State:
 
     def look_again(self, one: Record) -> None:
         """Asks what changed, and looks at a run again then."""
+        assert self.plan.position is not None
         if not self.left or self.left[0] != one.serial:
             self.left.appendleft(one.serial)
         self.tries -= 1
-        if self.tries > 0:
-            self.refresh()
-        else:
-            self.skip()
+        self.fetched, self.is_quick = None, True
+        self.command = AskEntries(self.plan.position)
 
     def answered(self, answer: Entry) -> None:
         """The desk's answer to a statement."""
@@ -393,8 +405,10 @@ class State:
             self.command = Forget(one, f"it ended: {one.ended_text}; {is_told}")
         elif not found or int(found[1]) != one.serial:
             self.command = Forget(one, f"it isn't started: the desk says `{answer.reply}`", True)
+        elif answer.seq <= known and self.is_ours(one) is None:
+            self.lose(one, f"is started, and {UNKNOWN}")
         elif answer.seq <= known:
-            self.command = Forget(one, "it was started before, and waits again")
+            self.command = Forget(one, f"it was started before, and is {self.status_text(one)} by now")
         elif answer.seq == known + 1:
             self.command = Run(one)
         else:  # others came between

@@ -153,13 +153,11 @@ class Agent:
         return known, has_runner
 
     def claim(self, one: Record) -> bool:
-        """Whether the log of a record is the agent's now, with the record on the disk. Raises OSError."""
+        """Whether the log of a record is the agent's now. Raises OSError."""
         log = record.open_log(self.given.logs, one.serial)
         if log is None:
             return False
         self.logs[one.serial] = log
-        if one != self.state.records[one.serial]:
-            record.write(self.given.logs, one)
         return True
 
     def run(self, one: Record) -> None:
