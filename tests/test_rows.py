@@ -101,7 +101,7 @@ class Filters(unittest.TestCase):
             self.check(wanted, "--from", day, "--to", day)
 
     def test_statuses_by_letters_and_words(self):
-        others = [("E", "E"), ("w,s", "WS"), ("in-error,started", "ES"), ("WSECD", "WSECD")]
+        others = [("E", "E"), ("error", "E"), ("w,s", "WS"), ("in-error,started", "ES"), ("WSECD", "WSECD")]
         for given, letters in [*TOLD.items(), *others]:
             wanted = [one for one in self.all if one[3] == "cp" and one[1] in letters]
             self.check(wanted, "cp", "--status", given)
@@ -137,7 +137,7 @@ class Filters(unittest.TestCase):
             (["--from", "2026-11-26", "--to", "2026-11-25"], "--to is before --from"),
             (["--from", "2026-11-31"], "is no day like"),
             (["--status", "X"], "'x' is no status"),
-            (["--status", "error"], "it is one of waiting (W), started (S), in-error (E), complete (C), deleted (D);"),
+            (["--status", "errors"], "it is one of waiting (W), started (S), in-error (E), complete (C), deleted (D);"),
             (["--status", "late"], "deleted (D); what is late `--late` shows;"),
             (["--status", ""], "'' is no status"),
             (["links"], "invalid choice"),
