@@ -8,7 +8,7 @@ import time
 import unittest
 from unittest import mock
 
-from support.agent_worlds import ANY, explored, Kind, World, Wrong
+from support.agent_worlds import ANY, explored, Kind, walked, World, Wrong
 
 from opcplan.agent import known_plan, state
 from opcplan.agent.known_plan import Latest
@@ -35,6 +35,11 @@ WORLDS = {
 }
 
 
+# for walks: all of it together, and two occurrences
+LARGER = Kind(rows=2, acts=("fail", "reset", "start", "complete"), olds=1, fails=1, agent_ends=2, desk_ends=1, others=1,
+              lost=2, away=2, late=1)
+
+
 class States(unittest.TestCase):
     def test_every_interleaving_of_small_worlds(self):
         begun, total = time.process_time(), 0
@@ -47,6 +52,10 @@ class States(unittest.TestCase):
         took = time.process_time() - begun
         print(f"{total:,} states of {len(WORLDS)} worlds in {took:.1f} s")
         self.assertLess(took, LONGEST)
+
+    def test_walks_at_random_through_a_larger_world(self):
+        for seed in range(25):
+            walked(LARGER, seed)
 
 
 class Unconditional(state.State):

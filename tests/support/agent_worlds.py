@@ -7,6 +7,7 @@ some entries before."""
 
 import copy
 import dataclasses
+import random
 from collections import deque
 from typing import NamedTuple
 
@@ -22,6 +23,7 @@ GOOD, BAD = 0, 1
 OLD_JOB = 20
 ANY = ""
 ROUNDS = 12
+MOST_STEPS = 150  # of a walk
 
 
 class Wrong(Exception):
@@ -515,6 +517,21 @@ def explored(kind, kind_of_state=state.State):
         except (Wrong, AssertionError) as why:
             raise Wrong(f"{why}\n" + "\n".join(path_to(seen, number))) from None
     return len(seen)
+
+
+def walked(kind, seed, kind_of_state=state.State):
+    """Takes steps at random through a world, and asks at some rests whether all comes to its end. Raises Wrong, with
+    the path."""
+    chosen, path, world = random.Random(seed), [], World(kind, kind)
+    try:
+        while len(path) < MOST_STEPS:
+            check(world)
+            if (world.agent is None or world.agent.command is None) and not chosen.randrange(5):
+                check_outcome(world, kind_of_state)
+            label, world = chosen.choice(list(steps(world, kind_of_state)))
+            path.append(label)
+    except (Wrong, AssertionError) as why:
+        raise Wrong("\n".join([f"{why}, by seed {seed}", *path])) from None
 
 
 def path_to(seen, number):
