@@ -210,7 +210,8 @@ class Ends(unittest.TestCase):
         with contextlib.closing(socket.socket(socket.AF_UNIX)) as held:
             held.bind(str(place))
             files = [fifo, folder, place, "/dev/zero", "/dev/full", "/dev/null"]
-            for turn, name in enumerate(sorted(PRINTERS.keys() - {"explain", "journal", "lint", "--help"})):
+            reads_none = {"explain", "journal", "lint", "init", "--help"}
+            for turn, name in enumerate(sorted(PRINTERS.keys() - reads_none)):
                 for file in (files[turn % 6], files[(turn + 3) % 6]):
                     with self.subTest(name, plan=file):
                         self.check_told(self.ran(self.words(name, PRINTERS[name], PLAN=file)), f"{file}: it is no file")

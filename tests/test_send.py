@@ -161,7 +161,7 @@ class Send(unittest.TestCase):
         with expected.held(self.plan, EXTENDED) as program:
             ran = self.send("start", "REPORT", "2024-01-01/20.00")
             self.assertEqual((ran.returncode, ran.stdout), (8, "fault 50\n"))
-            self.assertIn("another program has FILE open", ran.stderr)
+            self.assertIn(f"another program has {self.plan} open", ran.stderr)
             timer = threading.Timer(0.6, program.stdin.close)
             timer.start()
             ran = self.send("--wait", "30", "start", "REPORT", "2024-01-01/20.00")
