@@ -97,7 +97,7 @@ both_so : (a b : Bool) → (not a && b) ≡ true → (a ≡ false) × (b ≡ tru
 both_so false b is = (refl, is)
 both_so true b is = absurd (let h : ⊥ = cc is in h)
 
-bars_so : (moment : ℕ) (d : Deletion) → bars_from moment d ≡ true → (d.reason ≡ Operator) × (moment ≤ d.row.key.ia)
+pub bars_so : (moment : ℕ) (d : Deletion) → bars_from moment d ≡ true → (d.reason ≡ Operator) × (moment ≤ d.row.key.ia)
 bars_so moment d is =
     let (late, by) = both_so (nat_lt d.row.key.ia moment) (is_by_operator d.reason) is in
     (by_operator d.reason by, ltb-false d.row.key.ia moment late)

@@ -1,18 +1,23 @@
 -- What is found out for a need or a change is all that it needs.
-use Rattle.std.proofs.Common.{◌≡◌, ◌+◌, ◌∙◌, ℕ, List, None, Some, ap, subst, sym, true}
+use Rattle.std.proofs.Common.{◌≡◌, ◌+◌, ◌≤◌, ℕ, Bool, List, None, Option, Some, arith, false, refl, subst, sym, true}
+use Rattle.std.specs.Prelude.{not, nat_lt}
+use Rattle.std.proofs.lemmas.Bool.{le-ltb, ltb-false}
+use Rattle.occurrences.specs.declared.place.Deletion.{Deletion}
+use Rattle.occurrences.specs.declared.place.Reason.TheVariants.{Operator}
 use Rattle.occurrences.specs.declared.key.Key.{Key}
 use Rattle.planner_machine.specs.Content.{Content}
 use Rattle.planner_machine.specs.declared.content.Bounds.{Bounds}
 use Rattle.plan_store.specs.Asked.{AsksKey, HasLast}
-use Rattle.plan_store.specs.Parts.{IsPartOf, Knows, KnowsDeletion, Rest}
-use Rattle.plan_store.specs.Views.{Asks, bars}
+use Rattle.plan_store.specs.Parts.{HasBars, IsPartOf, Knows, KnowsDeletion, Rest}
+use Rattle.plan_store.specs.Views.{Asks, bars, bars_from, is_by_operator}
 use Rattle.plan_store.specs.declared.stores.Need.{Need}
 use Rattle.plan_store.specs.declared.stores.Need.TheVariants as need
 use Rattle.plan_parts.specs.Asks.{IsAskedIn}
 use Rattle.plan_parts.specs.Unknown.{HasMore}
-use Rattle.plan_parts.specs.Windows.{HasBars, HasLastsOf, IsReadyFor, KnowsLive}
+use Rattle.plan_parts.specs.Windows.{HasLastsOf, IsReadyFor, KnowsLive}
 use Rattle.plan_parts.specs.declared.asks.Ask.{Ask}
-use Rattle.fact_gathering.specs.Bringing.{HasGoneFrom, IsAnswered, KnowsAll}
+use Rattle.fact_gathering.specs.Bringing.{IsAnswered, KnowsAll, ends_by}
+use Rattle.fact_gathering.proofs.BarLemmas.{bars_so}
 use Rattle.fact_gathering.proofs.BringLemmas.{last_still}
 use Rattle.fact_gathering.proofs.EachLemmas.{Each, knows_still}
 
@@ -52,26 +57,41 @@ pub key_ready : (key : Key) (rest : Rest) (a b : Content) → HasMore rest a b
     → IsReadyFor rest (need.Key key) b
 key_ready key rest a b more has knows = (lasts_still (need.Key key) rest a b more has, knows has)
 
-same_bounds : (rest : Rest) (a b : Content) → HasMore rest a b → b.sets.bounds ≡ a.sets.bounds
-same_bounds rest a b more = ap (λ (c : Content). c.sets.bounds) more.same
+-- what keeps keys from being made they have still
+pub bars_still : (bounds : Option Bounds) (rest : Rest) (a b : Content) → HasMore rest a b → HasBars bounds rest a
+    → HasBars bounds rest b
+bars_still bounds rest a b more has serial deletion at barred = more.deletions serial deletion
+    (has serial deletion at barred)
 
-bars_still : (rest : Rest) (a b : Content) → HasMore rest a b → HasBars rest a → HasBars rest b
-bars_still rest a b more has serial deletion at barred = more.deletions serial deletion
-    (has serial deletion at (subst (λ bounds. bars bounds deletion ≡ true) (same_bounds rest a b more) barred))
+not_so : (b : Bool) → not b ≡ true → b ≡ false
+not_so false is = refl
+not_so true is = absurd (let h : ⊥ = cc is in h)
 
-pub plan_ready : (rest : Rest) (a b : Content) → HasMore rest a b → HasBars rest a
-    → HasLastsOf (Asks need.LongTerm b) rest b → IsReadyFor rest need.LongTerm b
-plan_ready rest a b more has lasts = (lasts, bars_still rest a b more has)
+bars_late : (moment : ℕ) (deletion : Deletion) → deletion.reason ≡ Operator → moment ≤ deletion.row.key.ia
+    → bars_from moment deletion ≡ true
+bars_late moment deletion reason late =
+    let after : nat_lt deletion.row.key.ia moment ≡ false = le-ltb deletion.row.key.ia moment late in
+    let by : is_by_operator deletion.reason ≡ true = subst (λ r. is_by_operator r ≡ true) (sym reason) refl in
+    rw (after, by) refl
 
--- from the plan end on
-pub gone_bars : (rest : Rest) (was now : Content) (bounds : Bounds) → was.sets.bounds ≡ Some bounds
-    → HasMore rest was now → HasGoneFrom bounds.plan_end rest now → HasBars rest now
-gone_bars rest was now bounds is more has serial deletion at barred = has serial deletion at
-    (subst (λ b. bars b deletion ≡ true) (same_bounds rest was now more ∙ is) barred)
+-- what keeps keys from being made from a moment on does so from an earlier one on
+bars_earlier : (earlier moment : ℕ) (deletion : Deletion) → earlier ≤ moment → bars_from moment deletion ≡ true
+    → bars_from earlier deletion ≡ true
+bars_earlier earlier moment deletion le barred =
+    let so = bars_so moment deletion barred in
+    bars_late earlier deletion so.0 (omega (arith, le, so.1))
 
--- or nothing before there is a plan
-pub no_bars : (rest : Rest) (c : Content) → c.sets.bounds ≡ None → HasBars rest c
-no_bars rest c is serial deletion at barred =
+-- where a plan doesn't end later, the lists have what keeps keys from being made
+pub bars_by : (o : Option Bounds) (bounds : Bounds) (rest : Rest) (c : Content) → ends_by o bounds.plan_end ≡ true
+    → HasBars o rest c → HasBars (Some bounds) rest c
+bars_by None bounds rest c is has = absurd (let h : ⊥ = cc is in h)
+bars_by (Some known) bounds rest c is has = λ serial deletion at barred. has serial deletion at
+    (bars_earlier known.plan_end bounds.plan_end deletion
+    (ltb-false bounds.plan_end known.plan_end (not_so (nat_lt bounds.plan_end known.plan_end) is)) barred)
+
+-- and nothing does where no plan end is set
+pub no_bars : (o : Option Bounds) (rest : Rest) (c : Content) → o ≡ None → HasBars o rest c
+no_bars o rest c is serial deletion at barred =
     let no = subst (λ b. bars b deletion ≡ true) is barred in absurd (let h : ⊥ = cc no in h)
 
 -- ---- what is unknown

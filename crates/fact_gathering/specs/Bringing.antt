@@ -1,7 +1,9 @@
 -- What was found is brought into lists.
-use Rattle.std.specs.Prelude.{◌≡◌, ◌+◌, ℕ, true, List, Contains, Result, Some, IfErr, OnErr, OnOk}
+use Rattle.std.specs.Prelude.{◌≡◌, ◌+◌, ℕ, Bool, true, false, not, nat_lt, List, Contains, Option, Result, None, Some}
+use Rattle.std.specs.Prelude.{IfErr, OnErr, OnOk}
 use Rattle.occurrences.specs.declared.place.Deletion.{Deletion}
 use Rattle.planner_machine.specs.Content.{Content}
+use Rattle.planner_machine.specs.declared.content.Bounds.{Bounds}
 use Rattle.plan_store.specs.Asked.{HasLast}
 use Rattle.plan_store.specs.Parts.{IsPartOf, Knows, KnowsDeletion, Rest}
 use Rattle.plan_store.specs.Views.{bars_from}
@@ -36,6 +38,11 @@ pub record BringsEach (deletions : List Deletion) (was now : Content) (result : 
 abbrev pub HasGoneFrom : ℕ → Rest → Content → Type 0
 HasGoneFrom moment rest c = (serial : ℕ) (deletion : Deletion) → rest.deletions serial ≡ Some deletion
     → bars_from moment deletion ≡ true → c.sets.deletions serial ≡ Some deletion
+
+-- there is a plan, and it ends at the moment or before it
+abbrev pub ends_by : Option Bounds → ℕ → Bool
+ends_by None moment = false
+ends_by (Some b) moment = not (nat_lt moment b.plan_end)
 
 -- the last row is there that is asked for
 abbrev pub IsAnswered : Ask → Rest → Content → Type 0

@@ -1,10 +1,12 @@
 // What a window for a need lacks, or a change, is brought into lists.
 
+ghost use Rattle.std.specs.Prelude.{◌≡◌, Some};
 ghost use Rattle.plan_store.specs.Asked.{AsksKey};
 ghost use Rattle.plan_store.specs.Contents.{content_of};
+ghost use Rattle.plan_store.specs.Parts.{HasBars};
 ghost use Rattle.plan_parts.specs.Changes.{KnowsNamed};
-ghost use Rattle.plan_parts.specs.Windows.{HasBars, HasLastsOf, IsReadyFor, KnowsLive};
-ghost use Rattle.fact_gathering.specs.Bringing.{KnowsAll};
+ghost use Rattle.plan_parts.specs.Windows.{HasLastsOf, IsReadyFor, KnowsLive};
+ghost use Rattle.fact_gathering.specs.Bringing.{KnowsAll, ends_by};
 ghost use Rattle.fact_gathering.specs.Gathering.{Gathers};
 
 use crate::gathering::{find_barring, find_each_completed, find_each_deleted};
@@ -13,10 +15,12 @@ use fact_lookups::LookupFault;
 use occurrences::Key;
 use plan_parts::{Unknown, unknown_for_key, unknown_of};
 use plan_store::{Change, Content, Need};
+use planner_machine::Bounds;
 use sqlite::{Alter, Connection};
 use std::alloc::{AllocError, Global};
+use work_calendars::Moment;
 
-/// Brings into the lists what a window for the need asks of history and of the deletions.
+/// Brings into the lists what a window for the need asks of history. The deletions that it shows they have.
 pub fn gather<S: Alter>(
     alloc: Global,
     conn: &mut Connection<S>,
@@ -77,25 +81,7 @@ fn gather_for_plan<S: Alter>(
     ensures { Gathers S.Store conn.old conn.new (content_of lists.old) (content_of lists.new)
         result (λ rest now. IsReadyFor rest Need.LongTerm now) }
 {
-    match find_bars(alloc, conn, lists) {
-        Ok(()) => find_asked(alloc, conn, lists, &Need::LongTerm),
-        Err(fault) => Err(fault),
-    }
-}
-
-// Finds out the deletions that keep a planning statement from making a key.
-fn find_bars<S: Alter>(
-    alloc: Global,
-    conn: &mut Connection<S>,
-    lists: &mut Content,
-) -> Result<(), LookupFault>
-    ensures { Gathers S.Store conn.old conn.new (content_of lists.old) (content_of lists.new)
-        result HasBars }
-{
-    match lists.bounds {
-        Some(bounds) => find_barring(alloc, conn, lists, bounds.plan_end),
-        None => Ok(()),
-    }
+    find_asked(alloc, conn, lists, &Need::LongTerm)
 }
 
 /// Brings into the lists what the change names of history and of the deletions.
@@ -109,8 +95,68 @@ pub fn gather_for_change<S: Alter>(
         result (λ rest now. KnowsNamed rest change.now now) }
 {
     match unknown_of(alloc, lists, change) {
-        Ok(unknown) => find_unknown(alloc, conn, lists, &unknown),
+        Ok(unknown) => find_named(alloc, conn, lists, change, &unknown),
         Err(AllocError) => Err(LookupFault::Memory),
+    }
+}
+
+// Finds out the deletions that the change needs for its plan end, and what stands under the serials.
+fn find_named<S: Alter>(
+    alloc: Global,
+    conn: &mut Connection<S>,
+    lists: &mut Content,
+    change: &Change,
+    unknown: &Unknown,
+) -> Result<(), LookupFault>
+    ensures { Gathers S.Store conn.old conn.new (content_of lists.old) (content_of lists.new)
+        result (λ rest now. HasBars change.now.bounds rest now
+        × KnowsAll unknown.now.history.items unknown.now.deletions.items rest now) }
+{
+    match find_bars(alloc, conn, lists, change.bounds) {
+        Ok(()) => find_unknown(alloc, conn, lists, unknown),
+        Err(fault) => Err(fault),
+    }
+}
+
+// Finds out the deletions that keep a planning statement from making a key once these bounds are set.
+fn find_bars<S: Alter>(
+    alloc: Global,
+    conn: &mut Connection<S>,
+    lists: &mut Content,
+    bounds: Option<Bounds>,
+) -> Result<(), LookupFault>
+    ensures { Gathers S.Store conn.old conn.new (content_of lists.old) (content_of lists.new)
+        result (HasBars bounds) }
+{
+    match bounds {
+        Some(bounds) => find_bars_from(alloc, conn, lists, bounds),
+        None => Ok(()),
+    }
+}
+
+// The same. Where the plan end isn't set back, the lists have them.
+fn find_bars_from<S: Alter>(
+    alloc: Global,
+    conn: &mut Connection<S>,
+    lists: &mut Content,
+    bounds: Bounds,
+) -> Result<(), LookupFault>
+    ensures { Gathers S.Store conn.old conn.new (content_of lists.old) (content_of lists.new)
+        result (HasBars (Some bounds)) }
+{
+    if ends_by(lists.bounds, bounds.plan_end) {
+        return Ok(());
+    }
+    find_barring(alloc, conn, lists, bounds.plan_end)
+}
+
+// Whether there is a plan, and it ends at the moment or before it.
+fn ends_by(bounds: Option<Bounds>, moment: Moment) -> bool
+    ensures { result ≡ ends_by bounds moment }
+{
+    match bounds {
+        Some(bounds) => bounds.plan_end.number() <= moment.number(),
+        None => false,
     }
 }
 

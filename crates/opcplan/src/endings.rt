@@ -1,4 +1,4 @@
-//! How the files of a run were left, as it is told.
+//! How the files of a run were left, as it is reported.
 
 ghost use Rattle.std.specs.Prelude.{◌≡◌, ◌↔◌, false, true};
 ghost use Rattle.file_closing.specs.declared.copying.CopyFault.TheVariants.{Device, Memory};
@@ -65,7 +65,7 @@ pub enum Ending {
 }
 
 /// How the files of a run were left, by what became of FILE, whether it was cut, what became of FILE-wal, and how they
-/// were closed. What holds of several is told of the first.
+/// were closed. Of several that hold, the first counts.
 pub fn ending_by(file: Fate, is_cut: bool, log: Fate, closed: Closed) -> Ending
     ensures ending { result ≡ ending_of file is_cut log closed }
     ensures all { closed ≡ LogCut → has_all result ≡ false }
@@ -94,7 +94,7 @@ fn ending_of_log(log: Fate, closed: Closed) -> Ending
 }
 
 impl Ending {
-    /// Whether what was answered stands in the files, as far as is told.
+    /// Whether the files have what was answered, as far as the looks show.
     pub fn keeps_answers(self) -> bool
         ensures { result ≡ keeps_answers self }
     {
@@ -104,30 +104,30 @@ impl Ending {
         }
     }
 
-    /// What is said of it on standard error, where anything is.
-    pub fn words(self) -> Option<&'static str> {
+    /// The message for standard error, if there is one.
+    pub fn message(self) -> Option<&'static str> {
         match self {
             Ending::Whole => None,
             Ending::TakenAway => Some(
-                "opcplan: FILE was taken away while this ran, and what was answered with it. Put it back where it was moved, else the last backup in its place (./plan restore), and run the whole stream again",
+                "the file was removed while this ran, and with it every answered statement. Move it back if it was moved, or restore the last backup (./plan restore), and run the whole stream again",
             ),
             Ending::Replaced => Some(
-                "opcplan: FILE is no longer the file that was opened: what was answered went into that one, which has lost its place. Run the whole stream again over the one that shall stand",
+                "another file is at this path now. The answered statements are in the file that was opened, which is no longer here. Run the whole stream again over the file that you keep",
             ),
             Ending::ReplacedBesideLog => Some(
-                "opcplan: FILE is no longer the file that was opened: what was answered went into that one, which has lost its place, and into FILE-wal. Take FILE-wal away, and run the whole stream again over the one that shall stand",
+                "another file is at this path now. The answered statements are in the file that was opened, which is no longer here, and in the -wal file. Remove the -wal file, and run the whole stream again over the file that you keep",
             ),
             Ending::Cut => Some(
-                "opcplan: FILE was cut or overwritten while this ran: it may be damaged. Put the last backup in its place (./plan restore), and run the whole stream again",
+                "the file was cut or overwritten while this ran, and may be damaged. Restore the last backup (./plan restore), and run the whole stream again",
             ),
             Ending::OtherLog => Some(
-                "opcplan: FILE-wal is not the log that this run wrote: take it away before the next run. FILE is whole",
+                "the -wal file is not the log that this run wrote. Remove it before the next run. The file itself is whole",
             ),
             Ending::LogStands => Some(
-                "opcplan: memory was refused as FILE was closed: what was written last stands in FILE-wal, and the next run copies it into FILE. Keep both together",
+                "memory was refused while the file was being closed. The last changes are in the -wal file, and the next run copies them into the file. Keep both together",
             ),
             Ending::LogDamaged => Some(
-                "opcplan: the disk failed as FILE was closed, or FILE-wal was cut or taken away: what was written last stands in FILE-wal as far as that is whole. Keep both together, and run the whole stream again",
+                "the disk failed while the file was being closed, or the -wal file was cut or removed. The last changes are in the -wal file, as far as it is whole. Keep both together, and run the whole stream again",
             ),
         }
     }

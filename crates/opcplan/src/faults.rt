@@ -8,20 +8,33 @@ pub const FAILED: u8 = 8;
 /// The fault of memory.
 pub const MEMORY: u8 = 40;
 
-/// Tells a fault before the run, for which no memory is taken, and gives the exit status.
-pub fn tell<R: Print + Eprint>(rt: &R, number: u8) -> u8 {
-    tell_so(rt, number, meaning_before_run(number))
+/// Reports a fault before the run, for which no memory is taken, and returns the exit status.
+pub fn report<R: Print + Eprint>(rt: &R, number: u8) -> u8 {
+    report_reason(rt, number, None, meaning_before_run(number))
 }
 
-/// The same, where standard error says this of it.
-pub fn tell_so<R: Print + Eprint>(rt: &R, number: u8, meaning: &str) -> u8 {
+/// The same of a fault over the file at a path.
+pub fn report_on<R: Print + Eprint>(rt: &R, number: u8, path: &str) -> u8 {
+    report_reason(rt, number, Some(path), meaning_before_run(number))
+}
+
+/// The same, where standard error gives this reason.
+pub fn report_reason<R: Print + Eprint>(
+    rt: &R,
+    number: u8,
+    path: Option<&str>,
+    reason: &str,
+) -> u8 {
     let _ = println!(rt; "fault {number}");
-    let _ = rt.eprintln(meaning);
+    let _ = match path {
+        Some(path) => eprintln!(rt; "opcplan: fault {number}: {path}: {reason}"),
+        None => eprintln!(rt; "opcplan: fault {number}: {reason}"),
+    };
     FAILED
 }
 
 /// Says on standard error what ended a run, if a fault did. Of a store that is not known to be whole it says that the next
-/// statement may stand too. No memory is taken.
+/// statement may be done too. No memory is taken.
 pub fn explain(rt: &impl Eprint, outcome: &Result<Tally, RunFault>, is_whole: bool) {
     if let Err(fault) = outcome {
         let _ = rt.eprintln(if is_whole {
@@ -35,13 +48,12 @@ pub fn explain(rt: &impl Eprint, outcome: &Result<Tally, RunFault>, is_whole: bo
 /// What a fault before the run means.
 fn meaning_before_run(number: u8) -> &'static str {
     match number {
-        MEMORY =>
-            "opcplan: fault 40: memory was refused before the first statement; nothing is changed",
-        41 => "opcplan: fault 41: the disk failed while FILE was opened; nothing is changed",
+        MEMORY => "memory was refused before the first statement. Nothing is changed",
+        41 => "the disk failed while the file was being opened. Nothing is changed",
         50 =>
-            "opcplan: fault 50: FILE holds no plan of this version, and can't get one; it is as it was",
-        51 => "opcplan: fault 51: the tables in FILE are not those of a plan; FILE is as it was",
-        _ => "opcplan: fault 52: the rows in FILE are no sound plan; FILE is as it was",
+            "the file holds no plan of a version that this program knows, and none can be made in it. The file is unchanged",
+        51 => "the tables in the file are not those of a plan. The file is unchanged",
+        _ => "the rows in the file are no sound plan. The file is unchanged",
     }
 }
 
@@ -49,13 +61,13 @@ fn meaning_before_run(number: u8) -> &'static str {
 fn meaning_in_doubt(fault: &RunFault) -> &'static str {
     match fault {
         RunFault::Memory { .. } => {
-            "opcplan: fault 40: memory was refused; what was answered stands, or that and the next statement. Run the whole stream again"
+            "opcplan: fault 40: memory was refused. Every answered statement is done, and the next one may be. Run the whole stream again"
         }
         RunFault::Device {
             part: Part::Reader,
             ..
         } => {
-            "opcplan: fault 41: standard input failed; what was answered stands, or that and the next statement. Run the whole stream again"
+            "opcplan: fault 41: standard input failed. Every answered statement is done, and the next one may be. Run the whole stream again"
         }
         _ => meaning(fault),
     }
@@ -65,17 +77,17 @@ fn meaning_in_doubt(fault: &RunFault) -> &'static str {
 fn meaning(fault: &RunFault) -> &'static str {
     match fault {
         RunFault::Memory { .. } => {
-            "opcplan: fault 40: memory was refused; what was answered stands. Run the whole stream again"
+            "opcplan: fault 40: memory was refused. Every answered statement is done. Run the whole stream again"
         }
         RunFault::Device { part, .. } => match part {
             Part::Store => {
-                "opcplan: fault 41: the plan's disk failed, or an index or row of yours in FILE leaves no room for a row (docs/REFUSALS.md); what was answered stands. Run the whole stream again once that is mended"
+                "opcplan: fault 41: the plan's disk failed, or an index or row of yours in the file leaves no room for a row (docs/rules/REFUSALS.md). Every answered statement is done. Mend the cause, then run the whole stream again"
             }
             Part::Reader => {
-                "opcplan: fault 41: standard input failed; what was answered stands. Run the whole stream again"
+                "opcplan: fault 41: standard input failed. Every answered statement is done. Run the whole stream again"
             }
             Part::Writer => {
-                "opcplan: fault 41: standard output failed or was closed; what was answered stands"
+                "opcplan: fault 41: standard output failed or was closed. Every answered statement is done"
             }
         },
     }

@@ -1,15 +1,15 @@
-//! What a person is told who types a line that is no statement.
+//! The hint for a person who types a line that is no statement.
 
 use std::io::{self, Write};
 
 /// The answer to a line that is no statement.
 const NO_STATEMENT: &[u8] = b"refused 10\n";
 
-/// Where the statements stand.
+/// Which pages have the statements.
 const STATEMENTS: &str =
-    "opcplan: that line is no statement: a word is unknown, missing, doubled or not of its form. opcplan --help lists the statements, docs/STATEMENTS.md has their words";
+    "opcplan: that line is not a statement: a word is unknown, missing, repeated or malformed. opcplan --help lists the statements, docs/rules/STATEMENTS.md explains them";
 
-/// Writes answers, and says behind each to a line that is no statement where the statements stand, if that is asked for.
+/// Writes answers, and after each one to a line that is no statement the hint, if hints are asked for.
 #[derive(Drop)]
 pub struct Hinting<'a, W, E> {
     writer: W,

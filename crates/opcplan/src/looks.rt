@@ -1,4 +1,4 @@
-//! What stands at a name, and what became of it.
+//! What is at a name, and what became of it.
 
 ghost use Rattle.std.specs.Prelude.{◌≡◌, ◌*◌, ◌↔◌, ◌<◌, ◌⊎◌, IsTrue, max};
 ghost use Rattle.opcplan.specs.Looks.{IsFate, IsShorter, LacksPages, page_count, page_size};
@@ -12,25 +12,25 @@ pub struct Inode {
     pub number: u64,
 }
 
-/// What stands at a name.
+/// What is at a name.
 #[derive(Clone, Copy, Debug, PartialEq, Eq)]
 pub enum Look {
     /// A file of so many bytes.
     File(Inode, u64),
     /// Nothing.
     Nothing,
-    /// What the system doesn't tell.
-    Untold,
+    /// What the system doesn't say.
+    Unknown,
 }
 
 /// What became of the file at a name.
 #[derive(Clone, Copy, Debug, PartialEq, Eq)]
 pub enum Fate {
-    /// It stands there, as far as is told.
+    /// It is there, as far as the looks show.
     Same,
-    /// Nothing stands there.
+    /// Nothing is there.
     Gone,
-    /// Another file stands there.
+    /// Another file is there.
     Other,
 }
 

@@ -8,6 +8,7 @@ mod endings;
 mod faults;
 mod hints;
 mod looks;
+mod opener;
 mod over_file;
 mod over_lists;
 mod refusals;
@@ -22,7 +23,7 @@ fn main(rt: HostRuntime) -> ExitCode {
             terminal::greet(&rt, terminal::OVER_LISTS);
             over_lists::answer_over_lists(&rt, terminal::is_typed(&rt))
         }
-        Asked::Told(status) => status,
-        Asked::Memory => faults::tell(&rt, faults::MEMORY),
+        Asked::Answered(status) => status,
+        Asked::Memory => faults::report(&rt, faults::MEMORY),
     })
 }

@@ -1,93 +1,136 @@
 //! The stream over the plans that a file keeps.
 
-use crate::endings::{Closed, Ending};
-use crate::faults::{MEMORY, explain, tell};
-use crate::hints::Hinting;
-use crate::refusals::tell_refusal;
-use crate::terminal::{OVER_FILE, greet, is_typed};
-use crate::watch::{Watch, Watched};
-use crate::words::NamedFile;
-use plan_files::{Begun, Opening, run_over_files};
-use planner_cli::{RunFault, Tally, exit_status};
-use sqlite::Unknown;
-use std::io::{self, BufReader, BufWriter, Read, Write};
+ghost use Rattle.std.specs.Prelude.{◌≡◌, IfErr, IfSome};
 
-/// Says on standard error what a run begins with, where that is not the plan as it was, and how it is left at a terminal.
+use crate::endings::{Closed, Ending};
+use crate::faults::{MEMORY, explain, report_on};
+use crate::hints::Hinting;
+use crate::opener::AtPath;
+use crate::refusals::report_refusal;
+use crate::terminal::{OVER_FILE, announce_large, greet, is_typed};
+use crate::watch::{SeesFiles, Watch, Watched};
+use crate::words::NamedFile;
+use plan_files::{Begun, FileOpener, Opening, Unrun, run_over_files};
+use planner_cli::{RunFault, Tally, exit_status};
+use sqlite::{Error, FileFrom, Leftover, Start, Unknown};
+use std::alloc::Global;
+use std::io::{self, BufRead, BufReader, BufWriter, Write};
+
+/// Says on standard error what a run begins with, if that is not the plan as it was, and how to end it at a terminal.
 #[derive(Drop)]
-struct Told<'a> {
+struct Greeting<'a> {
     rt: &'a HostRuntime,
+    path: &'a str,
 }
 
-impl Opening for Told<'_> {
+impl Opening for Greeting<'_> {
+    ghost reports = { λ old _ new. new ≡ old };
+
     fn opened(&mut self, begun: Begun) {
-        let told = match begun {
+        let message = match begun {
             Begun::AsItWas => None,
             Begun::New => Some(
-                "opcplan: FILE held no plan: a new one was made in it. If it should have had one, look at the name",
+                "the file held no plan, so a new one was made in it. If it should have had one, check the name",
             ),
             Begun::Migrated => Some(
-                "opcplan: FILE's plan was of version 1: its tables are made anew as those of version 2; if you had made an index on one of them, it is gone",
+                "the plan was migrated from schema 1 to schema 2. Indexes that you had made on its tables are gone",
             ),
         };
-        if let Some(told) = told {
-            let _ = self.rt.eprintln(told);
+        if let Some(message) = message {
+            let _ = eprintln!(self.rt; "opcplan: {}: {message}", self.path);
         }
         greet(self.rt, OVER_FILE);
     }
 }
 
 /// Runs the stream on standard input, over the plans that the file keeps, and gives the exit status. A reply is handed
-/// to standard output with its last byte, and a listing some thousand bytes at a time.
+/// to standard output with its last byte, and a listing some thousand bytes at a time. `Unknown` says of the file that it
+/// may hold anything: what is proved for all contents holds of those that it has.
 pub fn answer_over_file(rt: &HostRuntime, file: &NamedFile) -> u8 {
     let alloc = rt.alloc();
     let stream = Watched::new(rt.reader(), Watch::new(rt, &file.path));
     let Ok(mut reader) = BufReader::new(alloc, stream) else {
-        return tell(rt, MEMORY);
+        return report_on(rt, MEMORY, &file.path);
     };
     let answers = Hinting::new(io::writer(rt), rt, is_typed(rt));
     let Ok(mut writer) = BufWriter::new(alloc, answers) else {
-        return tell(rt, MEMORY);
+        return report_on(rt, MEMORY, &file.path);
     };
-    run_over_file(rt, file, &mut reader, &mut writer)
-}
-
-/// Runs the stream of the reader over the plans that the file keeps, and gives the exit status. At the end the log is
-/// copied into the file; where that fails, or somebody else took the file away or changed it, standard error says so, and
-/// the status is the run's. `Unknown` says of the file that it may hold anything: what is proved for all contents holds
-/// of those that it has.
-fn run_over_file<R: Read, W: Write>(
-    rt: &HostRuntime,
-    file: &NamedFile,
-    reader: &mut BufReader<Watched<'_, R>>,
-    writer: &mut W,
-) -> u8 {
-    let mut opening = Told { rt };
-    match run_over_files(
+    announce_large(rt, &file.path);
+    let opener = AtPath {
+        rt,
+        path: &file.path,
+        new_has_sums: file.new_has_sums,
+    };
+    let mut greeting = Greeting {
+        rt,
+        path: &file.path,
+    };
+    match run_over_file(
+        alloc,
         rt,
         &file.path,
-        file.new_has_sums,
+        opener,
         Unknown,
-        &mut opening,
-        reader,
-        writer,
+        &mut greeting,
+        &mut reader,
+        &mut writer,
     ) {
+        Ok(status) => status,
+        Err((fault, left, error)) => report_refusal(rt, file, fault, &left, &error),
+    }
+}
+
+/// Runs the stream of the reader over the plans that a file keeps, and gives the exit status, or why it is not run. At the
+/// end the log is copied into the file; where that fails, or somebody else took the file away or changed it, standard error
+/// says so, and the status is the run's. It has standard error alone, so nothing but what the run writes goes to standard
+/// output.
+fn run_over_file<
+    S: Start,
+    F: FileOpener<S>,
+    O: Opening,
+    E: Eprint,
+    R: BufRead + SeesFiles,
+    W: Write,
+>(
+    alloc: Global,
+    errors: &E,
+    path: &str,
+    opener: F,
+    start: S,
+    opening: &mut O,
+    reader: &mut R,
+    writer: &mut W,
+) -> Result<u8, (Unrun, Option<Leftover<FileFrom<S>>>, Option<Error>)>
+    ensures silent { IfErr result (λ _. writer.new ≡ writer.old) }
+    ensures unread { IfErr result (λ _. reader.new ≡ reader.old) }
+    ensures unreported { IfErr result (λ _. opening.new ≡ opening.old) }
+    ensures asked { IfErr result (λ left. IfSome left.2 (F.refuses opener)) }
+{
+    match run_over_files(alloc, opener, start, opening, reader, writer) {
         Ok(ended) => {
             let closed = match ended.let_go.copied {
                 Ok(()) => Closed::Whole,
                 Err(fault) => Closed::after(fault),
             };
-            let ending = reader.get_ref().watch.ending(closed);
-            tell_ending(rt, ending, &ended.outcome, ended.is_whole);
-            exit_status(&ended.outcome)
+            report_ending(
+                errors,
+                path,
+                reader.ending(closed),
+                &ended.outcome,
+                ended.is_whole,
+            );
+            Ok(exit_status(&ended.outcome))
         }
-        Err((fault, left, error)) => tell_refusal(rt, file, fault, &left, &error),
+        Err(left) => Err(left),
     }
 }
 
-/// Says on standard error what ended a run, if a fault did and what was answered stands, and how the files were left. No
-/// memory is taken.
-fn tell_ending(
+/// Says on standard error what ended a run, if a fault did and the files have what was answered, and how the files were
+/// left. No memory is taken.
+fn report_ending(
     rt: &impl Eprint,
+    path: &str,
     ending: Ending,
     outcome: &Result<Tally, RunFault>,
     is_whole: bool,
@@ -95,7 +138,7 @@ fn tell_ending(
     if ending.keeps_answers() {
         explain(rt, outcome, is_whole);
     }
-    if let Some(words) = ending.words() {
-        let _ = rt.eprintln(words);
+    if let Some(message) = ending.message() {
+        let _ = eprintln!(rt; "opcplan: {path}: {message}");
     }
 }

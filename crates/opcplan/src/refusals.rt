@@ -1,15 +1,15 @@
-//! Why no stream is run over a file, as it is told.
+//! Why no stream is run over a file, as it is reported.
 
-use crate::faults::{tell, tell_so};
+use crate::faults::{report_on, report_reason};
 use crate::words::NamedFile;
 use plan_files::Unrun;
 use plan_migrations::MigrateFault;
 use sqlite::{Error, ErrorCode, File, Leftover};
 use table_opening::OpenFault;
 
-/// Tells why no stream is run over the file, by a fault on standard output and by what it means on standard error, and
-/// gives the exit status.
-pub fn tell_refusal<R: Print + Eprint>(
+/// Reports why no stream is run over the file: the line of the fault on standard output, its reason on standard error.
+/// Returns the exit status.
+pub fn report_refusal<R: Print + Eprint>(
     rt: &R,
     file: &NamedFile,
     fault: Unrun,
@@ -17,12 +17,12 @@ pub fn tell_refusal<R: Print + Eprint>(
     error: &Option<Error>,
 ) -> u8 {
     match reason(file, fault, left, error) {
-        Some(reason) => tell_so(rt, fault.number(), reason),
-        None => tell(rt, fault.number()),
+        Some(reason) => report_reason(rt, fault.number(), Some(&file.path), reason),
+        None => report_on(rt, fault.number(), &file.path),
     }
 }
 
-/// Why, where that is more than the number says.
+/// The reason, if it says more than the number does.
 fn reason(
     file: &NamedFile,
     fault: Unrun,
@@ -35,25 +35,25 @@ fn reason(
             None => None,
         },
         Unrun::Unmigrated(MigrateFault::UnknownVersion) => Some(
-            "opcplan: fault 50: FILE's plan is of a version that this program doesn't know; it is as it was",
+            "the plan is of a schema version that this program doesn't know. The file is unchanged",
         ),
         Unrun::Unmigrated(MigrateFault::Device) => Some(
-            "opcplan: fault 41: the disk failed before the first statement: none was done. FILE's tables of version 1 may be made anew by now. Keep FILE and FILE-wal together, and run again",
+            "the disk failed before the first statement, and no statement was done. The plan may be migrated from schema 1 to schema 2 already. Keep the file and the -wal file beside it together, and run again",
         ),
         Unrun::Unadopted(OpenFault::Memory) => Some(
-            "opcplan: fault 40: memory was refused before the first statement: none was done. FILE may have got tables of a plan by now, or those of version 1 are made anew. Keep FILE and FILE-wal together, and run again",
+            "memory was refused before the first statement, and no statement was done. The file may have the tables of a plan already, or those of schema 1 may be migrated. Keep the file and the -wal file beside it together, and run again",
         ),
         Unrun::Unadopted(OpenFault::Device) => Some(
-            "opcplan: fault 41: the disk failed before the first statement: none was done. FILE may have got tables of a plan by now, or those of version 1 are made anew. Keep FILE and FILE-wal together, and run again",
+            "the disk failed before the first statement, and no statement was done. The file may have the tables of a plan already, or those of schema 1 may be migrated. Keep the file and the -wal file beside it together, and run again",
         ),
         Unrun::Unadopted(OpenFault::Unopened) => Some(
-            "opcplan: fault 50: FILE holds no plan, and can't get one: something in it has a name of a plan's tables, or a table refers to one. It is as it was",
+            "the database holds no plan, and none can be made in it: something in it has the name of a plan's table, or a table refers to one. The file is unchanged",
         ),
         _ => None,
     }
 }
 
-/// Why a file is not opened, where that is more than its fault says.
+/// The reason why a file is not opened, if it says more than the fault does.
 fn open_reason(
     file: &NamedFile,
     left: &Option<Leftover<File>>,
@@ -61,29 +61,29 @@ fn open_reason(
 ) -> Option<&'static str> {
     match error {
         Error::SqliteFailure(ErrorCode::DatabaseBusy) => {
-            Some("opcplan: fault 50: another program has FILE open; it is as it was")
+            Some("another program has the file open. The file is unchanged")
         }
         Error::SqliteFailure(ErrorCode::CannotOpen) => Some(path_reason(file)),
         Error::SqliteFailure(ErrorCode::NotADatabase) => Some(match left {
-            Some(Leftover::Files(_)) => "opcplan: fault 50: FILE is no database; it is as it was",
+            Some(Leftover::Files(_)) => "the file is not a database. It is unchanged",
             _ =>
-                "opcplan: fault 50: FILE is a database with an object that this program can't read, such as a view, trigger or virtual table of yours, or rows that break a rule of their table. Nothing need be damaged: sqlite3 shows them, docs/TABLES.md lists them; take it away. FILE is as it was",
+                "the database has an object that this program can't read: a view, trigger or virtual table of yours, or rows that break a rule of their table. It need not be damaged: sqlite3 shows such objects, and docs/rules/TABLES.md lists them. Remove the object. The file is unchanged",
         }),
         Error::SqliteFailure(ErrorCode::DatabaseCorrupt) => Some(
-            "opcplan: fault 50: a page of FILE is damaged or has a wrong sum, or FILE is in auto_vacuum mode or keeps its texts in UTF-16, which this program can't read; docs/TABLES.md says what to do. FILE is as it was",
+            "a page is damaged or has a wrong sum, or the database uses auto_vacuum or UTF-16, which this program can't read. docs/rules/TABLES.md says what to do. The file is unchanged",
         ),
         _ => None,
     }
 }
 
-/// Why a path is not opened.
+/// The reason why a path is not opened.
 fn path_reason(file: &NamedFile) -> &'static str {
     let path = file.path.as_bytes();
     if path.is_empty() {
-        "opcplan: fault 50: no FILE is named"
+        "--db names no file"
     } else if path == b":memory:".as_slice() || path.starts_with(b"file:".as_slice()) {
-        "opcplan: fault 50: FILE is a path; :memory: and file: are none (./NAME names such a file, and no --db is a plan in memory)"
+        "--db takes a path, not :memory: or file: (./NAME names such a file, and without --db the plan is in memory)"
     } else {
-        "opcplan: fault 50: FILE can't be opened or made: look at its name and folder, whether you may read and write it and its folder, whether it has a second name (a hard link), and whether FILE-journal stands beside it"
+        "the file can't be opened or made. Check its name and its folder, whether you may read and write both, whether the file has a second name (a hard link), and whether a -journal file is beside it"
     }
 }

@@ -8,7 +8,7 @@ ghost use Rattle.opcplan.specs.Endings.{has_all, keeps_answers};
 use crate::endings::{Closed, Ending, ending_by};
 use crate::looks::{Growth, Inode, Look, bytes_of_pages, fate_between, is_shorter, lacks_pages};
 use std::fs::{self, File, Files};
-use std::io::{self, ErrorKind, Read};
+use std::io::{self, BufReader, ErrorKind, Read};
 use std::os::unix::fs::MetadataExt;
 
 /// What was at FILE and FILE-wal when a run began, and whether either was cut since.
@@ -33,8 +33,8 @@ impl<'a> Watch<'a> {
             path,
             log_path: None,
             has_begun: false,
-            file: Look::Untold,
-            log: Look::Untold,
+            file: Look::Unknown,
+            log: Look::Unknown,
             was_cut: false,
             log_file: None,
             log_growth: Growth {
@@ -104,7 +104,7 @@ impl<'a> Watch<'a> {
         let file = look(self.rt, self.path);
         let log = match &self.log_path {
             Some(path) => look(self.rt, path.as_str()),
-            None => Look::Untold,
+            None => Look::Unknown,
         };
         ending_by(
             fate_between(self.file, file),
@@ -150,7 +150,19 @@ impl<R: Read> Read for Watched<'_, R> {
     }
 }
 
-/// What stands at a path, by links too. No memory is taken.
+/// A reader that knows how the files of its run were left.
+pub trait SeesFiles {
+    /// How they were left, by how they were closed. They have to be open still.
+    fn ending(&self, closed: Closed) -> Ending;
+}
+
+impl<R: Read> SeesFiles for BufReader<Watched<'_, R>> {
+    fn ending(&self, closed: Closed) -> Ending {
+        self.get_ref().watch.ending(closed)
+    }
+}
+
+/// What is at a path, also through links. No memory is taken.
 fn look(files: &impl Files, path: &str) -> Look {
     match fs::metadata(files, path) {
         Ok(found) => Look::File(
@@ -162,7 +174,7 @@ fn look(files: &impl Files, path: &str) -> Look {
         ),
         Err(error) => match error.kind() {
             ErrorKind::NotFound | ErrorKind::NotADirectory => Look::Nothing,
-            _ => Look::Untold,
+            _ => Look::Unknown,
         },
     }
 }

@@ -1,5 +1,9 @@
 //! The words that the program is called with.
 
+ghost use Rattle.std.specs.Prelude.{codes};
+ghost use Rattle.clap.specs.Matches.{first_value, found_of, one_text};
+ghost use Rattle.opcplan.specs.Words.{IsNamed};
+
 use crate::faults::FAILED;
 use clap::error::ErrorKind;
 use clap::{Arg, ArgAction, ArgMatches, Command, Error};
@@ -22,12 +26,12 @@ pub enum Asked {
     /// To answer the stream, over this database file or, where none is named, over lists.
     Run(Option<NamedFile>),
     /// Nothing more: help was printed, or what is wrong with the words. This is the exit status.
-    Told(u8),
+    Answered(u8),
     /// Memory was refused before that was known.
     Memory,
 }
 
-/// What `--version` tells: the program's version, that of its plans' tables, and the sum of the sources that it was made
+/// What `--version` prints: the program's version, that of its plans' tables, and the sum of the sources that it was made
 /// of, which tools/release writes over the points.
 const VERSION: &str = "1.0.0
 schema 2
@@ -52,30 +56,32 @@ D: 2024-01-31   M: 2024-01-31/08.00   N: 1 to 999999999, a new one for each job
 K: 1 to 21      C: A, all days, or W, work days
 
 Exit status: 0 all accepted, 4 some refused, 8 a fault or wrong words.
-A file with sums is held to them always: a page with a wrong one is a fault. sqlite3 reads
+A file with sums is always checked: a page with a wrong sum is a fault. sqlite3 reads
 such a file, but what it writes there spoils the sums, and the file is then refused.
-docs/TABLES.md says how sums are taken off and put on.
-The statements stand in docs/STATEMENTS.md, an operator's week in docs/GUIDE.md.";
+docs/rules/TABLES.md says how to remove and add sums.
+docs/rules/STATEMENTS.md explains the statements, docs/use/GUIDE.md an operator's week.";
 
 /// The words that may be given: `--db FILE`, `--sums` beside it, and `--help`.
 fn command<'a>(alloc: Global) -> Result<Command<'a>, AllocError> {
     Command::new(alloc, "opcplan")
         .version(VERSION)
         .about(
-            "Answers the job stream of statements and data blocks on standard input, a reply for each statement",
+            "Reads a job stream of statements and data blocks on standard input, and prints a reply to each statement",
         )
         .after_help(STATEMENTS)
         .arg(
             Arg::new(alloc, "db")
                 .long("db")
                 .value_name("FILE")
-                .help("Goes on with the plans that this database file keeps")
+                .help(
+                    "Keeps the plan in this database file, and continues with the one that it holds",
+                )
                 .action(ArgAction::Set),
         )?
         .arg(
             Arg::new(alloc, "sums")
                 .long("sums")
-                .help("Gives FILE, if it is new, a sum on each page, so that damage is told")
+                .help("Gives FILE, if it is new, a sum on each page, so that damage is noticed")
                 .action(ArgAction::SetTrue)
                 .requires_arg("db")?,
         )
@@ -102,12 +108,15 @@ fn what_is_asked<R: AllocGlobal + Print + Eprint>(rt: &R, words: &[String]) -> A
     };
     match command.try_get_matches_from(words) {
         Ok(matches) => file_named(rt.alloc(), &matches),
-        Err(error) => told(rt, &error),
+        Err(error) => print_answer(rt, &error, words),
     }
 }
 
 /// The file that the words name, if they name one.
-fn file_named(alloc: Global, matches: &ArgMatches<'_>) -> Asked {
+fn file_named(alloc: Global, matches: &ArgMatches<'_>) -> Asked
+    ensures { IsNamed (first_value (found_of matches.now) (codes "db"))
+        (one_text (found_of matches.now) (codes "sums")) result }
+{
     let Some(path) = matches.get_str("db") else {
         return Asked::Run(None);
     };
@@ -119,18 +128,32 @@ fn file_named(alloc: Global, matches: &ArgMatches<'_>) -> Asked {
 }
 
 /// Prints help, or what is wrong with the words.
-fn told<R: Print + Eprint>(rt: &R, error: &Error) -> Asked {
+fn print_answer<R: Print + Eprint>(rt: &R, error: &Error, words: &[String]) -> Asked {
     if error.kind() == ErrorKind::OutOfMemory {
         return Asked::Memory;
     }
     match error.print(rt) {
-        Ok(()) if !error.use_stderr() => Asked::Told(0),
-        _ => Asked::Told(FAILED),
+        Ok(()) if !error.use_stderr() => Asked::Answered(0),
+        _ => {
+            if error.kind() == ErrorKind::UnknownArgument {
+                suggest_db(rt, words);
+            }
+            Asked::Answered(FAILED)
+        }
     }
 }
 
-/// Tells that a word is no text.
+/// Suggests `--db FILE` to who names the file alone. No memory is taken.
+fn suggest_db(rt: &impl Eprint, words: &[String]) {
+    if let Some(path) = words.get(1) {
+        if !path.starts_with('-') {
+            let _ = eprintln!(rt; "opcplan: is a plan in a file meant? opcplan --db {path}");
+        }
+    }
+}
+
+/// Reports that a word is no text.
 fn not_text(rt: &impl Eprint) -> Asked {
     let _ = rt.eprintln("error: a word is not valid UTF-8");
-    Asked::Told(FAILED)
+    Asked::Answered(FAILED)
 }

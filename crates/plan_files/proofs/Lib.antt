@@ -1,4 +1,5 @@
 pub mod LifeLemmas
+pub mod BegunLemmas
 pub mod FileRunLemmas
 pub mod LeftLemmas
 pub mod OverLemmas

@@ -56,7 +56,7 @@ left_since old mid s current db (clean, inr first) =
     ]
 
 -- what tables of schema 1 told, those that were renewed tell
-first_told : (old new : State) (c : Content) → IsRenewed old new → IsToldBy new.now c → IsFirstToldBy old.now c
+pub first_told : (old new : State) (c : Content) → IsRenewed old new → IsToldBy new.now c → IsFirstToldBy old.now c
 first_told old new c renewed told = (
   renewed.renewed.was,
   elim told [

@@ -58,6 +58,7 @@ pub record IsUnmade {D : Type 0} {g : disk.Ghosts D} (conn : Held (FileStore D g
   pub mid : Held (FileStore D g)
   pub back : Held (FileStore D g)
   -- why, by what is there
+  pub opened : (cause : OpenFault) → left.0 ≡ Unopened cause → ⊥
   pub unfit : IsClean (view left.1) → IsUnfit conn mid back left.0
   pub hindered : IsClean (view left.1) → HoldsPlan (file_state conn) → (file_state conn).step_limit ≡ None
       → IsHindered conn mid back left.0
@@ -124,9 +125,11 @@ pub record AreRefused {D : Type 0} {g : disk.Ghosts D} (IsFresh : Bool → D →
 -- no stream is run over the files at a path: there are none; they are refused; or the database that they hold is not that
 -- of a plan, or can't be made one
 pub record IsNotRun {D : Type 0} {g : disk.Ghosts D} (IsFresh : Bool → D → Type 0) (image : Image)
-    (fault : Unrun) (remains : Option (Leftover D g)) (error : Option Error) : Type 0 where
-  -- where `sqlite` told an error, the fault is that of it
-  pub told : IfSome error (λ e. fault ≡ Unopened (unopened_for e))
+    (Refuses : Error → Type 0) (fault : Unrun) (remains : Option (Leftover D g)) (error : Option Error) : Type 0 where
+  -- an error is what `sqlite` reported as the files were opened, and the fault is the one for it
+  pub told : IfSome error (λ e. (fault ≡ Unopened (unopened_for e)) × Refuses e)
+  -- and no files are said to be unopened without one
+  pub asked : (cause : OpenFault) → fault ≡ Unopened cause → IsSome error
   -- and it told one where nothing is left
   pub none : remains ≡ None → IsSome error × ((fault ≡ Unopened open_fault.Memory) ⊎ (fault ≡ Unopened open_fault.Unopened))
   pub some : IfSome remains (λ rest. AreRefused IsFresh image fault rest

@@ -3,12 +3,16 @@
 
 mod life;
 mod next;
+mod openers;
+mod openings;
 mod over_files;
 mod refusals;
 mod running;
 
 pub use life::{file_life, plan_life};
 pub use next::{hands_on, next_run};
-pub use over_files::{Begun, Opening, run_over_connection, run_over_files};
+pub use openers::FileOpener;
+pub use openings::{Begun, Opening};
+pub use over_files::{run_over_connection, run_over_files};
 pub use refusals::Unrun;
 pub use running::Ended;

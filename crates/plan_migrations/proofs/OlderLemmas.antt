@@ -1,5 +1,5 @@
 -- What a plan of an older version becomes.
-use Rattle.std.proofs.Common.{◌≡◌, ◌∙◌, ◌≤◌, arith, inl, inr, subst, ℕ}
+use Rattle.std.proofs.Common.{◌≡◌, ◌⊎◌, ◌∙◌, ◌≤◌, ap, arith, inl, inr, subst, sym, ℕ}
 use Rattle.std.specs.Prelude.{Option, Some, None, Ok}
 use Rattle.sqlite.specs.Effect.{Database}
 use Rattle.sqlite.specs.State.{HasCleanDisk, IsUnchanged, State, Survives}
@@ -10,7 +10,7 @@ use Rattle.table_opening.specs.Foreign.{RefusesVersion, version_sql}
 use Rattle.table_opening.proofs.ForeignLemmas.{version_reads}
 use Rattle.table_opening.proofs.QueryLemmas.{refused_same}
 use Rattle.plan_migrations.specs.Migrating.{IsMigrated, IsUnmigrated, MayRenew, RenewsFrom}
-use Rattle.plan_migrations.specs.Older.{IsCurrent}
+use Rattle.plan_migrations.specs.Older.{IsCurrent, IsFoundAs}
 use Rattle.plan_migrations.specs.Schemas.{IsKnownVersion, IsOfVersion, ShowsVersion, TellsVersion}
 use Rattle.plan_migrations.specs.declared.faults.MigrateFault.{MigrateFault}
 use Rattle.plan_migrations.specs.declared.faults.MigrateFault.TheVariants.{UnknownVersion, OtherTable, Rows, Memory, Device}
@@ -46,6 +46,25 @@ current_if_known a b found v is other h =
       current = inl (inr (subst (λ n. ShowsVersion n a b) current known.1), same.0.now_is);
     }
 
+-- a database that was asked for its version alone is as it was
+pub found_if_told : (a b : State) (found : Option ℕ) (r : Option ℕ) → found ≡ r → (r ≡ Some FIRST_VERSION → ⊥)
+    → TellsVersion a b (Ok found) → IsFoundAs r a b
+found_if_told a b found r is other h =
+    record { first = λ one. absurd (other one); other = λ _. (same_if_told a b found h).0.now_is }
+
+pub some_is : {x y : ℕ} → Some x ≡ Some y → x ≡ y
+some_is is = cc
+
+pub none_is_some : (x : ℕ) → None ≡ Some x → ⊥
+none_is_some x is = absurd (cc)
+
+never_zero : (v : ℕ) → v ≡ 0 → IsKnownVersion v → ⊥
+never_zero v zero (inl one) = omega (arith, zero, one)
+never_zero v zero (inr two) = omega (arith, zero, two)
+
+never_first : SCHEMA_VERSION ≡ FIRST_VERSION → ⊥
+never_first is = omega (arith, is)
+
 module _ (a b c : State) (same : IsUnchanged a b) (more : a.faults ≤ b.faults) (limit : b.step_limit ≡ a.step_limit) where
   pub current_since : (found left : ℕ) → IsMigrated b c found left → IsCurrent a c
   current_since found left (inl none) =
@@ -65,6 +84,41 @@ module _ (a b c : State) (same : IsUnchanged a b) (more : a.faults ≤ b.faults)
       }
   current_since found left (inr (inr first)) =
       record { is_open = first.2.is_open; current = inr (renewed_since a b c same first.2) }
+
+  -- the version that a migration found is told, as it was or as it is now
+  pub found_told : (found left : ℕ) (r : Option ℕ) → IsMigrated b c found left → (found ≡ 0 → r ≡ None)
+      → ((found ≡ 0 → ⊥) → r ≡ Some found) → TellsVersion a b (Ok (Some FIRST_VERSION))
+      → TellsVersion a b (Ok r) ⊎ TellsVersion a c (Ok r)
+  found_told found left r (inl none) is-none is-some was =
+      inr (subst (λ (o : Option ℕ). TellsVersion a c (Ok o)) (sym (is-none none.0))
+      (refused_since version_sql version_reads a b c same more limit none.2))
+  found_told found left r (inr (inl known)) is-none is-some was =
+      let is : r ≡ Some found = is-some (λ zero. never_zero found zero (inr known.0)) in
+      inr (subst (λ (o : Option ℕ). TellsVersion a c (Ok o)) (sym is) (
+        inr known.0,
+        subst (λ v. ShowsVersion v a c) (sym known.0) (version_since a b c SCHEMA_VERSION same known.2),
+      ))
+  found_told found left r (inr (inr first)) is-none is-some was =
+      let is : r ≡ Some found = is-some (λ zero. never_zero found zero (inl first.0)) in
+      inl (subst (λ (o : Option ℕ). TellsVersion a b (Ok o)) (sym (is ∙ ap Some first.0)) was)
+
+  -- and it says what became of the tables
+  pub found_since : (found left : ℕ) (r : Option ℕ) → IsMigrated b c found left → (found ≡ 0 → r ≡ None)
+      → ((found ≡ 0 → ⊥) → r ≡ Some found) → IsFoundAs r a c
+  found_since found left r (inl none) is-none is-some =
+      let is : r ≡ None = is-none none.0 in
+      let up = (same_if_refused b c none.2).0.is_open in
+      record { first = λ one. absurd (none_is_some FIRST_VERSION (sym is ∙ one)); other = λ _. none.3.now up ∙ same.0.now_is }
+  found_since found left r (inr (inl known)) is-none is-some =
+      let is : r ≡ Some found = is-some (λ zero. never_zero found zero (inr known.0)) in
+      let up = (same_if_version b c _ known.2).0.is_open in
+      record {
+        first = λ one. absurd (never_first (some_is (sym (ap Some known.0) ∙ sym is ∙ one)));
+        other = λ _. known.4.now up ∙ same.0.now_is;
+      }
+  found_since found left r (inr (inr first)) is-none is-some =
+      let is : r ≡ Some found = is-some (λ zero. never_zero found zero (inl first.0)) in
+      record { first = λ _. renewed_since a b c same first.2; other = λ other. absurd (other (is ∙ ap Some first.0)) }
 
   version_was : (v : ℕ) → IsOfVersion v b → IsOfVersion v a
   version_was v h = (h.0, answer_since a b version_sql h.0 same h.1, h.2)

@@ -1,6 +1,6 @@
 // A plan of an older version is migrated before it is adopted.
 
-ghost use Rattle.std.specs.Prelude.{◌≡◌, false, IfErr, IfOk, None, Ok, OnErr, OnOk};
+ghost use Rattle.std.specs.Prelude.{◌≡◌, false, IfErr, IfOk, None, Ok, OnErr, OnOk, Some};
 ghost use Rattle.sqlite.specs.State.{HasCleanDisk, Survives};
 ghost use Rattle.sqlite.specs.Held.{state};
 ghost use Rattle.table_opening.specs.Foreign.{version_sql};
@@ -8,7 +8,7 @@ ghost use Rattle.table_opening.specs.Held.{HoldsPlan};
 ghost use Rattle.table_opening.specs.Kept.{IsKept};
 ghost use Rattle.plan_migrations.specs.Asking.{IsFailure};
 ghost use Rattle.plan_migrations.specs.Migrating.{IsUnmigrated, MayRenew};
-ghost use Rattle.plan_migrations.specs.Older.{IsCurrent};
+ghost use Rattle.plan_migrations.specs.Older.{IsCurrent, IsFoundAs};
 ghost use Rattle.plan_migrations.specs.Schemas.{TellsVersion};
 
 use crate::faults::MigrateFault;
@@ -16,6 +16,14 @@ use crate::migrating::migrate;
 use crate::versions::{FIRST_VERSION, version};
 use sqlite::{Alter, Connection};
 use std::alloc::Global;
+
+// The version that was found, or none where there are no tables.
+fn version_of(found: u32) -> Option<u32>
+    ensures none { found ≡ 0 → result ≡ None }
+    ensures some { (found ≡ 0 → ⊥) → result ≡ Some found }
+{
+    if found == 0 { None } else { Some(found) }
+}
 
 /// Migrates a plan of an older version. One of the current version stays as it is, and so does a database without
 /// tables: its tables are looked at where it is adopted, so they are not read twice. Answers the version that it found;
@@ -29,6 +37,8 @@ pub fn migrate_older<S: Alter>(
         → OnOk result (IsCurrent (state S.Store conn.old) (state S.Store conn.new)) }
     ensures told { HasCleanDisk (state S.Store conn.new) → IfOk result (λ found. (mid : _)
         × TellsVersion (state S.Store conn.old) (state S.Store mid) (Ok found)) }
+    ensures found { HasCleanDisk (state S.Store conn.new) → IfOk result (λ found.
+        IsFoundAs found (state S.Store conn.old) (state S.Store conn.new)) }
     ensures unmigrated { HasCleanDisk (state S.Store conn.new)
         → IfErr result (IsUnmigrated (state S.Store conn.old) (state S.Store conn.new)) }
     ensures common { HasCleanDisk (state S.Store conn.new) → HoldsPlan (state S.Store conn.old)
@@ -43,7 +53,7 @@ pub fn migrate_older<S: Alter>(
     match version(conn) {
         Ok(Some(found)) => if found == FIRST_VERSION {
             match migrate(alloc, conn) {
-                Ok(_) => Ok(Some(found)),
+                Ok((found, _)) => Ok(version_of(found)),
                 Err(fault) => Err(fault),
             }
         } else {

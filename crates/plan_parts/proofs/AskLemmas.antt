@@ -1,7 +1,10 @@
 -- What is asked of history, as a list that is made step by step.
 use Rattle.std.proofs.Common.{◌≡◌, ◌↔◌, ◌⊎◌, ℕ, ◌+◌, List, [], ◌∷◌, ◌++◌, arith, inl, inr, refl, sym, ap, subst, ◌∙◌}
-use Rattle.std.proofs.Common.{Err, Global, IfOk, None, Ok, Option, Result, Some, Vec}
+use Rattle.std.proofs.Common.{Err, Global, IfOk, None, Ok, Option, Ordering, Result, Some, Vec}
 use Rattle.std.specs.FinMap as map
+use Rattle.std.specs.FinMap.{IsAntisymmetric, nat_cmp-IsAntisymmetric, slice_cmp-IsAntisymmetric}
+use Rattle.std.specs.Cmp.Lexicographic.{slice_cmp}
+use Rattle.std.specs.Ordering.{nat_cmp, ordering_then}
 use Rattle.std.specs.List.{Contains}
 use Rattle.std.proofs.lemmas.List.Elements.{Contains-append_left, Contains-push, Contains-push_cases}
 use Rattle.app_definitions.specs.declared.definitions.Definitions.{Definitions}
@@ -13,6 +16,7 @@ use Rattle.occurrences.specs.declared.place.CurrentRow.{CurrentRow}
 use Rattle.occurrences.specs.declared.status.Status.TheVariants.{W}
 use Rattle.external_dependencies.specs.Link.{Lists}
 use Rattle.external_dependencies.specs.declared.links.Link.{Link}
+use Rattle.external_dependencies.proofs.OrderLemmas.{then_equal}
 use Rattle.planner_machine.specs.Content.{Content}
 use Rattle.planner_machine.specs.declared.content.Bounds.{Bounds}
 use Rattle.keyed_lists.specs.Rows.{AreRows, look_up, of_current}
@@ -23,6 +27,18 @@ use Rattle.plan_store.specs.Noted.{AskedByOne, AsksEach, AsksEnd, AsksRow, IsAsk
 use Rattle.plan_store.specs.Views.{current_serial}
 use Rattle.plan_parts.specs.Asks.{AddsAsks, IsAskedIn}
 use Rattle.plan_parts.specs.declared.asks.Ask.{Ask}
+
+-- by application, then by moment
+abbrev pub ask_cmp : Ask → Ask → Ordering
+ask_cmp a b = ordering_then (slice_cmp nat_cmp a.app b.app) (nat_cmp a.moment b.moment)
+
+-- only equal asks compare as equal
+pub ask_ties : IsAntisymmetric ask_cmp
+ask_ties a b is =
+    let both = then_equal (slice_cmp nat_cmp a.app b.app) (nat_cmp a.moment b.moment) is in
+    let app : a.app ≡ b.app = slice_cmp-IsAntisymmetric nat_cmp-IsAntisymmetric a.app b.app both.0 in
+    let moment : a.moment ≡ b.moment = nat_cmp-IsAntisymmetric a.moment b.moment both.1 in
+    λ i. record { app = app i; moment = moment i }
 
 -- what an entry of the lists that are defined asks for
 abbrev pub AsksEntry : ℕ → List ℕ × List Predecessor → List ℕ → ℕ → Type 0

@@ -1,5 +1,5 @@
 -- What a change makes of lists that have a part of history and of the deletions, by what it makes of the whole.
-use Rattle.std.proofs.Common.{◌≡◌, ◌⊎◌, ◌∙◌, ℕ, Bool, false, true, None, Option, Some, ap, inl, inr, refl, sym}
+use Rattle.std.proofs.Common.{◌≡◌, ◌⊎◌, ◌∙◌, ℕ, Bool, false, true, None, Option, Some, ap, inl, inr, refl, subst, sym}
 use Rattle.std.specs.Prelude.{◌||◌, if◌then◌else◌, is_some}
 use Rattle.std.specs.List.{Contains}
 use Rattle.std.proofs.lemmas.Bool.{false≢true}
@@ -11,7 +11,7 @@ use Rattle.planner_machine.specs.declared.job.Job.{Job}
 use Rattle.keyed_lists.specs.Rows.{look_up, of_current, of_deletion, of_row}
 use Rattle.keyed_lists.proofs.LookLemmas.{look_some}
 use Rattle.plan_store.specs.Changes.{Fits, FitsSet, after, moved_set}
-use Rattle.plan_store.specs.Parts.{IsPartOf, Knows, Rest, is_planned, rest_of, with_rest}
+use Rattle.plan_store.specs.Parts.{HasBars, IsPartOf, Knows, Rest, is_planned, rest_of, with_rest}
 use Rattle.plan_store.specs.Room.{no_jobs}
 use Rattle.plan_store.specs.declared.changes.Change.{Change}
 use Rattle.plan_store.specs.declared.changes.Moves.{Moves}
@@ -29,6 +29,16 @@ module _ {X : Type 0} where
   step_part None (Some p) goes part whole of x is = is
   step_part None None true part whole of x is = is
   step_part None None false part whole of x is = of x is
+
+  -- what a part has of the whole it has after moves too
+  step_has : (put changed : Option X) (goes : Bool) (part whole : Option X) (x : X)
+      → (whole ≡ Some x → part ≡ Some x)
+      → or_else put (or_else changed (if goes then None else whole)) ≡ Some x
+      → or_else put (or_else changed (if goes then None else part)) ≡ Some x
+  step_has (Some p) changed goes part whole x has is = is
+  step_has None (Some p) goes part whole x has is = is
+  step_has None None true part whole x has is = is
+  step_has None None false part whole x has is = has is
 
   -- where something stands after moves, it was put or changed, or stood there
   step_from : (put changed : Option X) (goes : Bool) (old : Option X)
@@ -49,6 +59,12 @@ module _ {X : Type 0} (row_of : X → Row) (moves : Moves X) where
   moved_part part whole of serial x is = step_part (look_up serial_of moves.put.items serial)
       (look_up serial_of moves.changed.items serial) (is_some (look_up serial_of moves.gone.items serial))
       (part serial) (whole serial) (of serial) x is
+
+  moved_has : (part whole : ℕ → Option X) (serial : ℕ) (x : X) → (whole serial ≡ Some x → part serial ≡ Some x)
+      → moved_set row_of moves whole serial ≡ Some x → moved_set row_of moves part serial ≡ Some x
+  moved_has part whole serial x has is = step_has (look_up serial_of moves.put.items serial)
+      (look_up serial_of moves.changed.items serial) (is_some (look_up serial_of moves.gone.items serial))
+      (part serial) (whole serial) x has is
 
   moved_known : (part whole : ℕ → Option X) (serial : ℕ) → part serial ≡ whole serial
       → moved_set row_of moves part serial ≡ moved_set row_of moves whole serial
@@ -124,6 +140,13 @@ module _ (rest : Rest) (c : Content) (change : Change) (part : IsPartOf rest c) 
       or_later true is = refl
       or_later false is = is
 
+  -- what keeps keys from being made after the change is there before it, if it stood there
+  bars_before : HasBars (or_else change.bounds c.sets.bounds) rest c
+  bars_before = elim change.bounds as (λ o. change.bounds ≡ o → HasBars (or_else o c.sets.bounds) rest c) [
+    | None ↦ λ _. part.bars
+    | Some b ↦ λ is. subst (λ o. HasBars o rest c) is knows.bars
+  ] refl
+
   -- what was known stays known
   pub change_knows : (job : Option Job) (serial : ℕ) → Knows rest c serial
       → Knows (rest_of (after change (with_rest rest c))) (after (record change { job = job }) c) serial
@@ -140,6 +163,8 @@ module _ (rest : Rest) (c : Content) (change : Change) (part : IsPartOf rest c) 
           | inl new ↦ knows.added pair new
           | inr old ↦ planned_before pair old.0 planned
         ]);
+    bars = λ serial deletion is barred. moved_has of_deletion change.deletions c.sets.deletions rest.deletions serial
+        deletion (λ stood. bars_before serial deletion stood barred) is;
   }
 
 -- and with the rest they are what it makes of the whole

@@ -31,6 +31,8 @@ module _ (rest : Rest) (c : Content) where
         (λ (h : IsPartOf rest c). h.deletions serial deletion stands);
     named = λ pair there planned. ∥∥₁_elim part (row_found_set _ _)
         (λ (h : IsPartOf rest c). h.named pair there planned);
+    bars = λ serial deletion stands barred. ∥∥₁_elim part (deletion_found_set _ _)
+        (λ (h : IsPartOf rest c). h.bars serial deletion stands barred);
   }
 
   pub live_known_is : (key : Key) → ∥ KnowsLive rest key c ∥₁ → KnowsLive rest key c
@@ -50,6 +52,8 @@ module _ (rest : Rest) (c : Content) where
         (λ (h : KnowsNamed rest change c). h.ltp row there pair has of);
     cp = λ current there pair has of. ∥∥₁_elim knows (row_found_set _ _)
         (λ (h : KnowsNamed rest change c). h.cp current there pair has of);
+    bars = λ serial deletion stands barred. ∥∥₁_elim knows (deletion_found_set _ _)
+        (λ (h : KnowsNamed rest change c). h.bars serial deletion stands barred);
   }
 
 -- ---- what is known without a look
@@ -153,6 +157,7 @@ module _ (rest : Rest) (c : Content) (row : Row) (stands : rest.history row.seri
     history = brought_part c.sets.history rest.history row.serial row stands part.history;
     deletions = part.deletions;
     named = λ pair there planned. completed_knows pair.predecessor (part.named pair there planned);
+    bars = part.bars;
   }
 
   pub completed_has : IsPartOf rest c → (with_completed row c).sets.history row.serial ≡ Some row
@@ -168,6 +173,8 @@ module _ (rest : Rest) (c : Content) (deletion : Deletion)
     history = part.history;
     deletions = brought_part c.sets.deletions rest.deletions deletion.row.serial deletion stands part.deletions;
     named = part.named;
+    bars = λ serial other at barred. stood_still c.sets.deletions deletion.row.serial deletion serial other
+        (part.bars serial other at barred);
   }
 
   pub deleted_has : IsPartOf rest c → (with_deleted deletion c).sets.deletions deletion.row.serial ≡ Some deletion

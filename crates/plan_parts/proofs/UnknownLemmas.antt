@@ -13,7 +13,7 @@ use Rattle.planner_machine.specs.Sound.{IsSound}
 use Rattle.keyed_lists.specs.Rows.{of_current, of_row}
 use Rattle.keyed_lists.proofs.KeyLemmas.{nothing}
 use Rattle.plan_store.specs.Asked.{AsksKey}
-use Rattle.plan_store.specs.Parts.{IsPartOf, Knows, KnowsDeletion, Rest, is_planned, with_rest}
+use Rattle.plan_store.specs.Parts.{HasBars, IsPartOf, Knows, KnowsDeletion, Rest, is_planned, with_rest}
 use Rattle.plan_store.specs.declared.changes.Change.{Change}
 use Rattle.plan_parts.specs.Changes.{KnowsNamed, KnowsPairsOf}
 use Rattle.plan_parts.specs.Unknown.{AddsUnsettled, FindsOut, HasMore, IsNamed, IsNamedDeletion, IsPredecessorIn}
@@ -212,8 +212,9 @@ module _ (rest : Rest) (c more : Content) (has : HasMore rest c more) (part : Is
 module _ (c : Content) (change : Change) (history deletions : List ℕ)
     (in_history : AddsUnsettled (is_settled c.sets) (IsNamed change c) [] history)
     (in_deletions : AddsUnsettled (is_settled_deletion c.sets) (IsNamedDeletion change) [] deletions) where
-  pub finds_named : FindsOut c history deletions (λ rest more. KnowsNamed rest change more)
-  finds_named rest more has mere sound knows knows_deletions =
+  pub finds_named : FindsOut c history deletions
+      (λ rest more. HasBars change.bounds rest more → KnowsNamed rest change more)
+  finds_named rest more has mere sound knows knows_deletions bars =
       let part = part_is rest more mere in
       let known = named_known rest c more has part sound history knows (IsNamed change c) in_history in
       record {
@@ -228,6 +229,7 @@ module _ (c : Content) (change : Change) (history deletions : List ℕ)
             (λ serial named. known serial (inr (inr (inr (inl named)))));
         cp = new_pairs rest c more has part sound history knows of_current change.cp.put.items
             (λ serial named. known serial (inr (inr (inr (inr named)))));
+        bars = bars;
       }
     where
       known_deletion : (rest : Rest) (more : Content) → HasMore rest c more → IsPartOf rest more

@@ -267,7 +267,7 @@ module _ (view : View) (rest : Rest) (c : Content) (sizes : TellsSizes c.sets vi
     plan_is = shows.is ∙ (λ i. with_these (record {
       history = (shown view).sets.history;
       deletions = λ serial. barring_same (bars c.sets.bounds) (c.sets.deletions serial) (rest.deletions serial)
-          (part.deletions serial) (ready.1 serial) i;
+          (part.deletions serial) (part.bars serial) i;
       pairs = pairs_of_plan rest c i;
       jobs = λ _. None;
     }) c)
@@ -279,7 +279,7 @@ module _ (view : View) (rest : Rest) (c : Content) (sizes : TellsSizes c.sets vi
     plan_of_whole : Shows need.LongTerm view (with_rest rest c)
     plan_of_whole = record {
       is = plan_is;
-      lasts = lasts_of_whole rest.history c.sets.history part.history (AsksPlan c) (shown view).sets.history ready.0
+      lasts = lasts_of_whole rest.history c.sets.history part.history (AsksPlan c) (shown view).sets.history ready
           shows.lasts;
       predecessors = λ pair there. shows.predecessors pair there ∙ plan_known pair there;
       live = λ _ _ serial row _ same. no_some row.key same;

@@ -1,6 +1,7 @@
 -- What is asked of history, as a list: of an application the last row at a moment or before it, which is before the next
 -- minute.
-use Rattle.std.specs.Prelude.{◌≡◌, ◌⊎◌, ◌+◌, ℕ, Contains, List}
+use Rattle.std.specs.Prelude.{◌≡◌, ◌≢◌, ◌⊎◌, ◌+◌, ℕ, Contains, List}
+use Rattle.std.specs.List.{AllPairs}
 use Rattle.plan_parts.specs.declared.asks.Ask.{Ask}
 
 -- one of these asks for the last row of the application before the minute
@@ -12,3 +13,7 @@ pub record AddsAsks (Asked : List ℕ → ℕ → Type 0) (old new : List Ask) :
   pub stay : (ask : Ask) → Contains old ask → Contains new ask
   pub come : (ask : Ask) → Contains new ask → Contains old ask ⊎ Asked ask.app (ask.moment + 1)
   pub found : (app : List ℕ) (minute : ℕ) → Asked app minute → IsAskedIn new app minute
+
+-- none of them stands there twice
+abbrev pub AreDistinct : {X : Type 0} → List X → Type 0
+AreDistinct xs = AllPairs (λ x y. x ≢ y) xs

@@ -5,7 +5,7 @@ use Rattle.occurrences.specs.declared.place.Deletion.{Deletion}
 use Rattle.occurrences.specs.declared.row.Row.{Row}
 use Rattle.external_dependencies.specs.declared.pairs.Pair.{Pair}
 use Rattle.planner_machine.specs.Content.{Content}
-use Rattle.plan_store.specs.Parts.{Knows, KnowsDeletion, Rest}
+use Rattle.plan_store.specs.Parts.{HasBars, Knows, KnowsDeletion, Rest}
 use Rattle.plan_store.specs.declared.changes.Change.{Change}
 
 -- they know each row of history that is named
@@ -23,7 +23,8 @@ KnowsPairsOf rest c serial = (pair : Pair) → Contains c.pairs pair → pair.su
     → Knows rest c pair.predecessor
 
 -- they know what the change names of history and of the deletions: what goes or changes there, the predecessors of the
--- pairs that come, and those of each row that comes into a plan
+-- pairs that come, and those of each row that comes into a plan; and where it sets a plan end, the deletions that keep a
+-- planning statement from making a key from then on
 pub record KnowsNamed (rest : Rest) (change : Change) (c : Content) : Type 0 where
   pub gone : KnowsRows rest c change.history.gone.items
   pub changed : KnowsRows rest c change.history.changed.items
@@ -32,3 +33,4 @@ pub record KnowsNamed (rest : Rest) (change : Change) (c : Content) : Type 0 whe
   pub added : (pair : Pair) → Contains change.pairs.added pair → Knows rest c pair.predecessor
   pub ltp : (row : Row) → Contains change.ltp.put.items row → KnowsPairsOf rest c row.serial
   pub cp : (current : CurrentRow) → Contains change.cp.put.items current → KnowsPairsOf rest c current.row.serial
+  pub bars : HasBars change.bounds rest c

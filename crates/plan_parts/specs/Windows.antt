@@ -1,12 +1,10 @@
 -- What lists that have a part of history need before a window of them is lent, so that it is one of the whole.
-use Rattle.std.specs.Prelude.{◌≡◌, ℕ, true, List, Some}
+use Rattle.std.specs.Prelude.{◌≡◌, ℕ, List, Some}
 use Rattle.occurrences.specs.declared.key.Key.{Key}
-use Rattle.occurrences.specs.declared.place.Deletion.{Deletion}
 use Rattle.occurrences.specs.declared.row.Row.{Row}
 use Rattle.planner_machine.specs.Content.{Content}
 use Rattle.plan_store.specs.Asked.{AsksKey, AsksPlan, HasLast}
 use Rattle.plan_store.specs.Parts.{Rest}
-use Rattle.plan_store.specs.Views.{bars}
 use Rattle.plan_store.specs.declared.stores.Need.{Need}
 use Rattle.plan_store.specs.declared.stores.Need.TheVariants as need
 use Rattle.plan_parts.specs.Changes.{KnowsPairsOf}
@@ -21,14 +19,9 @@ abbrev pub KnowsLive : Rest → Key → Content → Type 0
 KnowsLive rest key c = (serial : ℕ) (row : Row) → rest.history serial ≡ Some row → row.key ≡ key
     → KnowsPairsOf rest c serial
 
--- they have each deletion that keeps a planning statement from making its key
-abbrev pub HasBars : Rest → Content → Type 0
-HasBars rest c = (serial : ℕ) (deletion : Deletion) → rest.deletions serial ≡ Some deletion
-    → bars c.sets.bounds deletion ≡ true → c.sets.deletions serial ≡ Some deletion
-
--- they have what a window for the need asks of history and of the deletions
+-- they have what a window for the need asks of history; the deletions that it shows they always have
 abbrev pub IsReadyFor : Rest → Need → Content → Type 0
 IsReadyFor rest need.Definitions c = Unit {0}
 IsReadyFor rest (need.Key key) c = HasLastsOf (AsksKey c key) rest c × KnowsLive rest key c
-IsReadyFor rest need.LongTerm c = HasLastsOf (AsksPlan c) rest c × HasBars rest c
+IsReadyFor rest need.LongTerm c = HasLastsOf (AsksPlan c) rest c
 IsReadyFor rest (need.Daily t) c = Unit {0}

@@ -1,10 +1,11 @@
 // What a window asks of history, as a list.
 
 ghost use Rattle.std.specs.Prelude.{[], ◌≡◌, ◌↔◌, ◌+◌, ℕ, Contains, IfOk, List, OnOk};
+ghost use Rattle.std.specs.FinMap.{IsAntisymmetric};
 ghost use Rattle.definition_records.specs.declared.predecessors.Predecessor.{Predecessor as PredecessorValue};
 ghost use Rattle.external_dependencies.specs.Link.{Lists};
 ghost use Rattle.external_dependencies.specs.declared.links.Link.{Link as LinkValue};
-ghost use Rattle.plan_parts.specs.Asks.{AddsAsks, IsAskedIn};
+ghost use Rattle.plan_parts.specs.Asks.{AddsAsks, AreDistinct, IsAskedIn};
 ghost use Rattle.plan_parts.specs.declared.asks.Ask.{Ask as AskValue};
 ghost use Rattle.plan_store.specs.Asked.{AsksKey, AsksPlan, ListsDefined};
 ghost use Rattle.plan_store.specs.Contents.{content_of};
@@ -28,12 +29,13 @@ pub struct Ask {
     pub moment: u32,
 }
 
-/// What a window for the need asks of history.
+/// What a window for the need asks of history, each once.
 pub fn asks_of(alloc: Global, lists: &Content, need: &Need) -> Result<Vec<Ask>, AllocError>
     ensures found { IfOk result (λ asks. (app : List ℕ) (minute : ℕ)
         → Asks need.now (content_of lists.now) app minute → IsAskedIn asks.items app minute) }
     ensures only { IfOk result (λ asks. (ask : AskValue) → Contains asks.items ask
         → Asks need.now (content_of lists.now) ask.app (ask.moment + 1)) }
+    ensures apart { IfOk result (λ asks. AreDistinct asks.items) }
 {
     match need {
         Need::Key(key) => asks_of_key(alloc, lists, key),
@@ -44,18 +46,22 @@ pub fn asks_of(alloc: Global, lists: &Content, need: &Need) -> Result<Vec<Ask>, 
 
 // What a statement on the key asks.
 fn asks_of_key(alloc: Global, lists: &Content, key: &Key) -> Result<Vec<Ask>, AllocError>
-    ensures { IfOk result (λ asks. AddsAsks (AsksKey (content_of lists.now) key.now) [] asks.items) }
+    ensures adds { IfOk result (λ asks.
+        AddsAsks (AsksKey (content_of lists.now) key.now) [] asks.items) }
+    ensures apart { IfOk result (λ asks. AreDistinct asks.items) }
 {
     let mut asks = Vec::new(alloc);
     let moment = key.ia.number();
     add_ask(&mut asks, &key.app, moment)?;
     add_list(&mut asks, &lists.in_force, &key.app, moment)?;
+    put_in_order(&mut asks);
     Ok(asks)
 }
 
 // What a statement on the long-term plan asks.
 fn asks_of_plan(alloc: Global, lists: &Content) -> Result<Vec<Ask>, AllocError>
-    ensures { IfOk result (λ asks. AddsAsks (AsksPlan (content_of lists.now)) [] asks.items) }
+    ensures adds { IfOk result (λ asks. AddsAsks (AsksPlan (content_of lists.now)) [] asks.items) }
+    ensures apart { IfOk result (λ asks. AreDistinct asks.items) }
 {
     let mut asks = Vec::new(alloc);
     add_waiting(&mut asks, &lists.in_force, &lists.definitions, &lists.cp)?;
@@ -177,10 +183,12 @@ fn add_plan_end(
     Ok(())
 }
 
-// Puts what is asked in order, each once.
-fn put_in_order(asks: &mut Vec<Ask>)
-    ensures { (ask : AskValue) → Contains asks.new.items ask ↔ Contains asks.old.items ask }
+// Puts the items in order, each once.
+fn put_in_order<T: Ord + Copy>(items: &mut Vec<T>)
+    requires { IsAntisymmetric T.cmp }
+    ensures same { (x : T) → Contains items.new.items x ↔ Contains items.old.items x }
+    ensures apart { AreDistinct items.new.items }
 {
-    asks.sort_unstable();
-    asks.dedup();
+    items.sort_unstable();
+    items.dedup();
 }

@@ -10,6 +10,7 @@ ghost use Rattle.plan_parts.specs.Unknown.{is_settled_deletion};
 ghost use Rattle.plan_parts.specs.Windows.{HasLastsOf, KnowsLive};
 ghost use Rattle.plan_store.specs.Asked.{AsksKey};
 ghost use Rattle.plan_store.specs.Contents.{content_of};
+ghost use Rattle.plan_store.specs.Parts.{HasBars};
 
 use external_dependencies::Pair;
 use keyed_lists::PlanRow;
@@ -41,11 +42,13 @@ pub fn unknown_for_key(alloc: Global, lists: &Content, key: &Key) -> Result<Vec<
     Ok(serials)
 }
 
-/// What has to be found out before the change is made: what it names of history and of the deletions, the predecessors of
-/// pairs that come, and those of rows that come into a plan. Of most changes that is nothing, and wants no memory.
+/// What has to be found out by serial before the change is made: what it names of history and of the deletions, the
+/// predecessors of pairs that come, and those of rows that come into a plan. Of most changes that is nothing, and wants no
+/// memory. Where a change sets a plan end, the lists need the deletions from then on too.
 pub fn unknown_of(alloc: Global, lists: &Content, change: &Change) -> Result<Unknown, AllocError>
     ensures finds { IfOk result (λ unknown. FindsOut (content_of lists.now) unknown.history.items
-        unknown.deletions.items (λ rest more. KnowsNamed rest change.now more)) }
+        unknown.deletions.items (λ rest more. HasBars change.now.bounds rest more
+        → KnowsNamed rest change.now more)) }
     ensures history { IfOk result (λ unknown. (serial : ℕ) → Contains unknown.history.items serial
         → IsNamed change.now (content_of lists.now) serial
         × (is_settled (content_of lists.now).sets serial ≡ false)) }

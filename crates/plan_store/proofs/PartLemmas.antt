@@ -25,6 +25,8 @@ use Rattle.keyed_lists.proofs.KeyLemmas.{contains_first, one_is}
 use Rattle.keyed_lists.proofs.LookLemmas.{look_at, look_has, look_lacks, look_none, look_some}
 use Rattle.plan_store.specs.Parts.{IsPartOf, followed_alone, is_followed, is_planned, or_this, rest_of}
 use Rattle.plan_store.specs.Room.{no_jobs, with_job_set}
+use Rattle.plan_store.specs.Views.{bars}
+use Rattle.plan_store.proofs.WindowLemmas.{is_kept, kept_is}
 
 module _ {X : Type 0} (row_of : X → Row) where
   abbrev pub serial_of : X → ℕ
@@ -172,9 +174,10 @@ part_followed : (c : Content) → IsPartOf (rest_of c) (followed_alone c)
 part_followed c = record {
   history = λ serial row is. elim (is_followed c serial) as (λ b. (if b then c.sets.history serial else None) ≡ Some row
       → c.sets.history serial ≡ Some row) [ true ↦ λ there. there | false ↦ λ no. cc ] is;
-  deletions = λ serial deletion is. cc;
+  deletions = λ serial deletion is. (kept_is (bars c.sets.bounds) (c.sets.deletions serial) deletion is).0;
   named = λ pair there planned. ap (λ b. if b then c.sets.history pair.predecessor else None)
       (followed_one c pair there planned);
+  bars = λ serial deletion is barred. is_kept (bars c.sets.bounds) (c.sets.deletions serial) deletion is barred;
 }
 
 part_whole : (c : Content) → IsPartOf (rest_of c) c
@@ -182,6 +185,7 @@ part_whole c = record {
   history = λ serial row is. is;
   deletions = λ serial deletion is. is;
   named = λ pair there planned. refl;
+  bars = λ serial deletion is barred. is;
 }
 
 -- what is kept of a content whose jobs were let go
@@ -191,13 +195,13 @@ kept_part (Ok x) c less new is ok err =
     let done : new ≡ followed_alone (with_job_set no_jobs c) = ok ∙ ap followed_alone is in
     subst (IsPartOf (rest_of c)) (sym done) (
     let part = part_followed c in
-    record { history = part.history; deletions = part.deletions; named = part.named }
+    record { history = part.history; deletions = part.deletions; named = part.named; bars = part.bars }
     )
 kept_part (Err e) c less new is ok err =
     let done : new ≡ with_job_set no_jobs c = err ∙ is in
     subst (IsPartOf (rest_of c)) (sym done) (
     let part = part_whole c in
-    record { history = part.history; deletions = part.deletions; named = part.named }
+    record { history = part.history; deletions = part.deletions; named = part.named; bars = part.bars }
     )
 
 pub kept_jobs : {T E : Type 0} (r : Result T E) (c less new : Content) → less ≡ with_job_set no_jobs c

@@ -7,9 +7,11 @@ use Rattle.occurrences.specs.declared.place.Deletion.{Deletion}
 use Rattle.occurrences.specs.declared.row.Row.{Row}
 use Rattle.external_dependencies.specs.declared.pairs.Pair.{Pair}
 use Rattle.planner_machine.specs.Content.{Content, Sets}
-use Rattle.planner_machine.specs.Moves.{or_else}
+use Rattle.planner_machine.specs.Moves.{keep, or_else}
+use Rattle.planner_machine.specs.declared.content.Bounds.{Bounds}
 use Rattle.planner_machine.specs.declared.job.Job.{Job}
 use Rattle.keyed_lists.specs.Rows.{look_up}
+use Rattle.plan_store.specs.Views.{bars}
 
 -- history, the deletions and the kept jobs, each as a look-up
 pub record Rest : Type 0 where
@@ -50,20 +52,26 @@ Knows rest c serial = c.sets.history serial ≡ rest.history serial
 abbrev pub KnowsDeletion : Rest → Content → ℕ → Type 0
 KnowsDeletion rest c serial = c.sets.deletions serial ≡ rest.deletions serial
 
--- what the lists have of history and of the deletions stands there, and of history they have all that is a predecessor
--- of what is planned
+-- they have each deletion that keeps a planning statement from making its key, where the plans reach so far
+abbrev pub HasBars : Option Bounds → Rest → Content → Type 0
+HasBars bounds rest c = (serial : ℕ) (deletion : Deletion) → rest.deletions serial ≡ Some deletion
+    → bars bounds deletion ≡ true → c.sets.deletions serial ≡ Some deletion
+
+-- what the lists have of history and of the deletions stands there; of history they have all that is a predecessor of
+-- what is planned, and of the deletions each that an operator made from the plan end on
 pub record IsPartOf (rest : Rest) (c : Content) : Type 0 where
   pub history : (serial : ℕ) (row : Row) → c.sets.history serial ≡ Some row → rest.history serial ≡ Some row
   pub deletions : (serial : ℕ) (deletion : Deletion) → c.sets.deletions serial ≡ Some deletion
       → rest.deletions serial ≡ Some deletion
   pub named : (pair : Pair) → Contains c.pairs pair → is_planned c.sets pair.successor ≡ true
       → Knows rest c pair.predecessor
+  pub bars : HasBars c.sets.bounds rest c
 
 -- it is the predecessor of something that is planned
 abbrev pub is_followed : Content → ℕ → Bool
 is_followed c serial = list_any (λ pair. is_planned c.sets pair.successor && nat_eq pair.predecessor serial) c.pairs
 
--- the content with of history what is followed alone, and with no deletions
+-- the content with of history what is followed alone, and of the deletions those by an operator from the plan end on
 abbrev pub followed_alone : Content → Content
 followed_alone c = record {
   definitions = c.definitions;
@@ -73,7 +81,7 @@ followed_alone c = record {
     ltp = c.sets.ltp;
     cp = c.sets.cp;
     history = λ serial. if is_followed c serial then c.sets.history serial else None;
-    deletions = λ serial. None;
+    deletions = λ serial. keep (bars c.sets.bounds) (c.sets.deletions serial);
   };
   in_force = c.in_force;
   pairs = c.pairs;

@@ -58,7 +58,7 @@ impl ListStore {
 }
 
 impl PlanStore for ListStore {
-    ghost use Rattle.std.specs.Prelude.{◌≡◌, ⊤};
+    ghost use Rattle.std.specs.Prelude.{◌≡◌, ⊤, Ok};
     ghost use Rattle.plan_store.specs.Lists.{listed};
 
     ghost content = { listed };
@@ -79,7 +79,11 @@ impl PlanStore for ListStore {
         Ok(self.content.definitions.clone()?)
     }
 
-    fn bounds(&mut self) -> Result<Option<Bounds>, StoreFault> {
+    // It takes no memory, so there is always an answer.
+    fn bounds(&mut self) -> Result<Option<Bounds>, StoreFault>
+        ensures kept { self.new ≡ self.old }
+        ensures answer { result ≡ Ok self.old.content.bounds }
+    {
         Ok(self.content.bounds)
     }
 

@@ -5,14 +5,14 @@ ghost use Rattle.std.specs.Prelude.{◌≡◌, ◌↔◌, ◌⊎◌, ℕ, Contai
 ghost use Rattle.std.specs.List.{list_any};
 ghost use Rattle.std.specs.List.Sorted.{IsNonDecreasing};
 ghost use Rattle.std.specs.Mem.{FitsInMemory};
-ghost use Rattle.keyed_lists.specs.Rows.{AreRows, HasEachOnce, look_up, of_current, of_row};
+ghost use Rattle.keyed_lists.specs.Rows.{AreRows, HasEachOnce, look_up, of_current, of_deletion, of_row};
 ghost use Rattle.keyed_lists.specs.Seats.{AreSeats, HasSeats};
 ghost use Rattle.keyed_lists.specs.declared.seats.Seat.{Seat as SeatValue};
 ghost use Rattle.plan_store.specs.Parts.{or_this};
 
 use crate::contents::Content;
 use crate::room::grow;
-use crate::slices::{of_key, of_serial};
+use crate::slices::{barring, of_key, of_serial};
 use keyed_lists::{PlanRow, Seat, insert_all, note_rows};
 use occurrences::{CurrentRow, Deletion, Key, Row, Serial};
 use std::alloc::{AllocError, Global};
@@ -98,29 +98,34 @@ fn rows_among(alloc: Global, rows: &[Row], serials: &[Serial]) -> Result<Vec<Row
         .collect(alloc)
 }
 
-// The seats of both plans and of these rows of history, with room for an eighth more.
+// The seats of both plans and of these rows of history and deletions, with room for an eighth more.
 fn seats_for(
     alloc: Global,
     ltp: &[Row],
     cp: &[CurrentRow],
     history: &[Row],
+    deletions: &[Deletion],
 ) -> Result<Vec<Seat>, AllocError>
     requires ltp { HasEachOnce of_row ltp.now }
     requires cp { HasEachOnce of_current cp.now }
     requires history { HasEachOnce of_row history.now }
+    requires deletions { HasEachOnce of_deletion deletions.now }
     ensures order { IfOk result (λ seats. AreSeats seats.items) }
     ensures ltp { IfOk result (λ seats. HasSeats of_row ltp.now seats.items) }
     ensures cp { IfOk result (λ seats. HasSeats of_current cp.now seats.items) }
     ensures history { IfOk result (λ seats. HasSeats of_row history.now seats.items) }
+    ensures deletions { IfOk result (λ seats. HasSeats of_deletion deletions.now seats.items) }
 {
     let count = ltp
         .len()
         .saturating_add(cp.len())
-        .saturating_add(history.len());
+        .saturating_add(history.len())
+        .saturating_add(deletions.len());
     let mut seats = Vec::with_capacity(alloc, count.saturating_add(count / 8))?;
     note_rows(alloc, &mut seats, ltp)?;
     note_rows(alloc, &mut seats, cp)?;
     note_rows(alloc, &mut seats, history)?;
+    note_rows(alloc, &mut seats, deletions)?;
     Ok(seats)
 }
 
@@ -130,6 +135,7 @@ impl Content {
     ghost use Rattle.plan_store.specs.Parts.{IsPartOf, followed_alone, is_followed, is_planned, rest_of};
     ghost use Rattle.plan_store.specs.Parts.{with_completed, with_deleted, with_rest};
     ghost use Rattle.plan_store.specs.Room.{no_jobs};
+    ghost use Rattle.plan_store.specs.Views.{bars};
 
     /// Whether an occurrence of the serial stands in the long-term plan or in the current plan.
     pub fn is_planned(&self, serial: Serial) -> bool
@@ -214,22 +220,39 @@ impl Content {
         rows_among(alloc, &self.history, &serials)
     }
 
-    // Lets go of the deletions, and of history but for the predecessors of what is planned, or where memory is refused,
-    // of nothing.
+    // The deletions by an operator from the plan end on, if there is a plan.
+    fn barring_rows(&self, alloc: Global) -> Result<Vec<Deletion>, AllocError>
+        ensures { IfOk result (λ found. found.items
+            ≡ filter (bars self.now.bounds) self.now.deletions.items) }
+    {
+        let mut found = Vec::new(alloc);
+        match self.bounds {
+            Some(bounds) => {
+                barring(&mut found, &self.deletions, bounds.plan_end)?;
+                Ok(found)
+            }
+            None => Ok(found),
+        }
+    }
+
+    // Drops what of history is no predecessor of what is planned, and the deletions that keep no key from being made.
+    // Where memory is refused, it drops nothing.
     fn keep_followed(&mut self, alloc: Global) -> Result<(), AllocError>
         ensures ok { OnOk result (content_of self.new ≡ followed_alone (content_of self.old)) }
         ensures err { OnErr result (content_of self.new ≡ content_of self.old) }
     {
         let history = self.followed_rows(alloc)?;
-        let seats = seats_for(alloc, &self.ltp, &self.cp, &history)?;
+        let deletions = self.barring_rows(alloc)?;
+        let seats = seats_for(alloc, &self.ltp, &self.cp, &history, &deletions)?;
         self.history = history;
-        self.deletions = Vec::new(alloc);
+        self.deletions = deletions;
         self.seats = seats;
         Ok(())
     }
 
-    /// Lets go of the kept jobs, of the deletions, and of history but for the rows that are predecessors of what is
-    /// planned, where these stand elsewhere. Where memory is refused the rows stay.
+    /// Drops what is stored elsewhere and that no statement needs at once: the kept jobs, the rows of history that are no
+    /// predecessors of what is planned, and the deletions that keep no key from being made. Where memory is refused the
+    /// rows stay.
     pub fn keep_part(&mut self, alloc: Global)
         ensures part { IsPartOf (rest_of (content_of self.old)) (content_of self.new) }
         ensures same { with_rest (rest_of (content_of self.old)) (content_of self.new)

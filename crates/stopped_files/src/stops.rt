@@ -35,7 +35,9 @@ struct FirstRun<D: Disk> {
 struct Untold;
 
 impl Opening for Untold {
-    fn opened(&mut self, _: Begun) {}
+    ghost reports = { λ old _ new. new ≡ old };
+
+    fn opened(&mut self, _begun: Begun) {}
 }
 
 /// The files as a run left them that came so far, with whether they were closed.

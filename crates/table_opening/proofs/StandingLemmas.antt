@@ -1,6 +1,6 @@
 -- The tables of a plan that stand in a schema, or for which there is room.
 use Rattle.std.proofs.Common.{◌≡◌, ◌↔◌, ◌∙◌, ℕ, false, List}
-use Rattle.std.proofs.Common.{Option, Some, true≢false, refl, sym, ap, subst}
+use Rattle.std.proofs.Common.{Option, Some, true, true≢false, refl, sym, ap, subst}
 use Rattle.std.specs.Prelude.{◌||◌, is_some}
 use Rattle.sqlite_catalog.specs.Change.{is_used}
 use Rattle.sqlite_schema.specs.Names.{index_named, table_named, view_named}
@@ -27,14 +27,20 @@ stand_iff schema made is = (
       (record { at = has.at; trees = has.trees; stands = has.stands; apart = has.apart; refer = has.refer })),
 )
 
+-- where the tables stand the name of `plan_meta` is used
+pub plan_uses : (schema : Schema) → HasTables schema → is_used schema (name Meta) ≡ true
+plan_uses schema has =
+    let there : table_named schema (name Meta) ≡ Some (has.at Meta) = (has.stands Meta).named in
+    ap (λ (o : Option ℕ). is_some o || is_some (index_named schema (name Meta))
+    || is_some (view_named schema (name Meta))) there
+
+-- and not where there is room for them
+pub room_leaves : (schema : Schema) → IsFree schema → is_used schema (name Meta) ≡ false
+room_leaves schema free = each table (λ (d : Described). is_used schema d.name ≡ false) free.unused.tables Meta
+
 -- where the tables stand none of their names is free
 pub free_has_none : (schema : Schema) → IsFree schema → HasTables schema → ⊥
-free_has_none schema free has =
-    let used : is_used schema (name Meta) ≡ false =
-    each table (λ (d : Described). is_used schema d.name ≡ false) free.unused.tables Meta in
-    let there : table_named schema (name Meta) ≡ Some (has.at Meta) = (has.stands Meta).named in
-    absurd (true≢false (sym (ap (λ (o : Option ℕ). is_some o || is_some (index_named schema (name Meta))
-    || is_some (view_named schema (name Meta))) there) ∙ used))
+free_has_none schema free has = absurd (true≢false (sym (plan_uses schema has) ∙ room_leaves schema free))
 
 -- what is made in an empty database is the plan alone
 pub made_alone : (before after : Schema) → before ≡ no_schema → after ≡ with_plan before → after ≡ plan_schema

@@ -2,6 +2,9 @@
 use Rattle.std.specs.Prelude.{◌≡◌, ◌⊎◌, ℕ, ⊤}
 use Rattle.sqlite.specs.Files.{HoldsDatabase, IsFullLeft, IsNothing, faults_left, faults_of, image_of, tally_left}
 use Rattle.sqlite.specs.Tree.{Trees}
+use Rattle.sqlite.specs.declared.error.Error.{Error}
+use Rattle.sqlite.specs.declared.error.Error.TheVariants.{SqliteFailure}
+use Rattle.sqlite.specs.declared.error.ErrorCode.TheVariants.{CannotOpen, DatabaseBusy, OutOfMemory}
 use Rattle.sqlite.specs.declared.file.Leftover.{Leftover}
 use Rattle.sqlite_disk.specs.Disk.{MoreFaults}
 use Rattle.sqlite_disk.specs.declared.Disk as disk
@@ -32,3 +35,7 @@ abbrev pub IsRefused : {D : Type 0} {g : disk.Ghosts D} → Files D → Leftover
 IsRefused {D} {g} files left =
     Refuses (named (tally_of_files g (files.log, files.db)) (tally_left left)) (faults_of g files) (faults_left left)
     (IsFullLeft left) (HoldOne g files)
+
+-- what `sqlite` reports where no file is left: it can't be opened, memory was refused, or another program holds it
+abbrev pub IsUnreached : Error → Type 0
+IsUnreached e = (e ≡ SqliteFailure CannotOpen) ⊎ ((e ≡ SqliteFailure OutOfMemory) ⊎ (e ≡ SqliteFailure DatabaseBusy))

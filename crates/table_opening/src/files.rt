@@ -9,7 +9,7 @@ ghost use Rattle.sqlite_std_file.specs.File.{IsFresh};
 ghost use Rattle.sqlite_store.specs.FileStore.{view};
 ghost use Rattle.sqlite_wal.specs.Files.{image_at};
 ghost use Rattle.table_opening.specs.Faults.{unopened_for};
-ghost use Rattle.table_opening.specs.Files.{IsRefused};
+ghost use Rattle.table_opening.specs.Files.{IsRefused, IsUnreached};
 ghost use Rattle.table_opening.specs.declared.faults.OpenFault.TheVariants.{Memory, Device, Unopened};
 
 use crate::faults::OpenFault;
@@ -51,6 +51,7 @@ pub fn open_connection_with<S: Start>(
     ensures cases { IfErr result (λ left. (left.0 ≡ Memory) ⊎ (left.0 ≡ Device)
         ⊎ (left.0 ≡ Unopened)) }
     ensures told { IfErr result (λ left. left.0 ≡ unopened_for left.2) }
+    ensures none { IfErr result (λ left. left.1 ≡ None → IsUnreached left.2) }
     ensures unopened { IfErr result (λ left. left.1 ≡ None → (left.0 ≡ Memory)
         ⊎ (left.0 ≡ Unopened)) }
     ensures caused { IfErr result (λ left. IfSome left.1 (λ rest. (files : _)

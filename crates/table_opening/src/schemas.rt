@@ -1,11 +1,18 @@
 // What stands in a database.
 
-ghost use Rattle.std.specs.Prelude.{◌≡◌, IfOk};
+ghost use Rattle.std.specs.Prelude.{◌≡◌, false, IfOk, IsTrue};
 ghost use Rattle.sqlite.specs.Held.{state};
+ghost use Rattle.sqlite_catalog.specs.Change.{is_used};
+ghost use Rattle.table_reading.specs.Reading.{HasPlan};
+ghost use Rattle.table_schema.specs.Schema.{name};
+ghost use Rattle.table_schema.specs.declared.tables.Table.TheVariants.{Meta};
+ghost use Rattle.table_opening.specs.Opened.{HasRoom};
 ghost use Rattle.table_opening.specs.Opening.{IsFound};
 
 use crate::standing::{can_make, stand_among};
 use sqlite::{Alter, Connection, Error};
+use sqlite_catalog::layout::is_used;
+use sqlite_schema::schema::Schema;
 use std::alloc::Global;
 use table_schema::make_tables;
 
@@ -34,4 +41,20 @@ pub(crate) fn find_tables<S: Alter>(alloc: Global, conn: &Connection<S>) -> Resu
     } else {
         Ok(Found::Others)
     }
+}
+
+// Whether something has the name of `plan_meta`.
+fn is_meta_used(schema: &Schema) -> bool
+    ensures { result ≡ is_used schema.now (name Meta) }
+{
+    is_used(schema, b"plan_meta")
+}
+
+/// Whether something in the database has the name of `plan_meta`: so it is where the tables of a plan are, and not where
+/// there is room for them.
+pub fn has_meta<S: Alter>(conn: &Connection<S>) -> bool
+    ensures plan { HasPlan (state S.Store conn.now) → IsTrue result }
+    ensures room { HasRoom (state S.Store conn.now) → result ≡ false }
+{
+    is_meta_used(conn.schema())
 }

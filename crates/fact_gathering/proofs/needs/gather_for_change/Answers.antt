@@ -1,4 +1,5 @@
 use Rattle.plan_store.specs.Contents.{content_of}
+use Rattle.plan_store.specs.Parts.{HasBars}
 use Rattle.plan_parts.specs.Changes.{KnowsNamed}
 use Rattle.fact_gathering.specs.Bringing.{KnowsAll}
 use Rattle.fact_gathering.proofs.GatherLemmas.{gathers_refused, gathers_so}
@@ -7,13 +8,15 @@ use Rattle.fact_gathering.proofs.needs.gather_for_change.Goals as goal
 pub returns-in-Ok : goal.returns-in-Ok
 returns-in-Ok g c =
     let unknown = c.in-Ok.unknown in
+    let bounds = c.args.change.now.bounds in
     let was = content_of c.args.lists.now in
-    let now = content_of c.find_unknown.new.lists in
-    gathers_so g.S.Store c.args.conn.now c.find_unknown.new.conn was now c.find_unknown.result
-    (KnowsAll unknown.history.items unknown.deletions.items) (λ rest l. KnowsNamed rest c.args.change.now l)
-    (λ rest part sound more (known : KnowsAll unknown.history.items unknown.deletions.items rest now).
-    c.in-Ok.ensures.finds rest now more ∣ part ∣₁ sound known.history known.deletions)
-    c.find_unknown.ensures
+    let now = content_of c.find_named.new.lists in
+    gathers_so g.S.Store c.args.conn.now c.find_named.new.conn was now c.find_named.result
+    (λ rest l. HasBars bounds rest l × KnowsAll unknown.history.items unknown.deletions.items rest l)
+    (λ rest l. KnowsNamed rest c.args.change.now l)
+    (λ rest part sound more (both : HasBars bounds rest now × KnowsAll unknown.history.items unknown.deletions.items rest
+    now). c.in-Ok.ensures.finds rest now more ∣ part ∣₁ sound both.1.history both.1.deletions both.0)
+    c.find_named.ensures
 
 pub returns-in-Err : goal.returns-in-Err
 returns-in-Err g c = gathers_refused g.S.Store c.args.conn.now (content_of c.args.lists.now)

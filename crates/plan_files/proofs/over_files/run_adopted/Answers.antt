@@ -17,6 +17,7 @@ returns-in-Ok-clause-ran g c =
         told = λ honest. let clean = c.run_and_close.ensures.honest honest in (over.opened clean).told clean;
         runs = ran.1;
       },
+      c.opened.ensures,
     )
 
 pub run_and_close-requires-clause-kept : goal.run_and_close-requires-clause-kept

@@ -4,6 +4,9 @@ use Rattle.sqlite.specs.State.{HasCleanDisk}
 use Rattle.sqlite_store.specs.Laws.{settled_at}
 use Rattle.table_schema.proofs.ResultLemmas.{if_err, if_ok}
 use Rattle.plan_files.specs.Unrun.{IsHindered, IsUnfit}
+use Rattle.plan_files.specs.Begun.{begun_of}
+use Rattle.plan_files.specs.declared.openings.Begun.{Begun}
+use Rattle.plan_files.proofs.BegunLemmas.{begun_on}
 use Rattle.plan_files.proofs.LeftLemmas.{holds_such}
 use Rattle.plan_files.proofs.OlderLemmas.{left_since, spared, still_holds, told_now}
 use Rattle.plan_files.proofs.over_files.run_over_connection.Goals as goal
@@ -20,6 +23,14 @@ returns-in-Ok-clause-ran g c =
         told = λ honest. told_now old mid h.0 (c.in-Ok.ensures.current (h.2.honest honest)) (h.2.told honest);
         runs = h.2.runs;
       },
+      record {
+        begun = begun_of c.is_first.result c.has_meta.result;
+        reported = subst (λ (b : Begun). g.O.Opening.reports c.args.opening.now b c.run_adopted.new.opening)
+            c.begun_with-begun.ensures h.3;
+        was = λ honest. begun_on old mid _ c.is_first.result c.has_meta.result h.0
+            (c.in-Ok.ensures.found (h.2.honest honest)) c.is_first.ensures c.has_meta.ensures.plan
+            c.has_meta.ensures.room (h.2.told honest);
+      },
     )) c.run_adopted.ensures.ran
 
 pub returns-in-Ok-clause-unrun : goal.returns-in-Ok-clause-unrun
@@ -29,6 +40,7 @@ returns-in-Ok-clause-unrun g c =
     if_err c.run_adopted.result _ _ (λ left h. record {
       mid = c.migrate_older.new.conn;
       back = h.back;
+      opened = λ cause is. absurd (cc);
       unfit = λ clean. subst (IsUnfit c.args.conn c.migrate_older.new.conn h.back) (sym h.is)
           (c.in-Ok.ensures.current (h.honest clean), h.unopened clean);
       hindered = λ clean holds limit. subst (IsHindered c.args.conn c.migrate_older.new.conn h.back) (sym h.is)
@@ -46,6 +58,7 @@ returns-in-Err-clause-unrun g c =
     let quiet = c.into_store.ensures.quiet in record {
       mid = c.migrate_older.new.conn;
       back = c.migrate_older.new.conn;
+      opened = λ cause is. absurd (cc);
       unfit = λ clean. c.in-Err.ensures.unmigrated (omega (arith, quiet.clean, clean));
       hindered = λ clean holds limit. c.in-Err.ensures.common (omega (arith, quiet.clean, clean)) holds limit;
       quiet = quiet;

@@ -5,6 +5,7 @@ use Rattle.plan_tables.proofs.AgainLemmas.{found_plan}
 use Rattle.sqlite.specs.Files.{HoldsDatabase, file_state}
 use Rattle.sqlite_wal.specs.Files.{image_at}
 use Rattle.plan_files.specs.declared.refusals.Unrun.TheVariants.{Unopened}
+use Rattle.plan_files.proofs.BegunLemmas.{begun_in}
 use Rattle.plan_files.proofs.OlderLemmas.{found_any}
 use Rattle.plan_files.proofs.RefusedLemmas.{if_some, refused_for}
 use Rattle.plan_files.proofs.over_files.run_over_files.Goals as goal
@@ -23,6 +24,15 @@ returns-in-Ok-run_over_connection-clause-ran g c =
             (migrated.told honest);
         runs = migrated.runs;
       },
+      record {
+        begun = h.3.begun;
+        reported = h.3.reported;
+        was = λ honest.
+            let first = migrated.honest honest in
+            let opened = c.in-Ok.ensures.opened first in
+            begun_in (image_at g.S.Start) (file_state c.in-Ok.conn) h.3.begun h.0 opened.0 opened.1
+            (c.in-Ok.ensures.found first) (h.3.was honest);
+      },
     )
 
 abbrev image : List ℕ → List ℕ → Image
@@ -35,6 +45,7 @@ pub returns-in-Err-run_over_connection-clause-refused : goal.returns-in-Err-run_
 returns-in-Err-run_over_connection-clause-refused g c =
     let h = c.in-Err-run_over_connection.ensures.unrun in record {
       told = tt;
+      asked = λ cause is. absurd (h.opened cause is);
       none = λ is. absurd (cc);
       some = inr (
         c.in-Err-run_over_connection.left,
@@ -59,7 +70,8 @@ returns-in-Err-run_over_connection-clause-refused g c =
 
 pub returns-in-Err-clause-refused : goal.returns-in-Err-clause-refused
 returns-in-Err-clause-refused g c = record {
-  told = ap Unopened c.in-Err.ensures.told;
+  told = (ap Unopened c.in-Err.ensures.told, c.in-Err.ensures.refused);
+  asked = λ cause is. refl;
   none = λ is. (
     refl,
     elim (c.in-Err.ensures.unopened is) [

@@ -1,10 +1,11 @@
-use Rattle.std.proofs.Common.{ℕ, Option, arith, subst}
+use Rattle.std.proofs.Common.{◌∙◌, ℕ, Option, Some, ap, arith, inl, inr, subst}
 use Rattle.std.specs.Prelude.{Ok}
 use Rattle.sqlite.specs.State.{HasCleanDisk}
 use Rattle.sqlite.specs.Held.{state}
 use Rattle.plan_migrations.specs.Schemas.{TellsVersion}
 use Rattle.plan_migrations.proofs.OlderLemmas.{current_if_known, current_if_none, current_since, same_if_told}
-use Rattle.plan_migrations.proofs.OlderLemmas.{survives_both, unmigrated_since}
+use Rattle.plan_migrations.proofs.OlderLemmas.{found_if_told, found_since, found_told}
+use Rattle.plan_migrations.proofs.OlderLemmas.{none_is_some, some_is, survives_both, unmigrated_since}
 use Rattle.plan_migrations.proofs.ReadLemmas.{untold}
 use Rattle.plan_migrations.proofs.TurnLemmas.{kept_since}
 use Rattle.plan_migrations.proofs.older.migrate_older.Goals as goal
@@ -74,7 +75,36 @@ returns-in-Ok-clause-told g c clean =
     let old = state g.S.Store c.args.conn.now in
     let mid = state g.S.Store c.version.new.conn in
     let early : HasCleanDisk mid = omega (arith, c.migrate.ensures.crash.clean, clean) in
-    (c.version.new.conn, subst (λ (o : Option ℕ). TellsVersion old mid (Ok o)) c.in-Ok-Some.field-0-is (c.in-Ok-Some.ensures.tells early))
+    let tells = c.in-Ok-Some.ensures.tells early in
+    elim (found_told old mid (state g.S.Store c.migrate.new.conn)
+    (same_if_told old mid c.in-Ok-Some.field-0 tells) c.version.ensures.crash.counts
+    c.version.ensures.crash.limit _ _ c.version_of.result (c.in-Ok.ensures.migrated clean)
+    c.version_of.ensures.none c.version_of.ensures.some
+    (subst (λ (o : Option ℕ). TellsVersion old mid (Ok o))
+    (c.in-Ok-Some.field-0-is ∙ ap Some c.if-found-eq-FIRST_VERSION.true) tells)) [
+      | inl was ↦ (c.version.new.conn, was)
+      | inr now ↦ (c.migrate.new.conn, now)
+    ]
+
+pub returns-in-Ok-clause-found : goal.returns-in-Ok-clause-found
+returns-in-Ok-clause-found g c clean =
+    let old = state g.S.Store c.args.conn.now in
+    let mid = state g.S.Store c.version.new.conn in
+    let early : HasCleanDisk mid = omega (arith, c.migrate.ensures.crash.clean, clean) in
+    found_since old mid (state g.S.Store c.migrate.new.conn)
+    (same_if_told old mid c.in-Ok-Some.field-0 (c.in-Ok-Some.ensures.tells early)) c.version.ensures.crash.counts
+    c.version.ensures.crash.limit _ _ c.version_of.result (c.in-Ok.ensures.migrated clean)
+    c.version_of.ensures.none c.version_of.ensures.some
+
+pub returns-else-found-eq-FIRST_VERSION-clause-found : goal.returns-else-found-eq-FIRST_VERSION-clause-found
+returns-else-found-eq-FIRST_VERSION-clause-found g c clean =
+    found_if_told (state g.S.Store c.args.conn.now) (state g.S.Store c.version.new.conn) c.in-Ok-Some.field-0 _
+    c.in-Ok-Some.field-0-is (λ one. c.if-found-eq-FIRST_VERSION.false (some_is one)) (c.in-Ok-Some.ensures.tells clean)
+
+pub returns-in-Ok-None-clause-found : goal.returns-in-Ok-None-clause-found
+returns-in-Ok-None-clause-found g c clean =
+    found_if_told (state g.S.Store c.args.conn.now) (state g.S.Store c.version.new.conn) c.in-Ok-None.field-0 _
+    c.in-Ok-None.field-0-is (none_is_some _) (c.in-Ok-None.ensures.tells clean)
 
 pub returns-else-found-eq-FIRST_VERSION-clause-told : goal.returns-else-found-eq-FIRST_VERSION-clause-told
 returns-else-found-eq-FIRST_VERSION-clause-told g c clean =

@@ -10,22 +10,22 @@ pub returns-in-Key-clause-found : goal.returns-in-Key-clause-found
 returns-in-Key-clause-found c =
     let content = content_of c.args.lists.now in
     asks_found (AsksKey content c.in-Key.key) (Asks c.args.need.now content)
-    (ap (λ (need : Need). Asks need content) c.in-Key.is) c.asks_of_key.result c.asks_of_key.ensures
+    (ap (λ (need : Need). Asks need content) c.in-Key.is) c.asks_of_key.result c.asks_of_key.ensures.adds
 
 pub returns-in-Key-clause-only : goal.returns-in-Key-clause-only
 returns-in-Key-clause-only c =
     let content = content_of c.args.lists.now in
     asks_only (AsksKey content c.in-Key.key) (Asks c.args.need.now content)
-    (ap (λ (need : Need). Asks need content) c.in-Key.is) c.asks_of_key.result c.asks_of_key.ensures
+    (ap (λ (need : Need). Asks need content) c.in-Key.is) c.asks_of_key.result c.asks_of_key.ensures.adds
 
 pub returns-in-LongTerm-clause-found : goal.returns-in-LongTerm-clause-found
 returns-in-LongTerm-clause-found c =
     let content = content_of c.args.lists.now in
     asks_found (AsksPlan content) (Asks c.args.need.now content)
-    (ap (λ (need : Need). Asks need content) c.in-LongTerm.is) c.asks_of_plan.result c.asks_of_plan.ensures
+    (ap (λ (need : Need). Asks need content) c.in-LongTerm.is) c.asks_of_plan.result c.asks_of_plan.ensures.adds
 
 pub returns-in-LongTerm-clause-only : goal.returns-in-LongTerm-clause-only
 returns-in-LongTerm-clause-only c =
     let content = content_of c.args.lists.now in
     asks_only (AsksPlan content) (Asks c.args.need.now content)
-    (ap (λ (need : Need). Asks need content) c.in-LongTerm.is) c.asks_of_plan.result c.asks_of_plan.ensures
+    (ap (λ (need : Need). Asks need content) c.in-LongTerm.is) c.asks_of_plan.result c.asks_of_plan.ensures.adds

@@ -8,8 +8,8 @@ use Rattle.plan_store.specs.Contents.{content_of}
 use Rattle.plan_store.specs.Parts.{is_followed}
 use Rattle.plan_store.specs.declared.contents.Content.{Content as Kept}
 use Rattle.plan_store.proofs.PartLemmas.{look_passing}
-use Rattle.plan_store.proofs.ViewLemmas.{filter_rows, once_from_rows}
-use Rattle.plan_store.proofs.WindowLemmas.{no_rows, no_seats}
+use Rattle.plan_store.proofs.ViewLemmas.{filter_rows, look_filter, once_from_rows}
+use Rattle.plan_store.specs.Views.{bars}
 use Rattle.plan_store.proofs.contents.Content.keep_followed.Goals as goal
 
 -- what stays of history
@@ -17,6 +17,12 @@ stays : (kept : Kept) (rows : List Row)
     → rows ≡ filter (λ (row : Row). is_followed (content_of kept) row.serial) kept.history.items → AreRows of_row rows
 stays kept rows is = subst (AreRows of_row) (sym is) (filter_rows of_row
     (λ (row : Row). is_followed (content_of kept) row.serial) kept.history.items kept.history_rows)
+
+-- and of the deletions
+barring : (kept : Kept) (rows : List Deletion) → rows ≡ filter (bars kept.bounds) kept.deletions.items
+    → AreRows of_deletion rows
+barring kept rows is = subst (AreRows of_deletion) (sym is) (filter_rows of_deletion (bars kept.bounds)
+    kept.deletions.items kept.deletion_rows)
 
 pub seats_for-requires-clause-ltp : goal.seats_for-requires-clause-ltp
 seats_for-requires-clause-ltp c =
@@ -33,23 +39,25 @@ seats_for-requires-clause-history c =
     let rows = c.in_ok-history.history.items in
     rw c.deref-3.ensures.value (once_from_rows of_row rows (stays c.args.self.now rows c.in_ok-history.ensures))
 
+pub seats_for-requires-clause-deletions : goal.seats_for-requires-clause-deletions
+seats_for-requires-clause-deletions c =
+    let rows = c.in_ok-deletions.deletions.items in
+    rw c.deref-4.ensures.value (once_from_rows of_deletion rows (barring c.args.self.now rows c.in_ok-deletions.ensures))
+
 pub invariant_of-self-2 : goal.invariant_of-self-2
 invariant_of-self-2 c =
     let kept = c.args.self.now in
-    let seats = c.in_ok-seats.seats.items in
     record {
       ltp_rows = kept.ltp_rows;
       cp_rows = kept.cp_rows;
       history_rows = stays kept c.in_ok-history.history.items c.in_ok-history.ensures;
-      deletion_rows = subst (λ (l : List Deletion). AreRows of_deletion l) (sym c.new.ensures.items)
-          (no_rows of_deletion);
+      deletion_rows = barring kept c.in_ok-deletions.deletions.items c.in_ok-deletions.ensures;
       numbered_jobs = kept.numbered_jobs;
       seat_order = c.in_ok-seats.ensures.order;
       ltp_seats = rw c.deref.ensures.value at c.in_ok-seats.ensures.ltp;
       cp_seats = rw c.deref-2.ensures.value at c.in_ok-seats.ensures.cp;
       history_seats = rw c.deref-3.ensures.value at c.in_ok-seats.ensures.history;
-      deletion_seats = subst (λ (l : List Deletion). HasSeats of_deletion l seats) (sym c.new.ensures.items)
-          (no_seats of_deletion seats);
+      deletion_seats = rw c.deref-4.ensures.value at c.in_ok-seats.ensures.deletions;
     }
 
 pub returns-clause-ok : goal.returns-clause-ok
@@ -63,7 +71,9 @@ returns-clause-ok c = λ i. record {
     history = λ serial. (ap (λ (rows : List Row). look_up (λ (row : Row). row.serial) rows serial)
         c.in_ok-history.ensures ∙ look_passing (λ (row : Row). row.serial) (is_followed (content_of c.args.self.now))
         c.args.self.now.history.items serial) i;
-    deletions = look_up (λ (deletion : Deletion). deletion.row.serial) (c.new.ensures.items i);
+    deletions = λ serial. (ap (λ (rows : List Deletion). look_up (λ (deletion : Deletion). deletion.row.serial) rows serial)
+        c.in_ok-deletions.ensures ∙ look_filter of_deletion (bars c.args.self.now.bounds)
+        c.args.self.now.deletions.items c.args.self.now.deletion_rows serial) i;
   };
   in_force = c.args.self.now.in_force;
   pairs = c.args.self.now.pairs;
