@@ -121,7 +121,7 @@ All that is unfinished is expected to be done at 2024-01-03 09.01, by this chain
 No whole run is known of FOXTROT: each counts as no time.
 """)
 
-    def test_nothing_late_and_what_ended_a_day_ago_is_told_no_more(self):
+    def test_nothing_late_and_what_ended_a_day_ago_is_reported_no_more(self):
         shown = self.asked("late", "--now", "2024-01-04/07.46")
         self.assertNotIn("ended late", shown)
         self.assertIn("1 ended late", self.asked("late", "--now", "2024-01-04/07.45"))
@@ -182,7 +182,7 @@ This chain decides it:
 
     def test_page(self):
         data = page_data.data_of(self.plan, plain.read_moment(NOW), journal=self.journal)
-        told, numbers = data["actual"], {}
+        found, numbers = data["actual"], {}
         at = 0
         for place, step in enumerate(data["rows"]["serial"]):
             at += step
@@ -192,15 +192,15 @@ This chain decides it:
         def minute(text):
             return plain.read_moment(f"2024-01-03/{text}")
 
-        self.assertEqual(told["runs"][place["DELTA"]], [[minute("07.10"), minute("07.45"), 2100, "C"]])
-        self.assertEqual(told["runs"][place["ALFA"]], [[minute("08.01"), None, None, "S"]])
-        self.assertEqual(told["expected"][place["CHARLIE"]], [minute("08.31"), minute("09.01"), 0])
-        self.assertEqual(told["expected"][place["FOXTROT"]], [minute("08.09"), minute("08.09"), 1])
-        self.assertEqual(told["going"], [place["CHARLIE"]])
-        self.assertEqual(told["ended"], [[numbers[self.rows["CHARLIE", 2][0]], 300], [place["DELTA"], 900]])
-        self.assertEqual(told["chain"], [place[app] for app in ("ALFA", "BRAVO", "CHARLIE")])
+        self.assertEqual(found["runs"][place["DELTA"]], [[minute("07.10"), minute("07.45"), 2100, "C"]])
+        self.assertEqual(found["runs"][place["ALFA"]], [[minute("08.01"), None, None, "S"]])
+        self.assertEqual(found["expected"][place["CHARLIE"]], [minute("08.31"), minute("09.01"), 0])
+        self.assertEqual(found["expected"][place["FOXTROT"]], [minute("08.09"), minute("08.09"), 1])
+        self.assertEqual(found["going"], [place["CHARLIE"]])
+        self.assertEqual(found["ended"], [[numbers[self.rows["CHARLIE", 2][0]], 300], [place["DELTA"], 900]])
+        self.assertEqual(found["chain"], [place[app] for app in ("ALFA", "BRAVO", "CHARLIE")])
         app = next(number for number, one in enumerate(data["apps"]) if one[0] == "CHARLIE")
-        self.assertEqual(tuple(told["usual"][app]), (1800, 2100, 2))
+        self.assertEqual(tuple(found["usual"][app]), (1800, 2100, 2))
         self.assertIsNone(page_data.data_of(self.plan, plain.read_moment(NOW))["actual"])
         before = plans.prints(self.plan)
         ran = plans.plan("page", self.plan, "--journal", self.journal, "-o", self.journal)
@@ -308,7 +308,7 @@ class Reckoning(unittest.TestCase):
             journal = journals.write(os.path.join(room, "journal"), events)
             words = ["--journal", journal, "--now", data_centre.NOW]
             ran = plans.plan("export", plans.of_stream(text), "--json", "--set", "cp", *words)
-            told = plans.plan("late", plans.of_stream(text), *words).stdout
+            output = plans.plan("late", plans.of_stream(text), *words).stdout
         found = json.loads(ran.stdout)["occurrences"]
         shown = {one["serial"]: one["expected_end"] for one in found if one["expected_end"]}
         self.assertEqual(set(shown), set(unfinished))
@@ -317,7 +317,7 @@ class Reckoning(unittest.TestCase):
             wanted = plain.moment_text(int(-(-end(serial) // 1)), "T").replace(".", ":")
             self.assertEqual(text, wanted, unfinished[serial])
         last = plain.moment_text(int(-(-max(ends.values()) // 1)))
-        self.assertIn(f"{last}, by this chain:", told)
+        self.assertIn(f"{last}, by this chain:", output)
 
 
 if __name__ == "__main__":

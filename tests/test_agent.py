@@ -12,161 +12,35 @@ import re
 import signal
 import subprocess
 import sys
-import tempfile
 import time
 import unittest
 import unittest.mock
 from pathlib import Path
 
 from support import plans
+from support.agents import day_stream, FIRST_JOB, PATIENCE, PlainDesk, Room
 from support.plans import plain
 
-from opcplan.agent import record, state, work
+from opcplan.agent import executor, record, state
 from opcplan.desk import client
 
 
-FIRST_JOB = 500_000_001
 DEBIAN = "/usr/bin/python3"
-# in seconds: what a busy machine may take
-PATIENCE = 300
 DAY = {"AA": "", "AB": "AA", "AC": "AA", "AD": "AB AC", "BA": "", "BB": "BA", "CA": "", "CB": "CA BB", "DA": "AD",
        "DB": "CB"}
 
 
-def day_stream(apps):
-    """A stream that plans one day of applications, each with the others that it waits for."""
-    lines = {"calendars": ["DEFAULT,2024-01-01,WORK"], "periods": ["DAY,A,2024-01-01,1"],
-             "applications": [f"{app},A," for app in apps],
-             "run-cycles": [f"{app},DAILY,N,DAY,3,1,2024-01-01,,08.{at:02},0,10.00" for at, app in enumerate(apps)],
-             "predecessors": [f"{app},{other}" for app, others in apps.items() for other in others.split()]}
-    blocks = [f"define {kind} --job {job}\n" + "".join(f"{line}\n" for line in found) + "/*\n"
-              for job, (kind, found) in enumerate(lines.items(), 1) if found]
-    planned = "ltp-create --from 2024-01-01 --to 2024-01-05 --job 8\ndp-extend --to 2024-01-02/00.00 --job 9\n"
-    return "".join(blocks) + planned
-
-
-class PlainDesk:
-    """A desk that is a plain planner, as an agent asks it. `faults` are done in turn at the next statements."""
-
-    name, life = "plain", "log"
-    turn = 0
-
-    def __init__(self, text):
-        self.planner, self.log, self.keys, self.faults = plain.Planner(), [], {}, []
-        plain.run(text.encode(), self.planner)
-
-    def request(self, method, path, body=None, heads=()):
-        position = len(self.log)
-        if method == "POST":
-            return {}, self.statement(body.decode(), heads["Idempotency-Key"], heads.get("If-Match"))
-        word, _, query = path.partition("?")
-        if word == "/health":
-            return {}, json.dumps({"position": position, "tag": f"{self.life}-{position}"}).encode()
-        if word == "/journal":
-            found = self.log[int(query.removeprefix("from=")) - 1:]
-        else:
-            found = self.rows() if query == "list=cp" else [
-                {"successor": first, "predecessor": last} for first, last in self.planner.pairs]
-        return {"X-Opcplan-Position": str(position)}, "".join(json.dumps(one) + "\n" for one in found).encode()
-
-    def rows(self):
-        return [{"serial": row[0], "app": row[1], "ia": plain.moment_text(row[2], "/"), "status": status,
-                 "deadline": plain.moment_text(row[3], "/")} for row, status in self.planner.current.values()]
-
-    def go_over(self):
-        self.turn += 1
-
-    def statement(self, text, key, condition):
-        fault = self.faults.pop(0) if self.faults else None
-        if fault == "before":
-            raise client.Away("it is away", False)
-        if key not in self.keys and condition not in (None, f'"{self.life}-{len(self.log)}"'):
-            raise client.Refused(412, "the plan has changed since it was looked at; nothing was done")
-        if key not in self.keys:
-            self.keys[key] = self.put(text.strip(), key)
-        if fault == "after":
-            raise client.Away("the answer broke off", True)
-        if fault == "killed":
-            raise SystemExit
-        return json.dumps(self.keys[key]).encode() + b"\n"
-
-    def put(self, text, key=None, job=None):
-        """An entry of the log, with what the planner replies."""
-        job = job or FIRST_JOB + len(self.log)
-        reply = plain.run(f"{text} --job {job}\n".encode(), self.planner)[-1]
-        self.log.append({"seq": len(self.log) + 1, "statement": f"{text} --job {job}", "job": job, "reply": reply,
-                         "key": key})
-        return self.log[-1]
-
-    def status(self, app):
-        return next(status for row, status in self.planner.current.values() if row[1] == app)
-
-    def asked(self):
-        """The statements that were asked, without their numbers, each once."""
-        return [one["statement"].partition(" --job")[0] for one in self.log]
-
-
-class Room(unittest.TestCase):
-    """A folder with jobs, and agents over them."""
-
-    def setUp(self):
-        room = tempfile.TemporaryDirectory(prefix="agent-")
-        self.addCleanup(room.cleanup)
-        self.room = Path(room.name)
-        self.jobs, self.logs = self.room / "jobs", self.room / "logs"
-        self.jobs.mkdir(mode=0o755)
-        self.logs.mkdir()
-
-    def job(self, name, text="true"):
-        path = self.jobs / name
-        path.write_text(f"#!/bin/sh\n{text}\n", encoding="utf-8")
-        path.chmod(0o755)
-
-    def agent(self, desk):
-        given = work.Settings(str(self.jobs), str(self.logs), now=plain.read_moment("2024-01-01/12.00"))
-        found = work.Agent(given, desk)
-        found.load()
-        return found
-
-    def until(self, is_so, agent=None):
-        """Has an agent look until something is so; what it tells."""
-        end = time.monotonic() + PATIENCE
-        with contextlib.redirect_stderr(io.StringIO()) as told:
-            while True:
-                if agent:
-                    agent.step()
-                if is_so():
-                    return told.getvalue()
-                self.assertLess(time.monotonic(), end, told.getvalue() + self.told())
-                time.sleep(0.05)
-
-    def told(self):
-        """What the commands told."""
-        return "".join(path.read_text(encoding="utf-8") for path in sorted(self.room.glob("told-*")))
-
-    @property
-    def wait(self):
-        """What a job does until `go`."""
-        return f"until [ -e {self.room}/go ]; do sleep 0.05; done"
-
-    def go(self):
-        (self.room / "go").touch()
-
-    def runs(self):
-        """The words of each line that the jobs wrote into the file `runs`."""
-        path = self.room / "runs"
-        return [line.split() for line in path.read_text(encoding="utf-8").splitlines()] if path.exists() else []
-
-
 class Step(Room):
-    def test_started_is_said_then_it_runs_then_its_end_is_told(self):
+    def test_started_is_said_then_it_runs_then_its_end_is_reported(self):
         desk = PlainDesk(day_stream({"GOOD": "", "BAD": "", "NEXT": "GOOD"}))
+        token = 'echo "token [$OPCPLAN_TOKEN$CREDENTIALS_DIRECTORY]" >&2'
         for name, end in (("GOOD", "exit 0"), ("BAD", "exit 3"), ("NEXT", "kill -9 $$")):
-            self.job(name, f'echo "$@" $# >> {self.room}/runs; cat; pwd; echo "token [$OPCPLAN_TOKEN]" >&2; {end}')
-        os.environ["OPCPLAN_TOKEN"] = "secret"
-        self.addCleanup(os.environ.pop, "OPCPLAN_TOKEN")
+            self.job(name, f'echo "$@" $# >> {self.room}/runs; cat; pwd; {token}; {end}')
+        for variable in ("OPCPLAN_TOKEN", "CREDENTIALS_DIRECTORY"):
+            os.environ[variable] = "secret"
+            self.addCleanup(os.environ.pop, variable)
         agent = self.agent(desk)
-        told = self.until(lambda: len(desk.log) == 6, agent)
+        messages = self.until(lambda: len(desk.log) == 6, agent)
         self.assertEqual({app: desk.status(app) for app in ("GOOD", "BAD", "NEXT")},
                          {"GOOD": "C", "BAD": "E", "NEXT": "E"})
         self.assertEqual(sorted(self.runs()), [["BAD", "2024-01-01/08.01", "2", "3"],
@@ -176,14 +50,16 @@ class Step(Room):
         self.assertRegex(log, r"^== agent: begins GOOD 2024-01-01/08\.00 1 at \S+ \S+\n(?s:.*)"
                               r"\n== agent: ended at \S+ \S+: status 0\n$")
         self.assertIn(f"\n{self.jobs}\ntoken []\n", log)
-        self.assertIn("status 3; it is in error", told)
-        self.assertIn("by signal 9; it is in error", told)
+        self.assertIn("status 3; it is in error", messages)
+        self.assertIn("by signal 9; it is in error", messages)
         self.assertEqual(record.serials(self.logs), [])
 
     def test_no_more_than_so_many_at_once_and_the_earliest_deadline_first(self):
         desk = PlainDesk(day_stream(dict.fromkeys(("AA", "BB", "CC", "DD", "EE"), "")))
         for name in ("AA", "BB", "CC", "DD", "EE"):
-            self.job(name, f"echo b >> {self.room}/runs; sleep 0.2; echo e >> {self.room}/runs")
+            # the first one waits for the second one
+            both = f"until [ $(wc -l < {self.room}/runs) -ge 2 ]; do sleep 0.05; done"
+            self.job(name, f"echo b >> {self.room}/runs; {both}; sleep 0.2; echo e >> {self.room}/runs")
         agent = self.agent(desk)
         agent.given = dataclasses.replace(agent.given, most=2)
         self.until(lambda: len(desk.log) == 10, agent)
@@ -236,7 +112,7 @@ class Step(Room):
                 end = time.monotonic() + PATIENCE
                 with contextlib.redirect_stderr(io.StringIO()):
                     while agent.state.records or desk.status("AA") != "C":
-                        with contextlib.suppress(client.Away):
+                        with contextlib.suppress(client.DeskUnreachable):
                             agent.step()
                         self.assertLess(time.monotonic(), end)
                         time.sleep(0.05)
@@ -251,15 +127,15 @@ class Step(Room):
         with self.assertRaises(SystemExit), contextlib.redirect_stderr(io.StringIO()):
             self.agent(desk).step()
         self.assertEqual((desk.status("AA"), len(desk.log), self.runs()), ("S", 1, []))
-        told = self.until(lambda: desk.status("AA") == "C", self.agent(desk))
-        self.assertNotIn("nothing is touched", told)
+        messages = self.until(lambda: desk.status("AA") == "C", self.agent(desk))
+        self.assertNotIn("nothing is touched", messages)
         self.assertEqual((len(desk.log), len(self.runs())), (2, 1))
 
     def test_a_runner_that_was_killed_before_it_began_the_job_is_begun_again(self):
         desk = PlainDesk(day_stream({"AA": ""}))
         self.job("AA", f"echo x >> {self.room}/runs")
         agent = self.agent(desk)
-        with unittest.mock.patch.object(work.subprocess, "Popen"):  # a runner that ends at once
+        with unittest.mock.patch.object(executor.subprocess, "Popen"):  # a runner that ends at once
             self.until(lambda: desk.status("AA") == "S", agent)
         self.assertIsNone(record.read(self.logs, 1).began)
         self.until(lambda: desk.status("AA") == "C", self.agent(desk))
@@ -271,7 +147,7 @@ class Step(Room):
         first.put("cp-start --app AA --ia 2024-01-01/08.00")
         self.until(lambda: True, agent)
         agent.asking.desk = agent.desk = behind
-        with self.assertRaisesRegex(client.Away, "behind entry 1"):
+        with self.assertRaisesRegex(client.DeskUnreachable, "behind entry 1"):
             agent.step()
         plan = agent.state.plan
         self.assertEqual((plan.position, plan.rows[1].status, behind.turn), (1, "S", 1))
@@ -308,13 +184,13 @@ class Step(Room):
         (runner,), (job,) = self.runs()
         os.kill(int(runner), signal.SIGKILL)
         self.addCleanup(os.kill, int(job), signal.SIGKILL)
-        told = self.until(lambda: agent.state.lost, agent)
-        self.assertIn("left no end; nothing is touched", told)
-        told = self.until(lambda: True, self.agent(desk))
-        self.assertIn("left no end; nothing is touched", told)
+        messages = self.until(lambda: agent.state.lost, agent)
+        self.assertIn("left no end; nothing is touched", messages)
+        messages = self.until(lambda: True, self.agent(desk))
+        self.assertIn("left no end; nothing is touched", messages)
         self.assertEqual((desk.status("AA"), len(desk.log)), ("S", 1))
 
-    def test_an_end_that_was_not_told_is_told_by_the_next_agent(self):
+    def test_an_end_that_was_not_reported_is_reported_by_the_next_agent(self):
         desk = PlainDesk(day_stream({"AA": "", "BB": ""}))
         for name in ("AA", "BB"):
             self.job(name, f"echo x >> {self.room}/runs; {self.wait}; test {name} = AA")
@@ -326,7 +202,7 @@ class Step(Room):
         self.until(lambda: len(desk.log) == 4, self.agent(desk))
         self.assertEqual((desk.status("AA"), desk.status("BB"), len(self.runs())), ("C", "E", 2))
 
-    def test_an_end_is_told_of_its_own_start_alone(self):
+    def test_an_end_is_reported_of_its_own_start_alone(self):
         desk = PlainDesk(day_stream({"AA": ""}))
         self.job("AA", f"echo x >> {self.room}/runs; {self.wait}")
         agent = self.agent(desk)
@@ -334,8 +210,8 @@ class Step(Room):
         for word in ("fail", "reset", "start"):
             desk.put(f"cp-{word} --app AA --ia 2024-01-01/08.00")
         self.go()
-        told = self.until(lambda: not agent.state.records, agent)
-        self.assertIn("the desk isn't told", told)
+        messages = self.until(lambda: not agent.state.records, agent)
+        self.assertIn("the desk isn't told", messages)
         self.assertEqual((desk.status("AA"), len(desk.log), len(self.runs())), ("S", 4, 1))
 
     def test_an_old_job_that_is_answered_again_hides_no_start(self):
@@ -356,8 +232,8 @@ class Step(Room):
         self.job("AA", f"sleep 60 & echo $! >> {self.room}/runs; wait")
         agent = self.agent(desk)
         agent.given = dataclasses.replace(agent.given, limit=0.5)
-        told = self.until(lambda: desk.status("AA") == "E", agent)
-        self.assertIn("by signal 15; it ran longer than 0.5 seconds", told)
+        messages = self.until(lambda: desk.status("AA") == "E", agent)
+        self.assertIn("by signal 15; it ran longer than 0.5 seconds", messages)
         ((job,),) = self.runs()
         state = Path(f"/proc/{job}/stat")
         self.until(lambda: not state.exists() or state.read_text(encoding="utf-8").rpartition(")")[2].split()[0] == "Z")
@@ -373,12 +249,12 @@ class Step(Room):
             send(known, *words)
 
         with unittest.mock.patch.object(state.State, "send", slow):
-            told = self.until(lambda: True, agent)
-        self.assertIn("it isn't started: the desk says `refused 29`", told)
+            messages = self.until(lambda: True, agent)
+        self.assertIn("it isn't started: the desk says `refused 29`", messages)
         self.until(lambda: True, agent)
         self.assertEqual((len(desk.log), self.runs(), sorted(os.listdir(self.logs))), (2, [], []))
 
-    def test_an_end_is_told_once_the_plan_is_as_it_is_known(self):
+    def test_an_end_is_reported_once_the_plan_is_as_it_is_known(self):
         """Also where it changes all the while: the last try has no condition."""
         for changes in (1, state.TRIES, 3 * state.TRIES):
             with self.subTest(changes=changes):
@@ -395,8 +271,8 @@ class Step(Room):
                             desk.put("cp-reset --app BB --ia 2024-01-01/08.01")
 
                 with unittest.mock.patch.object(state.State, "send", slow):
-                    told = self.until(lambda: not agent.state.records and desk.status("AA") == "C", agent)
-                self.assertIn("status 0; it is complete", told)
+                    messages = self.until(lambda: not agent.state.records and desk.status("AA") == "C", agent)
+                self.assertIn("status 0; it is complete", messages)
                 self.assertEqual([one["key"][-4:] for one in desk.log if "complete" in one["statement"]], ["-end"])
                 self.assertEqual(left[0], max(0, changes - state.TRIES - 1))
 
@@ -409,8 +285,8 @@ class Step(Room):
             return desk.log[-1]
 
         desk.put, agent = refuse, self.agent(desk)
-        told = self.until(lambda: True, agent)
-        self.assertIn("it isn't started: the desk says `refused 29`", told)
+        messages = self.until(lambda: True, agent)
+        self.assertIn("it isn't started: the desk says `refused 29`", messages)
         self.assertEqual(self.until(lambda: True, agent), "")
         self.assertEqual((self.runs(), sorted(os.listdir(self.logs))), ([], []))
 
@@ -433,25 +309,25 @@ class Step(Room):
         for name in ("OPEN", "log", "a"):
             self.job(name, f"touch {self.room}/runs")
         (self.jobs / "OPEN").chmod(0o757)
-        told = self.until(lambda: True, self.agent(desk))
+        messages = self.until(lambda: True, self.agent(desk))
         self.assertEqual((desk.log, self.runs(), record.serials(self.logs)), ([], [], []))
         for name in ("LINK", "FOLDER", "PLAIN", "OPEN"):
-            self.assertEqual(told.count(f"/{name}: "), 1, told)
+            self.assertEqual(messages.count(f"/{name}: "), 1, messages)
 
-    def test_who_may_not_read_is_told_why(self):
+    def test_who_may_not_read_is_reported_why(self):
         desk = PlainDesk(day_stream({"AA": ""}))
 
         def request(method, path, *_):
             if path != "/health":
-                raise client.Refused(401, "a token is wanted")
+                raise client.RequestRefused(401, "a token is wanted")
             return {}, b'{"status": "ok"}'
 
         desk.request = request
-        with self.assertRaisesRegex(client.Refused, "a token is wanted"):
+        with self.assertRaisesRegex(client.RequestRefused, "a token is wanted"):
             self.agent(desk).step()
         for answer in (b"", b"[]", b"<html>", b'{"position": "9"}', b'{"position": null}', b"\xff"):
             desk.request = lambda *_, answer=answer: ({}, answer)
-            with self.assertRaisesRegex(client.Away, "doesn't answer as a desk does"):
+            with self.assertRaisesRegex(client.DeskUnreachable, "doesn't answer as a desk does"):
                 self.agent(desk).step()
 
     def test_a_file_that_can_not_be_run_is_a_failure(self):
@@ -460,12 +336,12 @@ class Step(Room):
         (self.jobs / "AA").write_text("#!/nowhere/at/all\n", encoding="utf-8")
         self.assertIn("it can't be run", self.until(lambda: desk.status("AA") == "E", self.agent(desk)))
 
-    def test_what_is_started_by_others_is_told_and_stays(self):
+    def test_what_is_started_by_others_is_reported_and_stays(self):
         desk = PlainDesk(day_stream({"AA": ""}))
         self.job("AA", f"touch {self.room}/runs")
         desk.put("cp-start --app AA --ia 2024-01-01/08.00")
-        told = self.until(lambda: True, self.agent(desk))
-        self.assertIn("AA 2024-01-01/08.00 (serial 1) is started, and nothing here tells by whom", told)
+        messages = self.until(lambda: True, self.agent(desk))
+        self.assertIn("AA 2024-01-01/08.00 (serial 1) is started, and nothing here tells by whom", messages)
         self.assertEqual(len(desk.log), 1)
 
 
@@ -481,11 +357,11 @@ class Day(Room):
 
     def begin(self, *words):
         """A command of ./plan as a process, which ends with the test; what it tells goes to a file."""
-        told = self.room / f"told-{len(list(self.room.glob('told-*')))}"
-        with open(told, "wb") as out:
+        found = self.room / f"told-{len(list(self.room.glob('told-*')))}"
+        with open(found, "wb") as out:
             ran = subprocess.Popen([sys.executable, plans.TOP / "plan", *map(str, words)], stdout=out, stderr=out)
         self.addCleanup(self.end, ran)
-        return ran, told
+        return ran, found
 
     def end(self, ran):
         if ran.poll() is None:
@@ -509,11 +385,11 @@ class Day(Room):
             self.until(lambda count=count: len(self.runs()) >= count)
             agent.kill()
             agent.wait()
-            agent, told = self.begin_agent()
-        self.until(lambda: "works for" in told.read_text(encoding="utf-8"))
-        second, told = self.begin_agent()
+            agent, stderr = self.begin_agent()
+        self.until(lambda: "works for" in stderr.read_text(encoding="utf-8"))
+        second, stderr = self.begin_agent()
         self.assertEqual(second.wait(PATIENCE), 1)
-        self.assertIn("another agent has it", told.read_text(encoding="utf-8"))
+        self.assertIn("another agent has it", stderr.read_text(encoding="utf-8"))
         desk = client.Client(str(self.socket))
         # CA fails, so CB and DB wait: they are not begun until it is mended
         wanted = {**dict.fromkeys(DAY, "C"), "CA": "E", "CB": "W", "DB": "W"}
@@ -534,9 +410,9 @@ class Day(Room):
         tokens.write_text(f"{hashlib.sha256(token.encode()).hexdigest()} agent operate\n", encoding="ascii")
         subprocess.run([plans.PROGRAM, "--db", plan], input=day_stream({"AA": ""}).encode(), check=True,
                        capture_output=True)
-        _, told = self.begin("desk", plan, "--listen", "127.0.0.1:0", "--tokens", tokens, "--program", plans.PROGRAM)
-        self.until(lambda: "listening" in told.read_text(encoding="utf-8"))
-        address = re.search("http://[0-9.:]+", told.read_text(encoding="utf-8"))[0]
+        _, stderr = self.begin("desk", plan, "--listen", "127.0.0.1:0", "--tokens", tokens, "--program", plans.PROGRAM)
+        self.until(lambda: "listening" in stderr.read_text(encoding="utf-8"))
+        address = re.search("http://[0-9.:]+", stderr.read_text(encoding="utf-8"))[0]
         with unittest.mock.patch.dict(os.environ, {"OPCPLAN_TOKEN": token}):
             agent, _ = self.begin("agent", "--desk", f"http://127.0.0.1:9,{address}", "--jobs", self.jobs, "--logs",
                                   self.logs, "--now", "2024-01-01/12.00", "--every", "0.1")

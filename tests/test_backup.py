@@ -25,9 +25,9 @@ class Backup(BackupRoom, unittest.TestCase):
         self.assertEqual(plans.prints(self.plan), before)
         self.assertEqual(os.listdir(self.kept), ["backup.db"])
 
-    def refused(self, told, *words, status=1, **how):
+    def refused(self, message, *words, status=1, **how):
         """Asks that no copy is made, and all stays."""
-        self.refused_by(lambda: self.backup(*words, **how), told, status)
+        self.refused_by(lambda: self.backup(*words, **how), message, status)
 
     def changed(self, *texts):
         """Changes the plan by hand, so that it has no log."""
@@ -83,7 +83,7 @@ class Backup(BackupRoom, unittest.TestCase):
 
     def test_what_is_no_sound_plan(self):
         whole = self.plan.read_bytes()
-        for told, *texts in (
+        for message, *texts in (
             (str(self.plan), "DELETE FROM cp_row"),
             (str(self.plan), "UPDATE ltp_row SET app = 'no name' WHERE serial = 3"),
             (str(self.plan), "CREATE TRIGGER seen AFTER INSERT ON cp_row BEGIN SELECT 1; END"),
@@ -91,7 +91,7 @@ class Backup(BackupRoom, unittest.TestCase):
         ):
             with self.subTest(texts):
                 self.changed(*texts)
-                self.refused(told)
+                self.refused(message)
             self.plan.write_bytes(whole)
 
     def test_a_damaged_plan(self):
@@ -114,14 +114,14 @@ class Backup(BackupRoom, unittest.TestCase):
     def test_what_the_copy_may_not_take_away(self):
         (self.kept / "folder").mkdir()
         os.mkfifo(self.kept / "pipe")
-        for file, told, status in (
+        for file, message, status in (
             (self.plan, "name another file", 2),
             (Path(f"{self.plan}-wal"), "name another file", 2),
             (self.kept / "folder", "no file", 1),
             (self.kept / "pipe", "no file", 1),
         ):
             self.file = file
-            self.refused(told, "--force", status=status)
+            self.refused(message, "--force", status=status)
 
     def test_a_log_beside_the_copy_is_never_read_with_it(self):
         for tail, data in (("-wal", b"what a run left" * 9), ("-wal", b"notes"), ("-journal", b"notes")):

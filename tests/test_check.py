@@ -159,7 +159,7 @@ define options --job 24
             (17, "sets the most hours of one daily plan to 504; they were 48"),
         ])
 
-    def test_what_is_added_or_stays_is_not_told(self):
+    def test_what_is_added_or_stays_is_not_reported(self):
         plan = stream_state.Known(is_whole=True).defined
         for kind, old, new in (
             ("calendars", definitions.Calendar({5: False}), definitions.Calendar({5: False}, {20000: True})),
@@ -167,8 +167,8 @@ define options --job 24
              definitions.Period("N", entries=[definitions.Entry(1, None), definitions.Entry(9, 12)])),
             ("predecessors", {"A": None}, {"A": None, "B": 4}),
         ):
-            told = changes.of_name(kind, "X", old, new)
-            self.assertEqual([change.is_loss for change in told], [False])
+            found = changes.of_name(kind, "X", old, new)
+            self.assertEqual([change.is_loss for change in found], [False])
             self.assertEqual(changes.of_name(kind, "X", new, new), [])
             self.assertTrue(changes.of_name(kind, "X", new, old)[0].text.startswith("drops "))
         self.assertEqual(list(changes.of_options(plan, plan)), [])
@@ -249,8 +249,8 @@ define options --job 23
 default_calendar = "DEFALT"
 /*
 """
-        told = [said for said in self.findings("lint", text) if "meant?" in said[1]]
-        self.assertEqual(told, [
+        found = [said for said in self.findings("lint", text) if "meant?" in said[1]]
+        self.assertEqual(found, [
             (2, "SALLES has run cycles, and isn't defined as an application (is SALES meant?), so it isn't planned"),
             (2, "run cycle DAILY of SALLES names the period DAYS, which isn't defined (is DAY meant?)"),
             (5, "LEDGER waits for SALSE, which isn't defined (is SALES meant?), and so for nothing"),
@@ -291,7 +291,7 @@ default_calendar = "DEFALT"
         ):
             self.assertIn((line, gone.format(name, every)), self.findings("lint", text))
 
-    def test_what_the_plan_has_already_is_not_told_again(self):
+    def test_what_the_plan_has_already_is_not_reported_again(self):
         base = BASE.replace("LEDGER,SALES,", "LEDGER,NOBODY,")
         self.assertEqual(self.findings("lint", "define calendars --job 20\nNEW,SUN,FREE\n/*\n", base=base), [])
         again = "define predecessors --job 20\nLEDGER,NOBODY\n/*\n"
@@ -303,10 +303,10 @@ class Loops(InRoom):
     def test_over_stream_and_plan(self):
         """In the plan BACKUP waits for LEDGER, and LEDGER for SALES."""
         text = "define predecessors --job 20\nSALES,REPORT\nREPORT,BACKUP\n/*\nltp-modify-all --job 21\n"
-        told = ("the lists of predecessors have a loop: BACKUP waits for REPORT waits for BACKUP (on a loop with "
-                "these: "
-                "LEDGER, SALES); a planning statement that puts them into force is refused 25")
-        self.assertIn((3, told), self.findings("lint", text))
+        found = ("the lists of predecessors have a loop: BACKUP waits for REPORT waits for BACKUP (on a loop with "
+                 "these: "
+                 "LEDGER, SALES); a planning statement that puts them into force is refused 25")
+        self.assertIn((3, found), self.findings("lint", text))
         replies = plain.run(text.encode(), plans.planner_of(BASE).copy())
         self.assertEqual(replies[-1], "refused 25 BACKUP")
         mended = text.replace("REPORT,BACKUP", "REPORT,REPORT")
@@ -383,10 +383,10 @@ class Limits(InRoom):
         ):
             with self.subTest(text):
                 reply = plain.run(f"{text}\n".encode(), plans.planner_of(BASE).copy())[-1]
-                told = " ".join(self.asked("check", f"{text}\n").stdout.split())
-                self.assertTrue(told.startswith(f"line 1: {reply}: "), (reply, told))
-                self.assertIn(said, told)
-                self.assertTrue(told.endswith("0 accepted, 1 refused"), told)
+                body = " ".join(self.asked("check", f"{text}\n").stdout.split())
+                self.assertTrue(body.startswith(f"line 1: {reply}: "), (reply, body))
+                self.assertIn(said, body)
+                self.assertTrue(body.endswith("0 accepted, 1 refused"), body)
 
     @needs_program
     def test_what_the_stream_made(self):
@@ -410,9 +410,9 @@ class Limits(InRoom):
                 replies = plain.run(f"{before}{text}\n".encode(), plans.planner_of(base).copy())
                 self.assertTrue(replies[-1].startswith(wanted), replies)
                 for name in ("check", "what-if"):
-                    told = " ".join(self.asked(name, f"{before}{text}\n", base=base).stdout.split())
-                    self.assertIn(replies[-1], told)
-                    self.assertIn(says, told)
+                    output = " ".join(self.asked(name, f"{before}{text}\n", base=base).stdout.split())
+                    self.assertIn(replies[-1], output)
+                    self.assertIn(says, output)
 
     def test_explain_knows_what_the_stream_added(self):
         text = ("cp-add --app REPORT --ia 2026-11-03/09.00 --job 40\n"
@@ -420,8 +420,8 @@ class Limits(InRoom):
         replies = plain.run(text.encode(), plans.planner_of(BASE).copy())
         output = self.room / "x.out"
         output.write_text("".join(f"{reply}\n" for reply in replies), encoding="ascii")
-        told = " ".join(self.asked("explain", text, output).stdout.split())
-        self.assertIn("on that day REPORT arrives at 09.00 (waits in the current plan)", told)
+        body = " ".join(self.asked("explain", text, output).stdout.split())
+        self.assertIn("on that day REPORT arrives at 09.00 (waits in the current plan)", body)
 
     def test_sizes(self):
         """At most 200,000 rows stand in both plans together."""
@@ -431,7 +431,7 @@ class Limits(InRoom):
         self.assertEqual(said, "they have 199,990 rows, so 10 more are taken; 1,234,567 serials were given")
         self.assertEqual(len(refusals.sentences(item, 31, "", stream_state.Known())), 1)
 
-    def test_explain_tells_the_plan_too(self):
+    def test_explain_reports_the_plan_too(self):
         for text, reply, said in (
             ("dp-extend --to 2026-11-04/06.00 --job 40", "refused 32", "may be from 2026-11-04 06.01 to 2026-11-06 "
                                                                        "06.00"),
@@ -441,16 +441,16 @@ class Limits(InRoom):
         ):
             output = self.room / "x.out"
             output.write_text(f"{reply}\n", encoding="ascii")
-            told = " ".join(self.asked("explain", f"{text}\n", output).stdout.split())
-            self.assertIn(said, told)
-            self.assertNotIn("is kept with this answer", told)
+            body = " ".join(self.asked("explain", f"{text}\n", output).stdout.split())
+            self.assertIn(said, body)
+            self.assertNotIn("is kept with this answer", body)
         # the plan after the stream keeps its jobs
         after = BASE + f"{text}\n"
-        told = " ".join(self.asked("explain", f"{text}\n", output, base=after).stdout.split())
-        self.assertIn("serial 4, SALES 2026-11-03 18.00;", told)
+        body = " ".join(self.asked("explain", f"{text}\n", output, base=after).stdout.split())
+        self.assertIn("serial 4, SALES 2026-11-03 18.00;", body)
         self.assertIn("(job 40 is kept with this answer, and another try takes a new number; the plan is told as it is "
                       "now)",
-                      told)
+                      body)
 
 
 class Walked(unittest.TestCase):
@@ -483,8 +483,8 @@ class Walked(unittest.TestCase):
         wanted = {row[1:3]: "L" for row in planner.planned.values()}
         wanted |= {row[1:3]: status for row, status in planner.current.values() if status != "D"}
         wanted |= {row[1:3]: "H" for row in planner.history.values()}
-        told = {key: now.place_of(*key) for key in wanted}
-        known_ones = {key: place for key, place in told.items() if place is not None}
+        found = {key: now.place_of(*key) for key in wanted}
+        known_ones = {key: place for key, place in found.items() if place is not None}
         self.assertEqual(known_ones, {key: wanted[key] for key in known_ones})
         return len(known_ones)
 

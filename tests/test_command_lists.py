@@ -10,8 +10,8 @@ from support import TOP
 from opcplan import __main__ as command
 
 # what changes a plan or waits for callers isn't printed to a full disk, nor given damaged plans at random
-NO_PRINTERS = {"edit", "import", "restore", "send", "desk", "log", "agent"}
-NOT_AT_RANDOM = {"run", "init", "backup", "restore", "send", "desk", "log", "agent"}
+NO_PRINTERS = {"edit", "import", "restore", "send", "desk", "log", "agent", "roll", "watch"}
+NOT_AT_RANDOM = {"run", "init", "backup", "restore", "send", "desk", "log", "agent", "roll", "watch"}
 
 
 def fuzz_plan():

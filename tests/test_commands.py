@@ -32,7 +32,7 @@ READERS = {
     "days": ["PLAN", "--from", "2024-01-01"],
 }
 OF_STREAMS = {"explain", "lint"}
-WRITERS = {"init", "restore", "send", "desk", "log", "agent"}
+WRITERS = {"init", "restore", "send", "desk", "log", "agent", "roll", "watch"}
 OF_JOURNALS = {"journal"}
 
 
@@ -88,7 +88,7 @@ class Commands(unittest.TestCase):
                 db.executescript(change)
             yield name, file
 
-    def test_files_that_are_no_plan_are_told_and_stay(self):
+    def test_files_that_are_no_plan_are_reported_and_stay(self):
         for turn, (what, file) in enumerate(self.strangers()):
             for name in READERS if what in ("missing", "version") else list(READERS)[turn % 3 :: 3]:
                 with self.subTest(name, file=what):
@@ -132,7 +132,7 @@ class Commands(unittest.TestCase):
         self.assertEqual([program.summary_of(name) for name in program.SUBCOMMANDS],
                          [program.module_of(name).SUMMARY for name in program.SUBCOMMANDS])
 
-    def test_wrong_words_are_told(self):
+    def test_wrong_words_are_reported(self):
         file = plans.of_worked("monday")
         for words in ([], ["show"], ["Page"], ["--page"], ["views"], ["plan_file"], ["dump", file, "--no-such-word"],
                       *([name] for name in [*READERS, *OF_STREAMS, *OF_JOURNALS, *WRITERS])):
@@ -141,9 +141,9 @@ class Commands(unittest.TestCase):
             self.assertTrue(ran.stderr.startswith("plan: ") and ran.stderr.count("\n") == 1, ran.stderr)
 
     def test_a_subcommand_that_is_nearly_one_is_guessed(self):
-        for word, told in (("whatif", " (is what-if meant?)"), ("Page", " (is page meant?)"), ("xyz", "")):
+        for word, message in (("whatif", " (is what-if meant?)"), ("Page", " (is page meant?)"), ("xyz", "")):
             self.assertEqual(plans.plan(word).stderr,
-                             f"plan: there is no subcommand {word!r}{told}; ./plan --help lists all\n")
+                             f"plan: there is no subcommand {word!r}{message}; ./plan --help lists all\n")
 
     def test_it_runs_from_anywhere_and_by_a_link(self):
         link = self.room / "link"

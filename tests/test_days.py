@@ -69,7 +69,7 @@ class Days(unittest.TestCase):
                     day = datetime.date.fromisoformat(re.search("[0-9-]{10}", line)[0])
                     self.assertTrue(line.startswith(calendar.day_name[day.weekday()]), line)
 
-    def test_what_names_nothing_or_is_wrong_is_told(self):
+    def test_what_names_nothing_or_is_wrong_is_reported(self):
         path = plans.of_stream(BASE)
         for words, status in ((["NOBODY"], 1), (["--try", "rule=1"], 2), (["--try", "period=MONHT"], 1),
                               (["--try", "period=MONTH", "offsets=0"], 2),

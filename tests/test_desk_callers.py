@@ -100,12 +100,12 @@ class Reader(desks.Case):
         desk = self.desk()
         desk.open()
         rates = {signal.SIGSTOP: [], signal.SIGCONT: []}  # alone, and beside readers
-        with tempfile.TemporaryFile("w+") as told:
+        with tempfile.TemporaryFile("w+") as found:
             words = [sys.executable, "-c", READER, str(desk.port), path]
-            readers = [subprocess.Popen(words, stdout=told) for _ in range(count)]
+            readers = [subprocess.Popen(words, stdout=found) for _ in range(count)]
             try:
                 for turn in range(self.MOST_TURNS):
-                    if turn >= self.TURNS and os.fstat(told.fileno()).st_size:
+                    if turn >= self.TURNS and os.fstat(found.fileno()).st_size:
                         break  # on a machine that does much else the first answer takes its time
                     for what in (signal.SIGSTOP, signal.SIGCONT):
                         for reader in readers:
@@ -115,8 +115,8 @@ class Reader(desks.Case):
                 for reader in readers:
                     reader.kill()
                     reader.wait()
-            told.seek(0)
-            sizes = list(map(int, told))
+            found.seek(0)
+            sizes = list(map(int, found))
         self.end(desk)
         alone, beside = map(statistics.mean, rates.values())
         print(f"{alone:.0f} changes a second alone, {beside:.0f} beside {len(sizes)} answers to GET {path}")

@@ -34,8 +34,8 @@ class Moved(desks.Case):
         if what == "replaced":
             shutil.copyfile(f"{path}.old", path)
         try:
-            status, _, told = desk.posted(START)
-            self.assertEqual((status, told.count("\n")), (503, 1), told)
+            status, _, body = desk.posted(START)
+            self.assertEqual((status, body.count("\n")), (503, 1), body)
         except ConnectionError:
             pass  # the desk has ended
         self.assertEqual(desk.process.wait(desks.PATIENCE), 1)
@@ -97,9 +97,9 @@ class Journals(desks.Case):
         self.desks.append(strange)
         strange.posted(COMPLETE)
         self.assertEqual(strange.ended(), 0)
-        told = self.refused(other, "--journal", journal)
-        self.assertIn("journal of another plan", told)
-        self.assertIn(str(self.plan), told)
+        message = self.refused(other, "--journal", journal)
+        self.assertIn("journal of another plan", message)
+        self.assertIn(str(self.plan), message)
         desk = self.desk()
         self.assertEqual(desk.posted(COMPLETE)[2], "ok serial 1 status C\n")
         self.end(desk)
@@ -126,8 +126,8 @@ class Journals(desks.Case):
         with contextlib.suppress(OSError), open(small / "filler", "wb", buffering=0) as filler:
             while filler.write(bytes(4096)):
                 pass
-        told = self.refused(self.plan, "--journal", small / "journal")
-        self.assertIn("its disk is full", told)
+        message = self.refused(self.plan, "--journal", small / "journal")
+        self.assertIn("its disk is full", message)
 
     def test_files_are_for_their_owner_alone(self):
         old = os.umask(0o022)

@@ -41,19 +41,19 @@ def statement(caller, place):
 class Kills(desks.Case):
     def test_nothing_is_lost_and_nothing_doubled(self):
         self.serving = self.desk()
-        self.told, self.lock = {}, threading.Lock()
+        self.answers, self.lock = {}, threading.Lock()
         callers = [threading.Thread(target=self.call, args=(caller,)) for caller in range(CALLERS)]
         for caller in callers:
             caller.start()
         self.kill()
         for caller in callers:
             caller.join(300)
-        self.assertEqual(len(self.told), CALLERS * EACH)
+        self.assertEqual(len(self.answers), CALLERS * EACH)
         self.end(self.serving)
         with closing(sqlite3.connect(f"{self.plan}.journal")) as db:
             entries = db.execute("SELECT seq, who, key, job, text, reply FROM entry ORDER BY seq").fetchall()
             happened = db.execute("SELECT serial, status, seq FROM happened ORDER BY seq").fetchall()
-        changes = {place for place in self.told if not statement(*place).startswith("list")}
+        changes = {place for place in self.answers if not statement(*place).startswith("list")}
         self.assertEqual([seq for seq, *_ in entries], list(range(1, len(changes) + 1)))
         self.assertEqual(sorted(key for _, _, key, *_ in entries), sorted(f"{a}-{b}" for a, b in changes))
         self.assertEqual(len({job for _, _, _, job, *_ in entries}), len(changes))
@@ -65,7 +65,7 @@ class Kills(desks.Case):
         self.assertGreater(collections.Counter(reply.split()[0] for reply in replies)["ok"], 500)
         self.assert_plan(again)
         by_key = {key: reply for _, _, key, _, _, reply in entries}
-        self.assertEqual({f"{a}-{b}": self.told[a, b] for a, b in changes},
+        self.assertEqual({f"{a}-{b}": self.answers[a, b] for a, b in changes},
                          {key: f"{reply}\n" for key, reply in by_key.items()})
         self.assertEqual(happened, [(int(reply.split()[2]), reply.split()[4], seq) for seq, *_, reply in entries
                                     if " status " in reply])
@@ -76,11 +76,11 @@ class Kills(desks.Case):
             text = f"{statement(caller, place)}\n".encode()
             answer = to_desk.statements(text, f"{caller}-{place}", time.monotonic() + 240).decode()
             with self.lock:
-                self.told[caller, place] = answer
+                self.answers[caller, place] = answer
 
     def kill(self):
         for count, what in KILLS.items():
-            while len(self.told) < count:
+            while len(self.answers) < count:
                 time.sleep(0.01)
             if what == "opcplan":
                 os.kill(self.serving.open(), signal.SIGKILL)

@@ -62,8 +62,8 @@ class Kept(desks.Case):
     def test_whoever_has_the_state_asks_opcplan_nothing(self):
         desk = self.desk()
         tag = desk.posted("list cp --app APP00\n")[1]["ETag"]
-        status, heads, told = desk.asked("GET", "/rows?list=cp", If_None_Match=tag)
-        self.assertEqual((status, heads["ETag"], told, self.asked(desk)), (304, tag, "", 1))
+        status, heads, body = desk.asked("GET", "/rows?list=cp", If_None_Match=tag)
+        self.assertEqual((status, heads["ETag"], body, self.asked(desk)), (304, tag, "", 1))
         desk.posted(START)
         self.assertEqual(desk.asked("GET", "/rows?list=cp", If_None_Match=tag)[0], 200)
         self.end(desk)
@@ -99,9 +99,9 @@ class Long(desks.Case):
         desk = self.desk()
         desk.posted(f"{START}\ncp-delete --app APP02 --ia 2024-01-02/08.02")
         for name in LISTS:
-            told = [json.loads(line) for line in desk.asked("GET", f"/rows?list={name}")[2].splitlines()]
+            body = [json.loads(line) for line in desk.asked("GET", f"/rows?list={name}")[2].splitlines()]
             lines = desk.posted(f"list {name}\n")[2].splitlines()[:-1]
-            self.assertEqual([words_of(row) for row in told], [" ".join(line.split()) for line in lines], name)
+            self.assertEqual([words_of(row) for row in body], [" ".join(line.split()) for line in lines], name)
         found = desk.asked("GET", "/rows?list=ltp&from=2025-01-01&to=2026-12-31")[2].splitlines()
         self.assertEqual(len(found), 2 * 365 * len(desks.APPS))
         self.assertEqual({json.loads(line)["ia"][:4] for line in found}, {"2025", "2026"})
@@ -178,7 +178,8 @@ class Turned(unittest.TestCase):
     def test_lines_of_another_form_are_refused_in_a_sentence(self):
         line = b"000000007 APP1             A RC       2024-01-01 08.00 2024-01-01 20.00\n"
         for text in (line + b"000000008 APP1\n", line * 20_000 + b"x\n"):
-            with self.assertRaisesRegex(errors.Refused, "^the list can't be made: opcplan shows the list `ltp`") as one:
+            with self.assertRaisesRegex(errors.StatementRejected, "^the list can't be made: opcplan shows the list "
+                                        "`ltp`") as one:
                 self.turn(text, rows.Selection("ltp"))
             self.assertEqual((one.exception.status, str(one.exception).count("\n")), (503, 0))
 

@@ -126,8 +126,8 @@ class LivePage(desks.Case):
         for status, letters in (("S", "S"), ("E", "E"), ("C", "C"), ("W", "RBF")):
             self.assertEqual({serial for serial, state in shown.items() if state in letters},
                              {serial for serial, state in statuses.items() if state == status}, status)
-        status, _, told = desk.asked("GET", f"/page/data?since=3&now={NOW}")
-        fetched = json.loads(told)
+        status, _, body = desk.asked("GET", f"/page/data?since=3&now={NOW}")
+        fetched = json.loads(body)
         self.assertEqual((status, fetched["plan"]), (200, {**data, "made": fetched["plan"]["made"]}))
         self.assertEqual({**fetched["desk"], "clock": 0}, {**own, "clock": 0})
         for wrong in ("/?now=yesterday", "/page/data?since=x", "/page/data?since=-1"):
@@ -175,8 +175,8 @@ class LivePage(desks.Case):
         self.assertEqual([attributes["type"] for tag, attributes in parts.elements if tag == "input"], ["password"])
         self.assertIn(desk.asked("GET", "/page/data")[0], (401, 403))
         for role, token in words.items():
-            status, heads, told = desk.asked("POST", "/session", Authorization=f"Bearer {token}", X_Opcplan="desk")
-            self.assertEqual(json.loads(told), {"who": f"{role}er", "role": role})
+            status, heads, body = desk.asked("POST", "/session", Authorization=f"Bearer {token}", X_Opcplan="desk")
+            self.assertEqual(json.loads(body), {"who": f"{role}er", "role": role})
             flags = [part.strip().lower() for part in heads["Set-Cookie"].split(";")]
             self.assertTrue({"httponly", "samesite=strict"} <= set(flags), flags)
             cookie = heads["Set-Cookie"].partition(";")[0]

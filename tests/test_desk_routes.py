@@ -26,6 +26,11 @@ def line_of(kind):
     return " ".join(filter(None, [kind.name, word, *given])) + ("\n/*\n" if kind.name == "define" else "\n")
 
 
+def path_of(path):
+    """The path of a route with a value in each place."""
+    return path.replace("{serial}", "7")
+
+
 @unittest.skipIf(desks.why_not(), desks.why_not())
 class Routes(desks.Case):
     def desk_with_tokens(self):
@@ -39,7 +44,7 @@ class Routes(desks.Case):
     def status(connection, method, path, body=None, **heads):
         """The status of an answer, whose body may have no end."""
         with contextlib.closing(connection):
-            connection.request(method, path, body, {"X-Opcplan": "desk", **heads})
+            connection.request(method, path_of(path), body, {"X-Opcplan": "desk", **heads})
             return connection.getresponse().status
 
     def by_token(self, desk, token, method, path, body=None):
@@ -58,10 +63,10 @@ class Routes(desks.Case):
             for token in (None, "unknown"):
                 self.assertEqual(self.by_token(desk, token, route.method, route.path, body), wanted, route.name)
             if route.method == "GET":
-                self.assertEqual(self.by_token(desk, TOKENS["read"], "HEAD", route.path),
+                self.assertEqual(self.by_token(desk, TOKENS[route.role.name.lower()], "HEAD", route.path),
                                  405 if route.in_pieces else 200, route.name)
                 self.assertIn(self.by_token(desk, None, "HEAD", route.path), (wanted, 405), route.name)
-            self.assertEqual(self.by_token(desk, TOKENS["plan"], "PUT", route.path), 405)
+            self.assertEqual(self.by_token(desk, TOKENS["plan"], "PATCH", route.path), 405)
         for path in ("/none", "/rows/", "/page", "/page/none", "//rows"):
             self.assertEqual(self.by_token(desk, None, "GET", path), 401, path)
             self.assertEqual(self.by_token(desk, TOKENS["read"], "GET", path), 404, path)
@@ -69,7 +74,7 @@ class Routes(desks.Case):
 
     def test_a_user_without_a_role_is_refused(self):
         users = self.room / "users"
-        users.write_text("anna read\n", encoding="ascii")
+        users.write_text("anna operate\n", encoding="ascii")
         desk = self.desk("--users", str(users), "--proxy", desks.own_name(), "--host", "localhost")
         for route in routes.ROUTES:
             body = "list cp\n" if route.body else None
@@ -95,10 +100,10 @@ class Routes(desks.Case):
         self.assertRegex(found["openapi"], r"^3\.1\.")
         self.assertEqual(found["info"]["version"], (TOP / "VERSION").read_text(encoding="utf-8").strip())
         wanted = {(route.method.lower(), route.path): route for route in routes.ROUTES}
-        told = {(method, path): one for path, item in found["paths"].items() for method, one in item.items()}
-        self.assertEqual(told.keys(), wanted.keys())
-        self.assertEqual(len({one["operationId"] for one in told.values()}), len(told))
-        for key, one in told.items():
+        seen = {(method, path): one for path, item in found["paths"].items() for method, one in item.items()}
+        self.assertEqual(seen.keys(), wanted.keys())
+        self.assertEqual(len({one["operationId"] for one in seen.values()}), len(seen))
+        for key, one in seen.items():
             route = wanted[key]
             self.assertEqual(one["x-opcplan-role"], route.role.name.lower())
             own = [("header", "X-Opcplan")] if route.method != "GET" else []
@@ -107,19 +112,20 @@ class Routes(desks.Case):
             self.assertEqual("requestBody" in one, bool(route.body))
             for said in one["parameters"]:
                 re.compile(said["schema"].get("pattern", ""))
+                self.assertEqual(f"{{{said['name']}}}" in route.path, said["in"] == "path")
             for answer in one["responses"].values():
                 self.assertTrue(answer["description"])
             self.by_kind(desk, route, one["responses"])
         self.end(desk)
 
-    def by_kind(self, desk, route, told):
+    def by_kind(self, desk, route, message):
         """Asks that a route is answered by a status and in a kind that the document has."""
         with contextlib.closing(http.client.HTTPConnection("127.0.0.1", desk.port, timeout=60)) as connection:
             heads = {"X-Opcplan": "desk", "Authorization": f"Bearer {TOKENS['plan']}"}
-            connection.request(route.method, route.path, "list cp\n" if route.body else None, heads)
+            connection.request(route.method, path_of(route.path), "list cp\n" if route.body else None, heads)
             answer = connection.getresponse()
             kind = (answer.getheader("Content-Type") or "").split(";")[0]
-            self.assertIn(kind, told[str(answer.status)].get("content", {"": {}}), route.name)
+            self.assertIn(kind, message[str(answer.status)].get("content", {"": {}}), route.name)
 
     def test_parameters_are_those_that_the_desk_reads(self):
         (found,) = (route.parameters for route in routes.ROUTES if route.name == "get_rows")
@@ -128,10 +134,10 @@ class Routes(desks.Case):
     def test_the_page_has_the_same_table(self):
         text = (TOP / "docs" / "use" / "DESK.md").read_text(encoding="utf-8")
         table = re.search(r"\| Request \| Role \| Answer \|\n\|[-|]+\|\n((?:\|.*\n)+)", text)[1]
-        told = [[cell.strip() for cell in line.strip("|").split(" | ")] for line in table.splitlines()]
+        found = [[cell.strip() for cell in line.strip("|").split(" | ")] for line in table.splitlines()]
         wanted = [(f"{route.method} {route.path}", f"{route.role.name.lower()}{', or less' if route.lesser else ''}",
                    route.answer) for route in routes.ROUTES]
-        self.assertEqual([(asked.strip("`").partition("?")[0], *more) for asked, *more in told], wanted)
+        self.assertEqual([(asked.strip("`").partition("?")[0], *more) for asked, *more in found], wanted)
 
     def test_a_handler_that_is_not_in_the_table_is_not_asked(self):
         resource = types.SimpleNamespace(canonical="/more")

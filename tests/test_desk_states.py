@@ -8,7 +8,7 @@ import dataclasses
 import time
 import unittest
 
-from support.desk_worlds import explored, Kind, QUESTION, Stream, walked, Wrong
+from support.desk_worlds import explored, InvariantViolated, Kind, QUESTION, Stream, walked
 
 from opcplan.desk import state
 
@@ -117,7 +117,7 @@ class Mutants(unittest.TestCase):
     """A state as it once was is caught in the world that it is about."""
 
     def caught(self, kind_of_state, name):
-        with self.assertRaises(Wrong) as caught:
+        with self.assertRaises(InvariantViolated) as caught:
             explored(WORLDS[name], kind_of_state)
         return str(caught.exception)
 

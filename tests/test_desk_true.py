@@ -47,9 +47,9 @@ class Positions(desks.Case):
         found = desk.comes(lambda found: found.get("status") == "stopped")
         self.assertEqual(found["position"], 1)
         for path in ("/snapshot", "/page/data"):
-            status, heads, told = self.got(desk, path)
+            status, heads, body = self.got(desk, path)
             self.assertEqual((status, heads["X-Opcplan-Position"]), (200, "1"), path)
-        self.assertEqual(told["desk"]["position"], 1)
+        self.assertEqual(body["desk"]["position"], 1)
         tag = heads["ETag"]
         self.index("DROP INDEX mine")
         desk.comes(lambda found: found.get("status") == "ok" and found["position"] == 2)
@@ -78,17 +78,17 @@ class Answered(desks.Case):
         other.start()
         lacking = []
         for place in range(150):
-            told = desk.posted(f"cp-add --app APP00 --ia 2024-01-02/{place // 60:02}.{place % 60:02}",
+            body = desk.posted(f"cp-add --app APP00 --ia 2024-01-02/{place // 60:02}.{place % 60:02}",
                                Accept="application/x-ndjson")[2]
-            seq = json.loads(told)["seq"]
+            seq = json.loads(body)["seq"]
             found = desk.asked("GET", f"/journal?from={seq}")[2].splitlines()
             if not found or json.loads(found[0])["seq"] != seq:
                 lacking.append(seq)
         stop.set()
         other.join()
         self.assertEqual(lacking, [])
-        told = [json.loads(line)["seq"] for line in desk.asked("GET", "/journal")[2].splitlines()]
-        self.assertEqual(told, list(range(1, len(told) + 1)))
+        body = [json.loads(line)["seq"] for line in desk.asked("GET", "/journal")[2].splitlines()]
+        self.assertEqual(body, list(range(1, len(body) + 1)))
         self.end(desk)
 
     @staticmethod
@@ -106,11 +106,11 @@ class Answered(desks.Case):
             head = f"GET /events HTTP/1.0\r\nHost: 127.0.0.1:{desk.port}\r\nLast-Event-ID: {max(0, seq - 3)}\r\n\r\n"
             with closing(desks.raw(desk.port, head.encode())) as listener:
                 lines = listener.makefile()
-                told = []
-                while len(told) < 5 and (line := lines.readline()):
+                seen = []
+                while len(seen) < 5 and (line := lines.readline()):
                     if found := re.match("id: ([0-9]+)", line):
-                        told.append(int(found[1]))
-            self.assertEqual(told, list(range(max(1, seq - 2), max(1, seq - 2) + 5)))
+                        seen.append(int(found[1]))
+            self.assertEqual(seen, list(range(max(1, seq - 2), max(1, seq - 2) + 5)))
         stop.set()
         other.join()
         self.end(desk)
@@ -121,15 +121,15 @@ class Keys(desks.Case):
     def test_a_key_stands_for_one_stream(self):
         desk = self.desk()
         first, second = f"list cp --app APP19\n{START}\n", f"{FAIL}\n"
-        told = {}
+        found = {}
         for key, text in (("k", f"{START}\n"), ("l", first)):
-            told[key] = desk.posted(text, Idempotency_Key=key)[2]
+            found[key] = desk.posted(text, Idempotency_Key=key)[2]
         for turn in range(3):
             self.refused(desk, "k", f"{START}\n{FAIL}\n")
             self.refused(desk, "l", second)
             self.refused(desk, "l", f"{START}\n")
             for key, text in (("k", f"{START}\n"), ("l", first)):
-                self.assertEqual(desk.posted(text, Idempotency_Key=key)[2], told[key])
+                self.assertEqual(desk.posted(text, Idempotency_Key=key)[2], found[key])
             if turn == 1:
                 desk.ended(signal.SIGKILL)
                 desk = self.desk()
@@ -139,8 +139,8 @@ class Keys(desks.Case):
         self.assert_plan((job(1, START) + job(2, START)).encode())
 
     def refused(self, desk, key, text):
-        status, _, told = desk.posted(text, Idempotency_Key=key)
-        self.assertEqual((status, told.count("\n")), (409, 1), (key, text))
+        status, _, body = desk.posted(text, Idempotency_Key=key)
+        self.assertEqual((status, body.count("\n")), (409, 1), (key, text))
 
 
 @unittest.skipIf(desks.why_not(), desks.why_not())
@@ -148,12 +148,13 @@ class Heads(desks.Case):
     def test_head_has_no_body(self):
         desk = self.desk()
         desk.posted(START)
-        for path in ("/rows?list=cp", "/journal", "/snapshot", "/events", "/health", "/metrics", "/page/data", "/"):
+        for path in ("/rows?list=cp", "/journal", "/snapshot", "/events", "/health", "/metrics", "/status",
+                     "/page/data", "/"):
             host = f"Host: 127.0.0.1:{desk.port}\r\n"
             text = f"HEAD {path} HTTP/1.1\r\n{host}\r\nGET /health HTTP/1.1\r\n{host}Connection: close\r\n\r\n"
             with closing(desks.raw(desk.port, text.encode())) as one:
-                told = one.makefile("rb").read()
-            _, _, behind = told.partition(b"\r\n\r\n")
+                found = one.makefile("rb").read()
+            _, _, behind = found.partition(b"\r\n\r\n")
             self.assertTrue(behind.startswith(b"HTTP/1.1 200"), (path, behind[:60]))
         self.end(desk)
 

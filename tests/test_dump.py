@@ -17,7 +17,7 @@ DEFINITIONS = "calendar_entry plan_period application run_cycle run_cycle_offset
 
 
 def refused(*_):
-    raise plain.Refused(20)
+    raise plain.Refusal(20)
 
 
 class Definer(plain.Planner):
@@ -73,7 +73,7 @@ class Dump(unittest.TestCase):
                 is_used_up = max(planner.jobs, default=0) == dump.GREATEST_JOB
                 with plan_file.opened(self.file_of(text, planner)) as plan:
                     if is_used_up:
-                        self.assertRaises(dump.NoRoom, dump.stream_of, plan)
+                        self.assertRaises(dump.Unprintable, dump.stream_of, plan)
                     stream = dump.stream_of(plan, 1 if is_used_up else None).encode()
                 again, answers = after(stream)
                 self.assertEqual(defined(again), defined(planner))
@@ -145,7 +145,7 @@ class Dump(unittest.TestCase):
                 self.assertEqual(left["plan_meta"][0][-2:], right["plan_meta"][0][-2:])
                 self.assertEqual(dumped(second, "--job", 1), stream)
 
-    def test_numbers_that_are_none_or_used_up_are_told(self):
+    def test_numbers_that_are_none_or_used_up_are_reported(self):
         file = plans.of_worked("first-days")
         for word in ("0", "01", "-1", "x", "", "1000000000"):
             ran = plans.plan("dump", file, "--job", word)
@@ -154,7 +154,7 @@ class Dump(unittest.TestCase):
         self.assertEqual((ran.returncode, ran.stdout), (1, ""))
         self.assertIn("no job numbers are left", ran.stderr)
 
-    def test_what_is_no_plan_is_told(self):
+    def test_what_is_no_plan_is_reported(self):
         nowhere = Path(self.room.name) / "nowhere.db"
         ran = plans.plan("dump", nowhere)
         self.assertEqual((ran.returncode, ran.stdout), (1, ""))

@@ -244,15 +244,15 @@ class Edit(unittest.TestCase):
         file = self.written(planner)
         for given, gone, come in EDITS:
             with self.subTest(given):
-                status, text, told = edited(file, given)
+                status, text, message = edited(file, given)
                 if gone is None:
-                    self.assertEqual((status, text), (1, ""), told)
+                    self.assertEqual((status, text), (1, ""), message)
                     continue
-                self.assertEqual(status, 0, told)
+                self.assertEqual(status, 0, message)
                 number = max(planner.jobs) + 1
                 self.assertIn(f" --job {number}\n", text)
                 way = "at once" if given.startswith("options max") else "isn't an active" if "TRIAL" in given else None
-                self.assertIn(way or f"`ltp-modify-all --job {number + 1}`", told)
+                self.assertIn(way or f"`ltp-modify-all --job {number + 1}`", message)
                 before = records(file)
                 self.assertIn(plain.run(text.encode(), planner), (["ok defined 1"], ["ok undefined"]))
                 file = self.written(planner)
@@ -273,21 +273,21 @@ class Edit(unittest.TestCase):
                 self.ask_differs(given, before, records(file), gone or [], come or [])
         modify = b"ltp-modify-all --job 999\n"
         self.assertEqual(plan_rows.run(modify, file)[0].decode().splitlines(), plain.run(modify, planner))
-        told = {table: sorted(rows, key=repr) for table, rows in plan_rows.rows_told(planner).items()}
-        self.assertEqual(plan_rows.rows_of(file), told)
+        found = {table: sorted(rows, key=repr) for table, rows in plan_rows.table_rows(planner).items()}
+        self.assertEqual(plan_rows.rows_of(file), found)
 
-    def test_what_is_no_change_is_told_and_prints_nothing(self):
+    def test_what_is_no_change_is_reported_and_prints_nothing(self):
         file = self.written(plans.planner_of(BASE))
         before = plans.prints(file)
         for given, wanted, says in REFUSED:
             with self.subTest(given):
-                status, text, told = edited(file, given)
-                self.assertEqual((status, text), (wanted, ""), told)
-                self.assertRegex(told, r"\Aplan: [^\n]+\n\Z")
-                self.assertIn(says, told)
+                status, text, message = edited(file, given)
+                self.assertEqual((status, text), (wanted, ""), message)
+                self.assertRegex(message, r"\Aplan: [^\n]+\n\Z")
+                self.assertIn(says, message)
         self.assertEqual(plans.prints(file), before)
 
-    def test_words_of_no_text_are_told(self):
+    def test_words_of_no_text_are_reported(self):
         file = self.written(plans.planner_of(BASE))
         for given in (b"calendar DEFAULT 2027-01-0\xff free", b"run-cycle SALES DAILY offset=\x1b[2J1",
                       b"run-cycle SALES DAILY \x1b[2J=1", b"options default_calendar=A\xff", b"period DAY \x1b=1",
@@ -296,10 +296,10 @@ class Edit(unittest.TestCase):
             ran = plans.subprocess.run([plans.TOP / "plan", "edit", file, *given.split(b" ")], capture_output=True,
                                        check=False)
             self.assertEqual((ran.returncode, ran.stdout), (2, b""), ran)
-            told = ran.stderr.decode()
-            self.assertTrue(told.startswith("plan: ") and told.endswith("\n") and told[:-1].isprintable(), told)
+            stderr = ran.stderr.decode()
+            self.assertTrue(stderr.startswith("plan: ") and stderr.endswith("\n") and stderr[:-1].isprintable(), stderr)
 
-    def test_rows_that_no_record_can_give_are_told(self):
+    def test_rows_that_no_record_can_give_are_reported(self):
         planner = plans.planner_of(BASE)
         for change, given in (
             ("UPDATE calendar_entry SET calendar = 'A' || char(10) WHERE calendar = 'BANK'", "calendar BANK MON free"),
@@ -317,20 +317,20 @@ class Edit(unittest.TestCase):
                     db.execute("PRAGMA foreign_keys = OFF")
                     db.execute(change)
                     db.commit()
-                status, text, told = edited(file, given)
-                self.assertEqual((status, text), (1, ""), told)
-                self.assertRegex(told, r"\Aplan: [ -~]+\n\Z")
+                status, text, message = edited(file, given)
+                self.assertEqual((status, text), (1, ""), message)
+                self.assertRegex(message, r"\Aplan: [ -~]+\n\Z")
 
     def test_a_number_that_is_free_is_taken(self):
         text = BASE + b"undefine periods --name LONE --job 999999999\n"
         file = self.written(plans.planner_of(text))
-        status, text, told = edited(file, "options max_extension_hours=48")
+        status, text, message = edited(file, "options max_extension_hours=48")
         self.assertEqual((status, text), (1, ""))
-        self.assertIn("--job", told)
+        self.assertIn("--job", message)
         _, text, _ = edited(file, "options max_extension_hours=48 --job 9")
         self.assertTrue(text.startswith("define options --job 9\n"), text)
 
-    def test_what_is_told(self):
+    def test_what_is_reported(self):
         """Each stream that is printed here and not run has a number of its own, from 9 on."""
         file = self.written(plans.planner_of(BASE))
         for given, says in (
@@ -345,15 +345,15 @@ class Edit(unittest.TestCase):
                                                       "`ltp-modify-one --app SALES --job 14`"]),
             ("run-cycle BACKUP FIFTH offset=6", ["past each interval of WORK5"]),
             ("predecessor LEDGER add BACKUP 12", ["loop"]),
-            ("predecessor SALES add SHOP", ["SALES waits for SHOP too, without a limit", "waits for no other"]),
+            ("predecessor SALES add SHOP", ["SALES waits for SHOP, without a limit", "waits for nothing else"]),
             ("period MONTH add 2027-01-16", ["- 2027-01-01 to 2027-01-31; + 2027-01-01 to 2027-01-15; + 2027-01-16 to "
                                              "2027-01-31; 2 stay", "NOT of SALES, MONTHLY of SHOP"]),
             ("period WORK5 interval=6", ["intervals of 5 work days", "FIFTH of BACKUP"]),
         ):
             with self.subTest(given):
-                told = edited(file, given)[2]
+                message = edited(file, given)[2]
                 for part in says:
-                    self.assertIn(part, told)
+                    self.assertIn(part, message)
 
     def test_without_standard_error_the_stream_stands_alone(self):
         file = self.written(plans.planner_of(BASE))
@@ -363,9 +363,9 @@ class Edit(unittest.TestCase):
 
     def test_plan_without_long_term_plan(self):
         file = self.written(plans.planner_of(BASE.partition(b"ltp-create")[0]))
-        status, text, told = edited(file, "calendar DEFAULT 2027-01-06 free")
+        status, text, message = edited(file, "calendar DEFAULT 2027-01-06 free")
         self.assertEqual((status, text.count("\n")), (0, 7))
-        self.assertIn("`ltp-create` will go by it", told)
+        self.assertIn("`ltp-create` will go by it", message)
 
 
 if __name__ == "__main__":

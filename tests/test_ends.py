@@ -78,7 +78,7 @@ class Ends(unittest.TestCase):
         self.assertEqual(os.listdir(self.temporary), [], words)
         return found
 
-    def check_told(self, ran, *said):
+    def check_reported(self, ran, *said):
         """Asks that one line was told, without a traceback."""
         text = ran.stderr.decode()
         self.assertEqual((ran.returncode, text.count("\n")), (1, 1), text)
@@ -89,13 +89,13 @@ class Ends(unittest.TestCase):
     def test_standard_output_that_is_full(self):
         for name, given in PRINTERS.items():
             with self.subTest(name), open("/dev/full", "wb") as full:
-                self.check_told(self.ran(self.words(name, given), stdout=full), "standard output", "No space left")
+                self.check_reported(self.ran(self.words(name, given), stdout=full), "standard output", "No space left")
 
     def test_standard_output_that_is_closed(self):
         for name, given in PRINTERS.items():
             with self.subTest(name):
                 ran = self.ran(["sh", "-c", '"$0" "$@" >&-', *self.words(name, given)])
-                self.check_told(ran, "standard output: it is closed")
+                self.check_reported(ran, "standard output: it is closed")
 
     def test_what_prints_nothing_needs_no_standard_output(self):
         out = self.room / "page.html"
@@ -122,7 +122,7 @@ class Ends(unittest.TestCase):
 
     def test_standard_input_that_is_closed(self):
         ran = self.ran(["sh", "-c", '"$0" "$@" <&-', *self.words("what-if", ["PLAN", "-"])])
-        self.check_told(ran, "standard input: it can't be read")
+        self.check_reported(ran, "standard input: it can't be read")
 
     def test_signals_take_the_copy_away(self):
         """A pipe that nobody reads, or a stream that nobody writes, holds the command while it has its copy."""
@@ -137,8 +137,8 @@ class Ends(unittest.TestCase):
                         wait_for(lambda: name == "page" or os.listdir(self.temporary))
                         time.sleep(2 if name == "page" else 0.1)
                         ran.send_signal(number)
-                        _, told = ran.communicate(timeout=60)
-                    self.assertEqual((ran.returncode, told), (-number, b""))
+                        _, errors = ran.communicate(timeout=60)
+                    self.assertEqual((ran.returncode, errors), (-number, b""))
                     self.assertEqual(os.listdir(self.temporary), [])
                     self.assertEqual(plans.prints(self.plan), before)
 
@@ -151,8 +151,8 @@ class Ends(unittest.TestCase):
                               preexec_fn=heed) as ran:
             wait_for(lambda: (self.room / "number").exists() and (self.room / "number").read_text().strip())
             ran.send_signal(signal.SIGTERM)
-            _, told = ran.communicate(timeout=60)
-        self.assertEqual((ran.returncode, told, os.listdir(self.temporary)), (-signal.SIGTERM, b"", []))
+            _, errors = ran.communicate(timeout=60)
+        self.assertEqual((ran.returncode, errors, os.listdir(self.temporary)), (-signal.SIGTERM, b"", []))
         with self.assertRaises(ProcessLookupError):
             os.kill(int((self.room / "number").read_text()), 0)
 
@@ -173,15 +173,15 @@ class Ends(unittest.TestCase):
         for name, given in OF_STREAMS.items():
             for file in ("/dev/zero", "/dev/full"):
                 with self.subTest(name, file=file):
-                    self.check_told(self.bounded(self.words(name, given, STREAM=file)), file, "more than 64 MiB")
-        self.check_told(self.bounded(self.words("explain", ["STREAM", "/dev/zero"])), "/dev/zero: ", "1,024 MiB")
+                    self.check_reported(self.bounded(self.words(name, given, STREAM=file)), file, "more than 64 MiB")
+        self.check_reported(self.bounded(self.words("explain", ["STREAM", "/dev/zero"])), "/dev/zero: ", "1,024 MiB")
 
     def test_a_line_of_a_hundred_megabytes(self):
         zeros = self.room / "zeros"
         with open(zeros, "wb") as file:
             file.truncate(100_000_000)
         for name, given in OF_STREAMS.items():
-            self.check_told(self.bounded(self.words(name, given, STREAM=zeros)), str(zeros), "more than 64 MiB")
+            self.check_reported(self.bounded(self.words(name, given, STREAM=zeros)), str(zeros), "more than 64 MiB")
         with open(zeros, "wb") as file:
             file.truncate(60_000_000)
         ran = self.bounded(self.words("what-if", ["PLAN", "STREAM", "--program", str(plans.PROGRAM)], STREAM=zeros))
@@ -195,13 +195,13 @@ class Ends(unittest.TestCase):
             file.truncate(100_000_000)
         for name in ("what-if", "page", "late"):
             ran = self.bounded(self.words(name, PRINTERS[name], PLAN=zeros))
-            self.check_told(ran, str(zeros), "not a database")
+            self.check_reported(ran, str(zeros), "not a database")
 
     def test_more_lines_than_are_read(self):
         stream = self.room / "lines.in"
         stream.write_bytes(b"\n" * 1_000_001)
         for name, given in OF_STREAMS.items():
-            self.check_told(self.bounded(self.words(name, given, STREAM=stream)), "1,000,000 lines")
+            self.check_reported(self.bounded(self.words(name, given, STREAM=stream)), "1,000,000 lines")
 
     def test_what_is_no_file(self):
         fifo, folder, place = self.room / "fifo", self.room / "folder", self.room / "socket"
@@ -214,21 +214,23 @@ class Ends(unittest.TestCase):
             for turn, name in enumerate(sorted(PRINTERS.keys() - reads_none)):
                 for file in (files[turn % 6], files[(turn + 3) % 6]):
                     with self.subTest(name, plan=file):
-                        self.check_told(self.ran(self.words(name, PRINTERS[name], PLAN=file)), f"{file}: it is no file")
+                        self.check_reported(self.ran(self.words(name, PRINTERS[name], PLAN=file)), f"{file}: it is no "
+                                            "file")
             for file in files:
                 with self.subTest("journal", journal=file):
-                    self.check_told(self.ran(self.words("journal", PRINTERS["journal"], JOURNAL=file)),
-                                    f"{file}: it is no file")
+                    self.check_reported(self.ran(self.words("journal", PRINTERS["journal"], JOURNAL=file)),
+                                        f"{file}: it is no file")
             for name, given in OF_STREAMS.items():
                 for file in (folder, place):
                     with self.subTest(name, stream=file):
-                        self.check_told(self.ran(self.words(name, given, STREAM=file)), f"{file}: it can't be read")
+                        self.check_reported(self.ran(self.words(name, given, STREAM=file)), f"{file}: it can't be read")
 
     def test_a_log_that_is_no_file(self):
         log = Path(f"{self.plan}-wal")
         log.unlink(missing_ok=True)
         os.symlink("/dev/zero", log)
-        self.check_told(self.bounded(self.words("late", PRINTERS["late"])), str(self.plan), "plan.db-wal is no file")
+        self.check_reported(self.bounded(self.words("late", PRINTERS["late"])), str(self.plan), "plan.db-wal is no "
+                            "file")
 
     def test_a_stream_from_a_pipe(self):
         os.mkfifo(self.room / "pipe")
@@ -254,8 +256,8 @@ class Ends(unittest.TestCase):
     def test_names_that_a_terminal_would_obey(self):
         for name in ("\x1b[31mred", "two\nlines", "\x9bcsi", "back\u202ewards", os.fsdecode(b"\xff\xfe")):
             for words in (["late", name], ["lint", name], [name], ["dump", "PLAN", name]):
-                told = self.ran(self.words(words[0], words[1:])).stderr.decode()
-                self.assertTrue(told.startswith("plan: ") and told.removesuffix("\n").isprintable(), ascii(told))
+                stderr = self.ran(self.words(words[0], words[1:])).stderr.decode()
+                self.assertTrue(stderr.startswith("plan: ") and stderr.removesuffix("\n").isprintable(), ascii(stderr))
 
     def test_no_folder_for_the_copy(self):
         for place in (self.room / "nowhere", "/proc"):
@@ -268,9 +270,9 @@ class Ends(unittest.TestCase):
         limit = lambda: resource.setrlimit(resource.RLIMIT_FSIZE, (10_000, 10_000))  # noqa: E731
         for name in ("late", "what-if"):
             ran = self.ran(self.words(name, PRINTERS[name]), preexec_fn=limit)
-            self.check_told(ran, str(self.plan), "can't be read")
+            self.check_reported(ran, str(self.plan), "can't be read")
 
-    def test_a_defect_is_told_in_a_sentence(self):
+    def test_a_defect_is_reported_in_a_sentence(self):
         """With a module that is wrong, and so with the traceback only where it is asked for."""
         wrong = self.room / "wrong"
         shutil.copytree(plans.TOP / "python", wrong / "python")

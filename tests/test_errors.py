@@ -13,14 +13,15 @@ from support import TOP
 
 from opcplan import __main__ as command
 from opcplan import errors
+from opcplan.cli import words
 
 PACKAGE = TOP / "python" / "opcplan"
 BUILTIN = {name for name, one in vars(builtins).items() if isinstance(one, type) and issubclass(one, BaseException)}
 # a signal is no error: `__main__.run` takes it, and the process ends by it
-SIGNAL = ("cli/signals.py", "Stopped", "BaseException")
-SAYS = {"tell", "print"}
+SIGNAL = ("cli/signals.py", "SignalReceived", "BaseException")
+SAYS = {"print_message", "print_sentences", "print"}
 # what a process is run by: the command itself, and those that make the page and the lists of a desk
-MAINS = {"__main__.py", "desk/page_process.py", "desk/rows_process.py"}
+MAINS = {"__main__.py", "desk/needs_process.py", "desk/page_process.py", "desk/rows_process.py"}
 
 
 def trees():
@@ -63,10 +64,10 @@ def is_failure(value):
 
 def answered(error):
     """Status and messages of a command that ends by an error."""
-    told = io.StringIO()
-    with mock.patch.object(command, "main", side_effect=error), contextlib.redirect_stderr(told), \
+    stderr = io.StringIO()
+    with mock.patch.object(command, "main", side_effect=error), contextlib.redirect_stderr(stderr), \
             contextlib.redirect_stdout(io.StringIO()):
-        return command.status_of([]), told.getvalue()
+        return command.status_of([]), stderr.getvalue()
 
 
 class Full(io.StringIO):
@@ -86,7 +87,8 @@ class Errors(unittest.TestCase):
         self.assertEqual(found, [])
 
     def test_an_error_that_is_printed_elsewhere_is_found(self):
-        for text in ("words.tell('a')\n    return 2", "edit_words.tell(['a'])\n    return why.exit_status",
+        for text in ("words.print_message('a')\n    return 2", "edit_words.print_sentences(['a'])\n    return "
+                     "why.exit_status",
                      "print('a', file=sys.stderr)\n    return FAILED"):
             self.assertEqual(list(says_and_ends(ast.parse(f"def f():\n    {text}"))), [3], text)
         tree = ast.parse("class A(ValueError):\n    pass\nclass B(A):\n    pass")
@@ -96,21 +98,21 @@ class Errors(unittest.TestCase):
         class Other(errors.Unreadable):
             exit_status = 8
 
-        told = f"{Path(command.words.CALLED).name}: it isn't so\n"
-        for kind, status in ((errors.Error, 1), (errors.WrongWords, 2), (errors.Unreadable, 1),
+        found = f"{Path(words.CALLED).name}: it isn't so\n"
+        for kind, status in ((errors.Error, 1), (errors.UsageError, 2), (errors.Unreadable, 1),
                              (errors.Unwritable, 1), (errors.LogUnwritable, 1), (Other, 8)):
-            self.assertEqual(answered(kind("it isn't so")), (status, told), kind)
+            self.assertEqual(answered(kind("it isn't so")), (status, found), kind)
 
     def test_an_error_keeps_its_status_where_output_has_no_reader(self):
-        told = io.StringIO()
-        with mock.patch.object(command, "main", side_effect=errors.WrongWords("no")), \
-                contextlib.redirect_stderr(told), mock.patch.object(sys, "stdout", mock.Mock(
+        stderr = io.StringIO()
+        with mock.patch.object(command, "main", side_effect=errors.UsageError("no")), \
+                contextlib.redirect_stderr(stderr), mock.patch.object(sys, "stdout", mock.Mock(
                     flush=mock.Mock(side_effect=BrokenPipeError))):
             self.assertEqual(command.status_of([]), 2)
-        with mock.patch.object(command, "main", return_value=0), contextlib.redirect_stderr(told), \
+        with mock.patch.object(command, "main", return_value=0), contextlib.redirect_stderr(stderr), \
                 mock.patch.object(sys, "stdout", Full()):
             self.assertEqual(command.status_of([]), 1)
-        self.assertEqual(told.getvalue(), "plan: no\nplan: standard output: it can't be written\n")
+        self.assertEqual(stderr.getvalue(), "plan: no\nplan: standard output: it can't be written\n")
 
 
 if __name__ == "__main__":

@@ -39,7 +39,7 @@ class Words(unittest.TestCase):
         self.addCleanup(room.cleanup)
         self.room = Path(room.name)
 
-    def told(self, status, *words):
+    def error_of(self, status, *words):
         """What is told in one line on standard error, where the status is as asked."""
         ran = plans.plan(*words)
         self.assertEqual((ran.returncode, ran.stdout, ran.stderr.count("\n")), (status, "", 1), (words, ran.stderr))
@@ -57,18 +57,18 @@ class Words(unittest.TestCase):
         for text in WRONG_LOGS:
             with self.subTest(text), self.assertRaises(argparse.ArgumentTypeError):
                 log_words.address(text)
-        self.assertIn("argument LOG", self.told(2, "log", WRONG_LOGS[-1]))
-        self.assertIn("argument --log", self.told(2, "desk", self.room / "p.db", "--log", WRONG_LOGS[-1]))
+        self.assertIn("argument LOG", self.error_of(2, "log", WRONG_LOGS[-1]))
+        self.assertIn("argument --log", self.error_of(2, "desk", self.room / "p.db", "--log", WRONG_LOGS[-1]))
 
     def test_words_that_go_together(self):
         plan = self.room / "p.db"
         for words in (["--from", "http://h:1"], ["--etcd-ca", "ca.pem"], ["--etcd-user", "user"],
                       ["--etcd-cert", "c", "--etcd-key", "k"], ["--log", ETCD, "--etcd-cert", "c.pem"],
                       ["--log", ETCD, "--etcd-key", "k.pem"]):
-            self.told(2, "desk", plan, *words)
+            self.error_of(2, "desk", plan, *words)
         for words in (["--etcd-cert", "c.pem"], ["--keep", "-1"], ["--keep", "x"], ["--trim", "--version"],
                       ["--trim", "--begin", plan]):
-            self.told(2, "log", ETCD, *words)
+            self.error_of(2, "log", ETCD, *words)
         self.assertFalse(plan.exists())
 
     def test_who_is_asked_as_whom(self):
@@ -78,10 +78,10 @@ class Words(unittest.TestCase):
             if is_right:
                 self.assertEqual(log_words.user_of(path), ("desk", "secret"))
             else:
-                self.assertIn(str(path), self.told(1, "log", ETCD, "--etcd-user", path))
-        self.assertIn("nobody", self.told(1, "log", ETCD, "--etcd-user", self.room / "nobody"))
-        self.told(1, "log", ETCD, "--etcd-ca", self.room / "nobody.pem")
-        self.told(1, "log", ETCD, "--etcd-ca", self.room / "one")
+                self.assertIn(str(path), self.error_of(1, "log", ETCD, "--etcd-user", path))
+        self.assertIn("nobody", self.error_of(1, "log", ETCD, "--etcd-user", self.room / "nobody"))
+        self.error_of(1, "log", ETCD, "--etcd-ca", self.room / "nobody.pem")
+        self.error_of(1, "log", ETCD, "--etcd-ca", self.room / "one")
 
 
 @unittest.skipIf(desks.why_not(), desks.why_not())
@@ -107,11 +107,11 @@ class Nobody(desks.Case):
     def test_no_desk_to_begin_with(self):
         new = self.room / "new.db"
         for source in (f"http://127.0.0.1:{free_port()}", str(self.room / "none.socket"), "ftp://h"):
-            told = self.refused("desk", new, "--log", ETCD, "--from", source, "--program", plans.PROGRAM)
-            self.assertIn("there is no plan to begin with", told)
+            message = self.refused("desk", new, "--log", ETCD, "--from", source, "--program", plans.PROGRAM)
+            self.assertIn("there is no plan to begin with", message)
         alone = self.desk()
-        told = self.refused("desk", new, "--log", ETCD, "--from", alone.socket, "--program", plans.PROGRAM)
-        self.assertIn("no desk over a log that others share", told)
+        message = self.refused("desk", new, "--log", ETCD, "--from", alone.socket, "--program", plans.PROGRAM)
+        self.assertIn("no desk over a log that others share", message)
         self.end(alone)
         self.assertEqual([name for name in os.listdir(self.room) if name.startswith("new")], [])
 
@@ -119,13 +119,14 @@ class Nobody(desks.Case):
         for tail in ("-wal", "-journal"):
             new = self.room / f"new{tail}.db"
             Path(f"{new}{tail}").write_bytes(b"x" * 100)
-            told = self.refused("desk", new, "--log", ETCD, "--from", "http://127.0.0.1:9", "--program", plans.PROGRAM)
-            self.assertIn(f"{new}{tail} is left of another plan", told)
+            message = self.refused("desk", new, "--log", ETCD, "--from", "http://127.0.0.1:9", "--program",
+                                   plans.PROGRAM)
+            self.assertIn(f"{new}{tail} is left of another plan", message)
             self.assertFalse(new.exists())
 
     def test_no_plan_and_no_desk_named(self):
-        told = self.refused("desk", self.room / "new.db", "--log", ETCD, "--program", plans.PROGRAM)
-        self.assertIn("there is no such file", told)
+        message = self.refused("desk", self.room / "new.db", "--log", ETCD, "--program", plans.PROGRAM)
+        self.assertIn("there is no such file", message)
 
     def test_the_next_desk_is_asked_where_one_is_away(self):
         desk = self.desk()
@@ -139,8 +140,8 @@ class Nobody(desks.Case):
         self.end(desk)
 
     def test_a_program_that_is_no_opcplan(self):
-        told = self.refused("desk", self.plan, "--log", ETCD, "--program", "/bin/false", "--listen", "127.0.0.1:0")
-        self.assertIn("/bin/false", told)
+        message = self.refused("desk", self.plan, "--log", ETCD, "--program", "/bin/false", "--listen", "127.0.0.1:0")
+        self.assertIn("/bin/false", message)
 
 
 class Names(unittest.TestCase):
@@ -153,7 +154,7 @@ class Names(unittest.TestCase):
         ):
             self.assertEqual(client.Client(text).places, places)
         for text in ("", "http://", "http://a:1,https://", "http://a:1/x", "ftp://a,http://b"):
-            with self.subTest(text), self.assertRaises(client.Wrong):
+            with self.subTest(text), self.assertRaises(client.InvalidAddress):
                 client.Client(text)
 
 

@@ -70,9 +70,9 @@ def parts(lines):
     for part in "\n".join(lines).split("\n\n"):
         head, _, rest = part.strip("\n").partition("\n")
         if head.startswith("line "):
-            reply, _, told = rest.strip().partition("\n")
+            reply, _, seen = rest.strip().partition("\n")
             number, _, head = head.removeprefix("line ").partition(": ")
-            found[int(number)] = head, reply, " ".join(told.split())
+            found[int(number)] = head, reply, " ".join(seen.split())
     return found
 
 
@@ -96,11 +96,11 @@ class Worked(unittest.TestCase):
         refused = {number: (line, reply) for (number, line, _), reply in zip(answered(text), replies)
                    if reply.startswith("refused")}
         lines, count, of_all = explained(text, output)
-        told = parts(lines)
+        found = parts(lines)
         self.assertEqual({number: reply for number, (_, reply) in refused.items()},
-                         {number: reply for number, (_, reply, _) in told.items()})
+                         {number: reply for number, (_, reply, _) in found.items()})
         self.assertEqual((count, of_all), (len(refused), len(replies)))
-        for number, (head, reply, sentences) in told.items():
+        for number, (head, reply, sentences) in found.items():
             line = refused[number][0]
             self.assertTrue(sentences)
             if all(32 <= byte < 127 or byte == 9 for byte in line):
@@ -110,10 +110,10 @@ class Worked(unittest.TestCase):
 
     def check_record_line(self, text, sentences):
         """The line of a faulty record is the line that is shown."""
-        told = re.search(r"record [0-9]+ of its data, line ([0-9]+), is faulty `(.*?)`", sentences)
-        line = text.split(b"\n")[int(told.group(1)) - 1].rstrip(b"\r") if told else b""
-        if told and all(32 < byte < 127 for byte in line):
-            self.assertEqual(line[:90].decode().split("`")[0], told.group(2))
+        found = re.search(r"record [0-9]+ of its data, line ([0-9]+), is faulty `(.*?)`", sentences)
+        line = text.split(b"\n")[int(found.group(1)) - 1].rstrip(b"\r") if found else b""
+        if found and all(32 < byte < 127 for byte in line):
+            self.assertEqual(line[:90].decode().split("`")[0], found.group(2))
 
     def test_what_is_said_holds_by_the_plain_planner(self):
         """Over a new plan, and where no plan is known."""
@@ -127,7 +127,7 @@ class Worked(unittest.TestCase):
             self.assertTrue(all(seen[number] > 3 for number in numbers), seen)
 
     def check_worked(self, name, text, output, seen):
-        told, planner = parts(explained(text, output, self.is_whole)[0]), plain.Planner()
+        found, planner = parts(explained(text, output, self.is_whole)[0]), plain.Planner()
         if name == "tuesday":
             plain.run(plans.stream("monday"), planner)
         for number, line, block in answered(text):
@@ -137,12 +137,12 @@ class Worked(unittest.TestCase):
             lines = plain.answer(planner, words, block) if readable and words else ["refused 10"]
             if lines[-1].startswith("refused"):
                 with self.subTest(name, line=number):
-                    self.assertEqual(told[number][1], lines[-1])
-                    self.check(before, plain.read_statement(words) if readable else None, block, told[number], seen)
+                    self.assertEqual(found[number][1], lines[-1])
+                    self.check(before, plain.read_statement(words) if readable else None, block, found[number], seen)
 
-    def check(self, planner, statement, block, told, seen):
+    def check(self, planner, statement, block, message, seen):
         """Holds one explanation against what the plain planner knows before the statement."""
-        _, reply, text = told
+        _, reply, text = message
         number, detail = int(reply.split()[1]), reply.split()[2:]
         seen[number] += 1
         if number == 10:
@@ -183,10 +183,10 @@ class Worked(unittest.TestCase):
         self.assertNotIn(calendar, planner.defined["calendars"])
 
     def check_23(self, planner, _word, _values, _block, detail, text):
-        told = re.findall(r"([A-Z0-9@#$]+) names the period ([A-Z0-9@#$]+) \(line [0-9]+\)", text)
+        found = re.findall(r"([A-Z0-9@#$]+) names the period ([A-Z0-9@#$]+) \(line [0-9]+\)", text)
         lacking = [(name, cycle["period"]) for name, cycle in sorted(planner.defined["run-cycles"][detail[0]].items())
                    if cycle["period"] not in planner.defined["periods"]]
-        self.assertEqual(told, lacking[:5])
+        self.assertEqual(found, lacking[:5])
 
     def check_24(self, planner, _word, values, *rest):
         self.check_bounds(planner, rest[-1])
@@ -283,7 +283,7 @@ def plain_fault(item):
     csv.field_size_limit(MOST_OF_BLOCK + 1)
     try:
         plain.read_block(item.statement.alone, item.data)
-    except plain.Refused as refused:
+    except plain.Refusal as refused:
         return int(refused.line.split()[2])
     return None
 
@@ -328,20 +328,21 @@ class Command(unittest.TestCase):
               "ltp-add --app A --ia 2027-01-06/12.00 --job 12\nltp-extend --to 2027-02-01 --job 13\n"
               "cp-start --app A --ia 2027-02-01/09.00 --job 14\n")
 
-    def test_what_may_be_in_the_plan_alone_is_not_told(self):
+    def test_what_may_be_in_the_plan_alone_is_not_reported(self):
         """Days are counted by the calendar of the plan: 4 work days after Friday, 1 January 2027, with that one."""
-        for more, is_told in (("", False), (self.OPTIONS, False), (self.CALENDAR, False),
-                              (self.OPTIONS + self.CALENDAR, True)):
+        for more, is_reported in (("", False), (self.OPTIONS, False), (self.CALENDAR, False),
+                                  (self.OPTIONS + self.CALENDAR, True)):
             text = more + self.STREAM
             planner = plans.planner_of(self.PLAN).copy()
             replies = plain.run(text.encode(), planner)
             self.assertEqual(plain.moment_text(planner.bounds[2]), "2027-01-07 00.00")
             self.assertEqual([reply[:10] for reply in replies[-3:]], ["refused 24", "refused 24", "refused 28"])
-            told = self.ask(text.encode(), "".join(f"{reply}\n" for reply in replies).encode(), 1)
-            self.assertEqual(told.count("end of the current plan: "), 3 if is_told else 0, told)
-            self.assertEqual(told.count("(by this stream alone, long-term plan: 2027-01-01 to 2027-02-28; end of the "
-                                        "current plan: 2027-01-07 00.00)"), 3 if is_told else 0, told)
-            self.assertIn("it arrives before the current plan's end or after the last day of the long-term plan", told)
+            output = self.ask(text.encode(), "".join(f"{reply}\n" for reply in replies).encode(), 1)
+            self.assertEqual(output.count("end of the current plan: "), 3 if is_reported else 0, output)
+            self.assertEqual(output.count("(by this stream alone, long-term plan: 2027-01-01 to 2027-02-28; end of the "
+                                          "current plan: 2027-01-07 00.00)"), 3 if is_reported else 0, output)
+            self.assertIn("it arrives before the current plan's end or after the last day of the long-term plan",
+                          output)
 
     def test_jobs_that_a_plan_may_keep_say_nothing_of_now(self):
         """The first two were answered as in an earlier run; since then another stream went on."""
@@ -353,23 +354,23 @@ class Command(unittest.TestCase):
                 "cp-start --app A --ia 2027-01-01/08.00 --job 14\n")
         replies = plain.run(text.encode(), planner)
         self.assertEqual([reply[:8] for reply in replies], ["ok made ", "ok moved", *["refused "] * 3])
-        told = self.ask(text.encode(), "".join(f"{reply}\n" for reply in replies).encode(), 1)
-        self.assertEqual(told.count("2027-01-02 00.00"), told.count("(by this stream alone, "), told)
-        self.assertIn("it has another status", told)
+        output = self.ask(text.encode(), "".join(f"{reply}\n" for reply in replies).encode(), 1)
+        self.assertEqual(output.count("2027-01-02 00.00"), output.count("(by this stream alone, "), output)
+        self.assertIn("it has another status", output)
 
     def test_nothing(self):
         self.assertEqual(self.ask(b"", b"", 0), "0 statements, none refused.")
 
     def test_a_line_that_only_looks_like_an_end(self):
-        told = self.ask(b"define calendars --job 1\nC,SAT,FREE\n/* \nlist cp\n", b"refused 11 0\n", 1)
-        self.assertIn("line 3 only looks like such a line", told)
-        self.assertIn("1 of 1 statement was refused.", told)
+        output = self.ask(b"define calendars --job 1\nC,SAT,FREE\n/* \nlist cp\n", b"refused 11 0\n", 1)
+        self.assertIn("line 3 only looks like such a line", output)
+        self.assertIn("1 of 1 statement was refused.", output)
 
     def test_a_fault_and_an_output_that_is_cut(self):
         text = b"list cp\n* again\nlist ltp\n"
-        told = self.ask(text, b"ok rows 0\nfault 41\n", 1)
-        self.assertIn("fault 41: ", told)
-        self.assertIn("The run ended before line 3 was answered.", told)
+        output = self.ask(text, b"ok rows 0\nfault 41\n", 1)
+        self.assertIn("fault 41: ", output)
+        self.assertIn("The run ended before line 3 was answered.", output)
         self.assertIn("before line 3 is answered: list ltp", self.ask(text, b"ok rows 0\n", 1))
         self.assertIn("fault 50: ", self.ask(text, b"fault 50\n", 1))
 
@@ -392,7 +393,7 @@ class Command(unittest.TestCase):
         wrong += [("define periods --job 1\nP,A,2024-01-01,1", reply) for reply in ("ok defined 1", "refused 12")]
         wrong += [("list cp\nlist cp", "fault 41\nok rows 0"), ("list cp\nlist cp", "fault 41\nfault 41")]
         for text, output in wrong:
-            with self.subTest(text, output=output), self.assertRaises(explanations.Unlike):
+            with self.subTest(text, output=output), self.assertRaises(explanations.OutputMismatch):
                 explained(f"{text}\n".encode(), f"{output}\n".encode())
 
     def test_options_that_no_reader_of_toml_likes(self):
@@ -400,9 +401,9 @@ class Command(unittest.TestCase):
         deep, long = "a = " + "[" * 100_000, "max_extension_hours = " + "9" * 5000
         hexadecimal = "max_extension_hours = 0x" + "f" * 5000
         for data in (deep, deep + "]" * 100_000, long, hexadecimal, "a = 2024-99-99", "\x00", "a.b.c = 1; b"):
-            told = self.ask(f"define options --job 1\n{data}\n/*\n".encode(), b"refused 11 1\n", 1)
-            self.assertIn("record 1 of its data, line 2, is faulty", told)
-            self.assertIn("1 of 1 statement was refused", told)
+            output = self.ask(f"define options --job 1\n{data}\n/*\n".encode(), b"refused 11 1\n", 1)
+            self.assertIn("record 1 of its data, line 2, is faulty", output)
+            self.assertIn("1 of 1 statement was refused", output)
 
     def test_wrong_words_and_files(self):
         for given in ((), (self.room / "x.in",), ("a", "b", "c")):

@@ -290,7 +290,7 @@ class Export(unittest.TestCase):
         self.assertEqual([(event["SUMMARY"], event.get("DTEND")) for event in events],
                          [("AT@ONCE", None), ("EARLY", None), ("LATER", "20240409T120100")])
 
-    def test_nothing_found_is_told(self):
+    def test_nothing_found_is_reported(self):
         for name, words in (("empty", []), ("first-days", []), ("each-list", ["--app", "NOBODY"]),
                             ("each-list", ["--from", "2050-01-01"]), ("each-list", ["--to", "1999-01-01"])):
             for form in ("--ics", "--csv", "--json"):
@@ -298,7 +298,7 @@ class Export(unittest.TestCase):
                 self.assertEqual((ran.returncode, ran.stdout), (1, ""), (name, words))
                 self.assertTrue(ran.stderr.startswith("plan: "))
 
-    def test_wrong_words_are_told(self):
+    def test_wrong_words_are_reported(self):
         file = plans.of_worked("each-list")
         for words in ([], ["--ics", "--csv"], ["--csv", "--set", "all"], ["--csv", "--from", "2024-02-30"],
                       ["--csv", "--app", "two words"], ["--xml"], ["--raw"], ["--ics", "--raw"], ["--json", "--raw"]):

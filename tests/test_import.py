@@ -8,7 +8,7 @@ from unittest import mock
 
 from support import plans
 
-from opcplan.commands import import_, import_ics
+from opcplan.commands import import_, import_ics, init
 from opcplan.errors import Unreadable
 
 
@@ -211,7 +211,7 @@ class Import(unittest.TestCase):
         after = self.planner.defined["calendars"]["DEFAULT"]
         return {key: work for key, work in after.items() if before.get(key) is not work}, before.keys() - after.keys()
 
-    def ask_told(self, ran, status, says):
+    def check_error(self, ran, status, says):
         self.assertEqual((ran.returncode, ran.stdout), (status, ""), ran.stderr)
         self.assertTrue(ran.stderr.startswith("plan: ") and ran.stderr[:-1].isprintable(), ran.stderr)
         self.assertIn(says, ran.stderr)
@@ -246,14 +246,14 @@ class Import(unittest.TestCase):
         planner = self.planner.copy()
         self.assertEqual(self.ask_printed(ran), (wanted, set()))
         self.planner = planner
-        self.ask_told(self.asked(text, "--ics", "given", "--calendar", "BANK"), 1, "no calendar BANK")
+        self.check_error(self.asked(text, "--ics", "given", "--calendar", "BANK"), 1, "no calendar BANK")
         ran = self.asked(text, "--ics", "given", "--calendar", "BANK", "--new", "--to", "2027-12-31")
         self.assertIn("Saturdays", ran.stderr)
         self.ask_printed(ran)
         self.assertEqual(self.planner.defined["calendars"]["BANK"], {("date", plain.read_day("2027-05-06")): False})
 
     @unittest.skipUnless(has_library(), "python3-icalendar isn't there")
-    def test_what_is_no_calendar_is_told(self):
+    def test_what_is_no_calendar_is_reported(self):
         for data, says in ((b"", "no calendar"), (b"no calendar", "iCalendar"), (b"\xff\xfe\x00", "iCalendar"),
                            (b"END:VCALENDAR\n", "iCalendar"), (b"BEGIN:VCALENDAR\nBEGIN:VEVENT\n", "midst"),
                            (b"DTSTART:20270101\n", "iCalendar"), (b"BEGIN:VCALENDAR\nEND:VCALENDAR\n", "no day"),
@@ -261,9 +261,9 @@ class Import(unittest.TestCase):
                            (b"BEGIN:VCALENDAR\nBEGIN:VEVENT\nDTSTART:20270101\nRRULE:FREQ=YEARLY;BYMO\r\n NTH\n"
                             b"END:VEVENT\nEND:VCALENDAR\n", "without a sign =")):
             status = 1 if says == "no day" else 2
-            self.ask_told(self.asked(data, "--ics", "given", "--calendar", "DEFAULT"), status, says)
+            self.check_error(self.asked(data, "--ics", "given", "--calendar", "DEFAULT"), status, says)
 
-    def test_lack_of_the_library_is_told(self):
+    def test_lack_of_the_library_is_reported(self):
         for debian in ("/nowhere/python3", "/bin/false"):
             is_lacking = mock.patch("importlib.util.find_spec", return_value=None)
             with is_lacking, mock.patch.object(import_ics, "DEBIAN", debian):
@@ -285,7 +285,7 @@ class Import(unittest.TestCase):
         wanted = {("date", day): False for day in days_of("2027-05-02", "2027-05-03")}
         self.assertEqual(self.ask_printed(ran), (wanted, set()))
 
-    def test_wrong_records_are_told(self):
+    def test_wrong_records_are_reported(self):
         for data, says in ((b"2027-02-30\n", "line 1: there is no 30 February in 2027"),
                            (b"01.05.2027\n", "line 1: as YYYY-MM-DD it is 2027-05-01"),
                            (b"2027-05-01;free\n", "semicolons"), (b"2027-05-01,closed\n", "'closed'"),
@@ -294,9 +294,10 @@ class Import(unittest.TestCase):
                            (b"2027-05-01,\x1b[2J\n", "neither free nor work"), (b"2027-05-0\xff\n", "byte"),
                            (b"2072-01-01\n", "2071"), (b'2027-05-01,"' + b"x" * 200_000 + b'"\n', "no CSV"),
                            (b"x\n" * 9, "and 4 more lines")):
-            self.ask_told(self.asked(data, "--csv", "given", "--calendar", "DEFAULT"), 2, says)
-        self.ask_told(self.asked(b"\n\n", "--csv", "given", "--calendar", "DEFAULT"), 1, "no day")
-        self.ask_told(self.asked(b"2027-01-01\n", "--csv", "given", "--calendar", "DEFAULT"), 1, "nothing would change")
+            self.check_error(self.asked(data, "--csv", "given", "--calendar", "DEFAULT"), 2, says)
+        self.check_error(self.asked(b"\n\n", "--csv", "given", "--calendar", "DEFAULT"), 1, "no day")
+        self.check_error(self.asked(b"2027-01-01\n", "--csv", "given", "--calendar", "DEFAULT"), 1, "nothing would "
+                         "change")
 
     # Crontabs
 
@@ -346,15 +347,66 @@ class Import(unittest.TestCase):
         self.assertEqual(len(names), len(NAMES))
         self.assertEqual({self.planner.defined["applications"][name] for name in names}, {(True, "DEFAULT")})
 
-    def test_lines_that_do_not_fit_are_told_with_their_number(self):
+    def plan_of(self, text):
+        """Takes another plan, of a stream."""
+        self.planner = plain.Planner()
+        plain.run(text.encode(), self.planner)
+        self.plan.unlink()
+        plans.write(self.planner, self.plan)
+
+    def test_periods_that_init_makes_are_taken(self):
+        """Also where they begin next year or end before the days that are usual, while nobody named days."""
+        lines = ["0 5 * * 1-5 first", "30 6 1,15 * * second", "15 7 * * * third"]
+        data, year = "\n".join([*lines, ""]).encode(), datetime.date.today().year
+        for first, last, planned in ((year, year + 1, ""), (year + 1, year + 1, ""), (year + 1, year + 2, ""),
+                                     (year, year + 1, f"{year}-03-04 {year + 1}-12-31"),
+                                     (year + 1, year + 1, f"{year + 1}-02-03 {year + 1}-07-31")):
+            with self.subTest((first, last, planned)):
+                text = init.stream_of(init.Years(first, last), (5, 6), [])
+                begin, end = planned.split() or (f"{first}-01-01", f"{last}-12-31")
+                self.plan_of(text + (f"ltp-create --from {begin} --to {end} --job 90\n" if planned else ""))
+                ran = self.asked(data, "--cron", "given")
+                self.assertEqual(self.cron_planner(ran, 0), ["FIRST", "SECOND", "THIRD"])
+                self.assertEqual(sorted(self.planner.defined["periods"]), "DAY MONTH QUARTER WEEK".split())
+                self.assertIn(f"MONTH of the plan is taken; its months go from {max(begin[:7], f'{first}-01')}-01 to "
+                              f"{last}-12-31", ran.stderr)
+                self.assertEqual("DAY of the plan is taken; it begins" in ran.stderr, first > year and not planned)
+                for app, line in zip(("FIRST", "SECOND", "THIRD"), lines):
+                    self.ask_runs([line], app, begin, end)
+
+    def test_periods_that_lack_days_of_the_plan_are_not_taken(self):
+        """Nor is one of the usual name that is something else, or that has a hole."""
+        months = [(f"2027-{number:02}", (31, 28, 31, 30, 31)[number - 1]) for number in range(1, 6)]
+        month = [f"MONTH,N,{name}-01,{name}-{last}\n" for name, last in months]
+        create = "ltp-create --from 2027-01-01 --to 2027-05-31 --job 9\n"
+        for periods, words, made in (("".join(month), "", ""), ("".join(month[:-1]), "", "MONTH2"),
+                                     ("".join(month[:2] + month[3:]), "", "MONTH2"),
+                                     ("".join(month), "--to 2027-12-31", "MONTH2"),
+                                     ("".join(month), "--to 2027-05-31", ""),
+                                     ("MONTH,A,2027-01-01,30\n", "", "MONTH2"),
+                                     ("MONTH,N,2027-01-01,2027-05-31\n", "", "MONTH2")):
+            with self.subTest((periods, words)):
+                self.plan_of(f"define periods --job 1\n{periods}/*\n{create}")
+                ran = self.asked(b"0 4 1,15 * * job\n", "--cron", "given", *words.split())
+                self.cron_planner_alone(ran)
+                self.assertEqual(set(self.planner.defined["periods"]), {"MONTH", *([made] if made else [])})
+                self.ask_runs(["0 4 1,15 * * job"], "JOB", "2027-01-01", "2027-05-31")
+
+    def cron_planner_alone(self, ran):
+        """Takes what a crontab gave into a plan that has no calendar."""
+        self.assertEqual(ran.returncode, 0, ran.stderr)
+        self.assertEqual({line.split()[1] for line in plain.run(ran.stdout.encode(), self.planner)}, {"defined"})
+
+    def test_lines_that_do_not_fit_are_reported_with_their_number(self):
         text = "\n".join(["0 1 * * * good", *UNFIT])
         ran = self.asked(text.encode(), "--cron", "given")
         self.assertEqual(self.cron_planner(ran, 1), ["GOOD"])
-        told = [line.split(" is left out: ") for line in ran.stderr.splitlines() if "left out" in line]
-        self.assertEqual([start for start, _ in told], [f"plan: line {number}" for number in range(2, len(UNFIT) + 2)])
+        stderr = [line.split(" is left out: ") for line in ran.stderr.splitlines() if "left out" in line]
+        self.assertEqual([start for start, _ in stderr],
+                         [f"plan: line {number}" for number in range(2, len(UNFIT) + 2)])
         self.assertTrue(all(line.isprintable() for line in ran.stderr.splitlines()))
-        self.ask_told(self.asked(b"* * * * * often\n", "--cron", "given"), 1, "1,440 times a day")
-        self.ask_told(self.asked(b"CRON_TZ=UTC\n0 1 * * x\n", "--cron", "given"), 1, "time zone")
+        self.check_error(self.asked(b"* * * * * often\n", "--cron", "given"), 1, "1,440 times a day")
+        self.check_error(self.asked(b"CRON_TZ=UTC\n0 1 * * x\n", "--cron", "given"), 1, "time zone")
 
     def test_lines_with_users(self):
         data = b"0 1 * * * root /bin/good\n@daily www-data /bin/fine\n0 2 * * * root\n"
@@ -369,12 +421,12 @@ class Import(unittest.TestCase):
             text = self.asked(data, *words).stdout.encode() + b"ltp-modify-all --job %d\n" % (90 + len(data))
             answers, status = plan_rows.run(text, plan)
             self.assertEqual((answers.decode().splitlines(), status), (plain.run(text, self.planner), 0))
-        told = {table: sorted(rows, key=repr) for table, rows in plan_rows.rows_told(self.planner).items()}
-        self.assertEqual(plan_rows.rows_of(plan), told)
+        found = {table: sorted(rows, key=repr) for table, rows in plan_rows.table_rows(self.planner).items()}
+        self.assertEqual(plan_rows.rows_of(plan), found)
 
     # Words and files
 
-    def test_wrong_words_and_files_are_told(self):
+    def test_wrong_words_and_files_are_reported(self):
         before = plans.prints(self.plan)
         (self.room / "given").write_bytes(b"2027-05-01\n")
         for words, status, says in (
@@ -389,7 +441,7 @@ class Import(unittest.TestCase):
         ):
             with self.subTest(words):
                 words = [self.room / word if word in ("given", "nowhere") else word for word in words.split()]
-                self.ask_told(plans.plan_here(import_, *words, self.plan), status, says)
+                self.check_error(plans.plan_here(import_, *words, self.plan), status, says)
         (self.room / "given").unlink()
         self.assertEqual(plans.prints(self.plan), before)
 

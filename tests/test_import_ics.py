@@ -88,7 +88,7 @@ class ImportIcs(unittest.TestCase):
                 self.assertEqual(" ".join(re.findall("(?m)^X,(.*),FREE$", ran.stdout)), days, ran.stderr)
                 self.assertEqual(ran.returncode, 0, ran.stderr)
 
-    def test_what_is_not_taken_is_told_with_the_name_of_its_event(self):
+    def test_what_is_not_taken_is_reported_with_the_name_of_its_event(self):
         for of_calendar, events, days, says in LEFT:
             with self.subTest(events=events):
                 ran = self.asked(of_calendar, events)

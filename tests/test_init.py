@@ -76,7 +76,7 @@ class Init(unittest.TestCase):
         self.assertIn("--yes runs it without asking", ran.stderr)
         ran = plans.plan(*words, "--yes", text="")
         self.assertEqual((ran.returncode, ran.stdout.endswith("ok defined 1\nok defined 4\n")), (0, True), ran.stderr)
-        self.assertIn(f"{self.plan} held no plan: a new one was made in it", ran.stderr)
+        self.assertIn(f"{self.plan}: the file held no plan, so a new one was made in it", ran.stderr)
         text = plans.plan_in_here("dump", self.plan).stdout
         self.assertEqual(definitions_of(text), self.made_by(*words[2:-2]))
         before = plans.prints(self.plan)
@@ -84,6 +84,22 @@ class Init(unittest.TestCase):
         self.assertEqual((ran.returncode, ran.stdout, ran.stderr.count("\n")), (1, "", 1))
         self.assertIn("`./plan edit` changes it", ran.stderr)
         self.assertEqual(plans.prints(self.plan), before)
+
+    def test_what_it_says_comes_next_makes_a_plan_that_is_extended(self):
+        said = plans.plan("init", self.plan, "--years", "2027", "--program", plans.PROGRAM, "--yes", text="").stderr
+        edit, create, roll = (part.removeprefix("./plan ") for part in said.splitlines()[-1].split("`")[1::2])
+        edit, _, run = edit.partition(" | ")
+        self.assertEqual(run, f"./opcplan --db {self.plan}")
+        text = plans.plan(*edit.replace("NAME", "PAY").split()).stdout
+        self.assertEqual(expected.asked(self.plan, text.encode())[:2], (["ok defined 1"] * 2, 0))
+        create = create.replace("DAY", "2027-05-03", 1).replace("DAY", "2027-05-31", 1)
+        ran = plans.plan(*create.split())
+        # 21 work days from Monday on, since no holiday is listed
+        self.assertEqual((ran.returncode, ran.stdout), (0, "ok made 21 withdrawn 0\n"))
+        ran = plans.plan(*roll.split(), "--reserve", "1d", "--now", "2027-05-03/08.00")
+        self.assertEqual(ran.returncode, 0, ran.stderr)
+        rows = plans.plan_in_here("rows", self.plan, "cp").stdout.splitlines()
+        self.assertEqual([row.split()[3:5] for row in rows[:-1]], [["DAY", f"2027-05-0{day}"] for day in (3, 4)])
 
     def made_by(self, *words):
         return definitions_of(plans.plan_in_here("init", self.room / "other.db", "--stream", *words).stdout)
@@ -100,7 +116,7 @@ class Init(unittest.TestCase):
         text = plans.plan_in_here("dump", self.plan).stdout
         self.assertEqual(definitions_of(text), self.made_by("--years", "2027", "--weekend", "SUN"))
 
-    def test_what_is_no_year_and_no_day_is_told(self):
+    def test_what_is_no_year_and_no_day_is_reported(self):
         for words in (["--years", "27"], ["--years", "2028..2027"], ["--years", "2000..2060"], ["--weekend", "SAT,SON"],
                       ["--holidays", self.room / "none.csv"]):
             ran = plans.plan_in_here("init", self.plan, "--stream", *words)
@@ -158,8 +174,8 @@ ltp-create --from 2027-01-04 --to 2027-01-31 --job 5
              "define periods --job 6\nWEEK,A,2027-01-04,7\n/*\n"),
         ):
             with self.subTest(words):
-                status, text, told = self.edited(*words.split(), "--job", "6")
-                self.assertEqual(status, 0, told)
+                status, text, message = self.edited(*words.split(), "--job", "6")
+                self.assertEqual(status, 0, message)
                 self.assertEqual(definitions_of(self.BASE + text), definitions_of(self.BASE + block))
                 copy = plans.copy_of(self.plan, self.plan.parent, "try.db")
                 self.assertEqual(expected.asked(copy, text.encode())[1], 0)
@@ -167,13 +183,13 @@ ltp-create --from 2027-01-04 --to 2027-01-31 --job 5
 
     def test_a_new_application_comes_into_the_plan(self):
         words = "application PAY new period=MONTH rule=3 offsets=25 ia=08.00 deadline=0/16.00".split()
-        status, text, told = self.edited(*words)
-        self.assertIn("`ltp-modify-one --app PAY --job 8` for PAY alone,", told)
+        status, text, message = self.edited(*words)
+        self.assertIn("`ltp-modify-one --app PAY --job 8` for PAY alone,", message)
         text += "ltp-modify-one --app PAY --job 8\nlist ltp --app PAY\n"
         self.assertEqual(expected.asked(self.plan, text.encode())[0],
                          plans.plain.run(text.encode(), plans.planner_of(self.BASE).copy()))
 
-    def test_what_can_not_be_made_is_told(self):
+    def test_what_can_not_be_made_is_reported(self):
         for words, status, said in (
             ("application LEDGER new", 1, "LEDGER is there already"),
             ("application LEGDER active", 1, "(is LEDGER meant?); `./plan edit PLAN.db application LEGDER new"),
@@ -190,9 +206,9 @@ ltp-create --from 2027-01-04 --to 2027-01-31 --job 5
             ("period YEAR new type=A", 2, "is wanted too"),
         ):
             with self.subTest(words):
-                found, text, told = self.edited(*words.split())
-                self.assertEqual((found, text, told.count("\n")), (status, "", 1), told)
-                self.assertIn(said, told)
+                found, text, message = self.edited(*words.split())
+                self.assertEqual((found, text, message.count("\n")), (status, "", 1), message)
+                self.assertIn(said, message)
 
 
 if __name__ == "__main__":

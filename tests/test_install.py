@@ -3,6 +3,7 @@ completion and versions; and when ./opcplan takes the sums of its sources."""
 
 import os
 import re
+import shlex
 import shutil
 import sqlite3
 import subprocess
@@ -23,7 +24,7 @@ MAN = {"MANROFFSEQ": "", "MANWIDTH": "80", "LC_ALL": "C.UTF-8"}
 
 def ran(*given, text=None, **how):
     """What a command answers, as texts."""
-    return subprocess.run(given, input=text, capture_output=True, encoding="utf-8", check=False, timeout=60, **how)
+    return subprocess.run(given, input=text, capture_output=True, encoding="utf-8", check=False, timeout=240, **how)
 
 
 def make(target, **words):
@@ -89,9 +90,9 @@ class Installed(unittest.TestCase):
         sources, kit = (TOP / "release" / "SOURCES").read_text(encoding="utf-8").strip().split(" ", 1)
         with closing(sqlite3.connect(plans.copy_of(plans.of_worked("monday"), self.folder, "version.db"))) as db:
             (schema,) = db.execute("SELECT version FROM plan_meta").fetchone()
-        told = f"schema {schema}\nsources {sources}\nkit {kit}\n"
-        self.assertEqual(plans.plan("--version").stdout, f"plan {version}\n{told}")
-        self.assertEqual(self.asked("opcplan-plan", "--version").stdout, f"opcplan-plan {version}\n{told}")
+        found = f"schema {schema}\nsources {sources}\nkit {kit}\n"
+        self.assertEqual(plans.plan("--version").stdout, f"plan {version}\n{found}")
+        self.assertEqual(self.asked("opcplan-plan", "--version").stdout, f"opcplan-plan {version}\n{found}")
         released = re.findall(r"^## \[([0-9.]+)\] - \d{4}-\d\d-\d\d$", (TOP / "CHANGELOG.md").read_text("utf-8"), re.M)
         self.assertEqual(released[0], version)
         if "--version" in self.asked("opcplan", "--help").stdout:
@@ -218,6 +219,27 @@ class Installed(unittest.TestCase):
             self.assertNotIn("top folder", text)
             self.assertEqual(text.count("$(mktemp -d) && cd "), 1, name)
 
+    def test_files_for_systemd(self):
+        """All units, users and folders are there, and each command is the one that was installed."""
+        sources = TOP / "tools" / "package" / "systemd"
+        system = self.prefix / "lib" / "systemd" / "system"
+        self.assertEqual(below(system), sorted(path.name for path in sources.glob("*@.*")))
+        for name in ("sysusers", "tmpfiles"):
+            self.assertEqual((self.prefix / "lib" / f"{name}.d" / "opcplan.conf").read_bytes(),
+                             (sources / f"{name}.conf").read_bytes())
+        commands = [line for name in below(system) for line in (system / name).read_text("utf-8").splitlines()
+                    if "opcplan-plan" in line and line.startswith("Exec")]
+        self.assertEqual(len(commands), 5)
+        for line in commands:
+            self.assertEqual(shlex.split(line.partition("=")[2])[0], str(self.prefix / "bin" / "opcplan-plan"))
+        self.assertNotIn("/usr/bin/opcplan", "".join((system / name).read_text("utf-8") for name in below(system)))
+
+    @has("systemd-analyze")
+    def test_units_are_taken_where_they_stand(self):
+        system = self.prefix / "lib" / "systemd" / "system"
+        said = ran("systemd-analyze", "verify", "--man=no", *(system / name for name in below(system)))
+        self.assertEqual([line for line in said.stderr.splitlines() if "opcplan" in line and "sqlite3" not in line], [])
+
     def test_pages_that_are_named_are_there(self):
         named = 0
         for path in self.prefix.rglob("*"):
@@ -238,7 +260,9 @@ class Installed(unittest.TestCase):
             self.assertRegex(field, f"(?m)^{line}")
         root = self.folder / "package"
         self.assertEqual(ran("dpkg-deb", "-R", package, root).returncode, 0)
-        self.assertEqual(below(root / "DEBIAN"), ["control", "md5sums"])
+        self.assertEqual(below(root / "DEBIAN"), ["control", "md5sums", "postinst"])
+        self.assertEqual(ran("sh", "-n", root / "DEBIAN" / "postinst").returncode, 0)
+        self.assertIn("systemd-sysusers opcplan.conf", (root / "DEBIAN" / "postinst").read_text(encoding="utf-8"))
         zsh = {name.replace("site-functions", "vendor-completions") for name in below(self.prefix)}
         more = {"share/doc/opcplan/changelog.gz", "share/doc/opcplan/copyright"}
         self.assertEqual({name.removesuffix(".gz") if "/man" in name else name for name in below(root / "usr")},
@@ -285,7 +309,7 @@ class ByPip(unittest.TestCase):
             here, there = ((without_time(one.stdout), one.stderr) for one in (plans.plan(*words), self.asked(*words)))
             self.assertEqual(there, here, words)
 
-    def test_it_tells_its_version(self):
+    def test_it_reports_its_version(self):
         version = (TOP / "VERSION").read_text(encoding="utf-8").strip()
         self.assertEqual(self.asked("--version").stdout, f"plan {version}\nschema 2\n")
         answered = ran(DEBIAN, self.target / "bin" / "opcplan-plan", "--version", env=self.env, cwd="/")

@@ -48,7 +48,7 @@ class Shown(unittest.TestCase):
         self.assertTrue(first.startswith("1 2024-01-01 08.00.00 me cp-start --app PAY --ia 2024-01-01/08.00"), first)
         self.assertEqual(self.asked("--stream").stdout, "".join(one[4] for one in ENTRIES))
 
-    def test_what_no_desk_wrote_is_told(self):
+    def test_what_no_desk_wrote_is_reported(self):
         file = f"{self.plan}.journal"
         for table, change in (("entry", "at = '2024-13-01T00:00:00.000Z'"), ("entry", "at = x'00'"),
                               ("entry", "at = '9999-12-31T23:59:59.000Z'"), ("entry", "who = x'ff'"),

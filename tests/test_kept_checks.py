@@ -149,9 +149,9 @@ class KeptChecks(unittest.TestCase):
                 self.changes(UNSOUND)[name](path)
                 for way in (plan_file.answer, opened, plan_file.answer):
                     time.sleep(2 * plan_file.COARSE)
-                    with self.assertRaises(Unreadable) as told:
+                    with self.assertRaises(Unreadable) as raised:
                         self.read(path, way)
-                    self.assertIn("no sound plan: status of cp_row is 'X'", str(told.exception))
+                    self.assertIn("no sound plan: status of cp_row is 'X'", str(raised.exception))
                 for words in (["late", path], ["ready", path], ["rows", path, "--app", "A"], ["why", path, "1"]):
                     ran = plans.plan(*words)
                     self.assertEqual((ran.returncode, ran.stdout), (1, ""), words)
@@ -212,9 +212,9 @@ class KeptChecks(unittest.TestCase):
         with open(path, "r+b") as file:
             file.seek(-20, os.SEEK_END)
             file.write(b"damaged")
-        with self.assertRaises(Unreadable) as told:
+        with self.assertRaises(Unreadable) as raised:
             self.read(path)
-        self.assertIn("doesn't match its sum", str(told.exception))
+        self.assertIn("doesn't match its sum", str(raised.exception))
 
     def test_file_that_changes_as_it_is_read_is_read_again(self):
         path = self.plan()
@@ -382,7 +382,7 @@ class KeptChecks(unittest.TestCase):
         self.read(path)
         with mock.patch.object(kept_checks, "MOST_KEPT", 10):
             for number in range(12):
-                kept_checks.put(kept_checks.Kept(f"{number:064x}", "x"))
+                kept_checks.put(kept_checks.StoredResult(f"{number:064x}", "x"))
                 self.assertLessEqual(len(self.kept()), 11)
 
     def test_again_checks_anew(self):

@@ -10,6 +10,7 @@ from support.plans import plain
 
 from opcplan.cli import words
 from opcplan.commands import keys
+from opcplan.errors import UsageError
 from opcplan.plans import plan_file
 from opcplan.rules import moments
 
@@ -35,7 +36,7 @@ def read(add, *given):
     made.error = lambda _: (_ for _ in ()).throw(SystemExit(2))
     try:
         return made.parse_args(["plan.db", *given]).key
-    except SystemExit:
+    except (SystemExit, UsageError):
         return None
 
 

@@ -32,7 +32,7 @@ def texts():
 def lines_at(plan, now):
     """What is printed of a plan at a moment."""
     found = []
-    for rows, pairs in (waits.late_with_waits(plan, now), late.unfinished(plan)):
+    for rows, pairs in (waits.late_with_waits(plan, now), waits.unfinished(plan)):
         model = page_model.of_waits(rows, pairs, now)
         places = late.in_order(rows, model)
         found.append(late.late_lines(rows, model, places, plain.moment_text(now), now) if places else [])
@@ -50,8 +50,8 @@ class Late(unittest.TestCase):
                 for now in {due + more for due in dues[:: max(1, len(dues) // 8)] for more in (0, 1)}:
                     with self.subTest(name, now=plain.moment_text(now)):
                         seen |= self.check(planner, lines_at(plan, now), now)
-        told = {"nothing", "late", "added by hand", "waits for", "in error", "started", "ready", "blocked"}
-        self.assertEqual(seen, told)
+        found = {"nothing", "late", "added by hand", "waits for", "in error", "started", "ready", "blocked"}
+        self.assertEqual(seen, found)
 
     def check(self, planner, lines, now):
         unfinished = {serial: row for serial, (row, status) in planner.current.items() if status in "WSE"}
@@ -63,10 +63,10 @@ class Late(unittest.TestCase):
         self.assertEqual(lines[0], f"{count} late at {plain.moment_text(now)}:")
         parts = [part.split("\n") for part in re.split(r"\n(?=[A-Z0-9@#$])", "\n".join(lines[2:]))]
         self.assertEqual([int(part[0].rpartition("serial ")[2]) for part in parts], [row[0] for row in wanted])
-        told = {"late"}
+        found = {"late"}
         for row, part in zip(wanted, parts):
-            told |= self.check_part(planner, unfinished, row, part, now)
-        return told
+            found |= self.check_part(planner, unfinished, row, part, now)
+        return found
 
     def check_part(self, planner, unfinished, row, part, now):
         serial, app, ia, due, cycle = row
@@ -75,7 +75,7 @@ class Late(unittest.TestCase):
         self.assertIn(f"  due {plain.moment_text(due)}  late by ", head)
         length = minutes_of(head.partition("late by ")[2].partition("  ")[0])
         self.assertEqual(length, now - due if now - due < 1440 else (now - due) // 60 * 60)
-        status, told, waits = planner.current[serial][1], set(), set()
+        status, found, waits = planner.current[serial][1], set(), set()
         if status == "W":
             waits = {last for first, last in planner.pairs if first == serial and last in unfinished}
         state = {"E": "in error", "S": "started"}.get(status) or (
@@ -87,8 +87,8 @@ class Late(unittest.TestCase):
             key = re.search(r"waits for ([A-Z0-9@#$]+) ([0-9-]+ [0-9.]+), which is", below).groups()
             roots = {unfinished[root][1:3] for root in self.roots(planner, unfinished, serial)}
             self.assertIn((key[0], moments.moment_of(key[1].replace(" ", "/"))), roots)
-            told.add("waits for")
-        return told | {state} | ({"added by hand"} if cycle is None else set())
+            found.add("waits for")
+        return found | {state} | ({"added by hand"} if cycle is None else set())
 
     def roots(self, planner, unfinished, serial):
         """What it waits for and what waits for nothing itself."""

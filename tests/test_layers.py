@@ -15,6 +15,7 @@ LAYERS = {
     "webpage": "the page that shows a plan",
     "desk": "one planner for many callers, and its client",
     "agent": "runs jobs for a desk",
+    "watch": "calls somebody when a plan needs it",
     "commands": "the subcommands, a module each with its helpers",
     "library": "what scripts use: a plan that is read, a desk that is asked",
     "__main__": "the command itself",

@@ -12,6 +12,7 @@ from support import TOP, desks, plans
 from support.plans import plain
 
 import opcplan
+from opcplan.desk import client
 
 PAGE = TOP / "docs" / "use" / "PYTHON.md"
 ADDRESS = "http://127.0.0.1:7411"
@@ -146,6 +147,9 @@ class OfADesk(desks.Case):
         with self.assertRaises(opcplan.Desk.Refused) as refused:
             asked.rows("ltp", status="W")
         self.assertEqual(refused.exception.status, 400)
+        self.assertEqual(asked.log(7), "")
+        client.Client(desk.socket).request("PUT", "/logs/7?try=2", "grün\n".encode())
+        self.assertEqual(asked.log(7), "grün\n")
         self.end(desk)
         self.assertRaises(opcplan.Desk.Away, asked.rows)
 
@@ -159,12 +163,12 @@ class Page(desks.Case):
         text = PAGE.read_text(encoding="utf-8")
         self.assertIn(f'"{ADDRESS}"', text)
         text = text.replace(ADDRESS, f"http://127.0.0.1:{desk.port}").replace('"plan.db"', f'"{self.plan}"')
-        names, tried, told = {}, 0, []
+        names, tried, found = {}, 0, []
         for one in examples(text):
             one.globs = names
-            result = doctest.DocTestRunner(verbose=False).run(one, out=told.append, clear_globs=False)
+            result = doctest.DocTestRunner(verbose=False).run(one, out=found.append, clear_globs=False)
             tried += result.attempted
-        self.assertEqual("".join(told), "")
+        self.assertEqual("".join(found), "")
         self.assertGreater(tried, 12)
         self.end(desk)
 

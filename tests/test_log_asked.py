@@ -19,16 +19,16 @@ from support.logs import ADDS, COMPLETE, Case, START, numbered, rows_of
 class Asked(Case):
     def test_a_key_is_done_once_at_whichever_desk(self):
         serving = [self.desk("a"), self.desk("b"), self.desk("c")]
-        told, text = [], "\n".join(ADDS[:30])
-        askers = [threading.Thread(target=lambda desk=desk: told.append(desk.posted(text, Idempotency_Key="k")[::2]))
+        found, text = [], "\n".join(ADDS[:30])
+        askers = [threading.Thread(target=lambda desk=desk: found.append(desk.posted(text, Idempotency_Key="k")[::2]))
                   for desk in serving for _ in range(3)]
         for asker in askers:
             asker.start()
         for asker in askers:
             asker.join()
-        self.assertEqual(len(told), 9)
-        self.assertEqual(len(set(told)), 1, told)
-        self.assertEqual(told[0][1].count("ok"), 30)
+        self.assertEqual(len(found), 9)
+        self.assertEqual(len(set(found)), 1, found)
+        self.assertEqual(found[0][1].count("ok"), 30)
         for desk in serving:
             self.caught_up(desk, 30)
             self.assertEqual(desk.posted(START, Idempotency_Key="k")[0], 409)
@@ -40,10 +40,10 @@ class Asked(Case):
         before = rows_of("APP00")
         for count, line in enumerate(ADDS[:40], 1):
             first.posted(line)
-            status, heads, told = second.asked("GET", "/rows?list=cp&app=APP00&fresh=1")
-            self.assertEqual(status, 200, told)
+            status, heads, body = second.asked("GET", "/rows?list=cp&app=APP00&fresh=1")
+            self.assertEqual(status, 200, body)
             self.assertGreaterEqual(int(heads["X-Opcplan-Position"]), count)
-            self.assertEqual(told.count("\n"), before + count)
+            self.assertEqual(body.count("\n"), before + count)
         self.end(first, second)
 
     def test_a_change_asks_for_the_state_that_another_desk_showed(self):
@@ -62,14 +62,14 @@ class Asked(Case):
 
     def test_a_condition_holds_while_another_desk_changes_the_plan(self):
         serving = [self.desk("a"), self.desk("b")]
-        tag, told = serving[0].asked("GET", "/rows?list=cp")[1]["ETag"], []
-        askers = [threading.Thread(target=lambda place=place: told.append(
+        tag, body = serving[0].asked("GET", "/rows?list=cp")[1]["ETag"], []
+        askers = [threading.Thread(target=lambda place=place: body.append(
             serving[place % 2].posted(ADDS[place], If_Match=tag)[0])) for place in range(8)]
         for asker in askers:
             asker.start()
         for asker in askers:
             asker.join()
-        self.assertEqual(sorted(told), [200] + [412] * 7)
+        self.assertEqual(sorted(body), [200] + [412] * 7)
         self.end(*serving)
 
 
@@ -87,13 +87,13 @@ class Lost(Case):
         self.addCleanup(between.end)
         first = self.desk("a")
         second = self.desk("b", log=f"etcd://127.0.0.1:{between.port}/{self.name}")
-        between.loses, told = loses, []
-        asker = threading.Thread(target=lambda: told.append(second.posted(START, Idempotency_Key="s")[2]))
+        between.loses, seen = loses, []
+        asker = threading.Thread(target=lambda: seen.append(second.posted(START, Idempotency_Key="s")[2]))
         asker.start()
         self.assertTrue(between.lost.wait(desks.PATIENCE))
         self.assertEqual(first.posted("\n".join(ADDS[:5]))[2].count("ok"), 5)
         asker.join(desks.PATIENCE)
-        self.assertEqual(told, ["ok serial 1 status S\n"])
+        self.assertEqual(seen, ["ok serial 1 status S\n"])
         self.assertEqual(first.posted(START, Idempotency_Key="s")[2], "ok serial 1 status S\n")
         for desk in (first, second):
             self.caught_up(desk, 6)
@@ -139,8 +139,8 @@ class Alone(Case):
         limits = resource.prlimit(second.process.pid, resource.RLIMIT_FSIZE)
         for number in (second.process.pid, second.open()):
             resource.prlimit(number, resource.RLIMIT_FSIZE, (4096, limits[1]))
-        told = first.posted("\n".join(ADDS[:20]))[2]
-        self.assertEqual(told.count("ok"), 20)
+        body = first.posted("\n".join(ADDS[:20]))[2]
+        self.assertEqual(body.count("ok"), 20)
         second.comes(lambda found: found.get("status") == "stopped")
         self.assertEqual(second.posted(START, Idempotency_Key="s")[0], 503)
         self.assertEqual(first.posted(COMPLETE)[2], "refused 29\n")
@@ -162,8 +162,8 @@ class Majority(Case):
         self.caught_up(second, 1)
         for place in (0, 1):
             self.etcd.stop(place)
-        told = []
-        asker = threading.Thread(target=lambda: told.append(first.posted(COMPLETE, Idempotency_Key="c")))
+        seen = []
+        asker = threading.Thread(target=lambda: seen.append(first.posted(COMPLETE, Idempotency_Key="c")))
         asker.start()
         second.comes(lambda found: found.get("status") != "ok")
         for desk in (first, second):
@@ -171,7 +171,7 @@ class Majority(Case):
             self.assertEqual((status, rows.count("\n")), (200, rows_of("APP00")))
         self.assertEqual(second.asked("GET", "/rows?list=cp&fresh=1")[0], 503)
         asker.join(60)
-        self.assertEqual(told[0][0], 503, told)
+        self.assertEqual(seen[0][0], 503, seen)
         for place in (0, 1):
             self.etcd.go_on(place)
         until = time.monotonic() + desks.PATIENCE
@@ -194,9 +194,9 @@ class Full(Case):
         with self.assertRaisesRegex(etcds.Silent, "space exceeded"):
             for _ in range(100):
                 self.etcd.ask(0, "/v3/kv/put", filler)
-        status, _, told = desk.posted(COMPLETE, Idempotency_Key="c")
-        self.assertEqual((status, told.count("\n")), (503, 1), told)
-        self.assertIn("--trim", told)
+        status, _, body = desk.posted(COMPLETE, Idempotency_Key="c")
+        self.assertEqual((status, body.count("\n")), (503, 1), body)
+        self.assertIn("--trim", body)
         self.assertIn("--trim", desk.comes(lambda found: found.get("status") == "stopped")["why"])
         self.assertEqual(desk.asked("GET", "/rows?list=cp&app=APP00&fresh=1")[0], 200)
         self.etcd.ask(0, "/v3/kv/deleterange", {"key": etcds.b64("/filler")})

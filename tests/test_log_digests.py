@@ -22,9 +22,9 @@ class Digests(Case):
         self.end(second)
         self.by_hand("b", "cp-add --app APP07 --ia 2024-01-02/23.59 --job 77")
         first.posted(ADDS[0])
-        told = self.refused("b")
-        self.assertIn("has job 77", told)
-        self.assertIn("--from", told)
+        message = self.refused("b")
+        self.assertIn("has job 77", message)
+        self.assertIn("--from", message)
         self.end(first)
 
     def test_a_desk_that_answers_otherwise_stops_and_names_the_entry(self):

@@ -49,11 +49,11 @@ class Late(Case):
         """The names of desks that haven't an entry, once another one said that it has."""
         until = time.monotonic() + desks.PATIENCE
         while True:
-            told = dict(re.findall("^desk (.*): position ([0-9]+),", plans.plan("log", self.log).stdout, re.M))
-            lacking = [name for name, found in told.items() if int(found) < position]
-            if len(told) == 2 and len(lacking) == 1:
+            output = dict(re.findall("^desk (.*): position ([0-9]+),", plans.plan("log", self.log).stdout, re.M))
+            lacking = [name for name, found in output.items() if int(found) < position]
+            if len(output) == 2 and len(lacking) == 1:
                 return lacking
-            self.assertLess(time.monotonic(), until, told)
+            self.assertLess(time.monotonic(), until, output)
             time.sleep(0.2)
 
     def test_a_file_within_the_margin_goes_on(self):

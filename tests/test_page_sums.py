@@ -50,9 +50,9 @@ class PageSums(unittest.TestCase):
         return put_sums(plans.copy_of(plans.of_worked(name), self.room, f"{name}.db"))
 
     def assert_refused(self, file):
-        with self.assertRaises(Unreadable) as told, plan_file.opened(file):
+        with self.assertRaises(Unreadable) as raised, plan_file.opened(file):
             self.fail("it was opened")
-        return str(told.exception)
+        return str(raised.exception)
 
     def test_sound_sums_are_taken(self):
         file = self.summed()
@@ -63,7 +63,7 @@ class PageSums(unittest.TestCase):
         self.assertTrue(page_sums.are_in(file))
         self.assertFalse(page_sums.are_in(plans.of_worked("monday")))
 
-    def test_each_bit_that_is_turned_is_told(self):
+    def test_each_bit_that_is_turned_is_reported(self):
         file, chance = self.summed(), random.Random(60)
         data, turned = file.read_bytes(), self.room / "turned.db"
         with mock.patch.object(plan_file, "COARSE", 0):
@@ -72,11 +72,11 @@ class PageSums(unittest.TestCase):
                 other[place] ^= 1 << chance.randrange(8)
                 turned.write_bytes(other)
                 with self.subTest(place):
-                    told = self.assert_refused(turned)
+                    found = self.assert_refused(turned)
                     if place >= 4096:
-                        self.assertIn(f"page {place // 4096 + 1} doesn't match its sum", told)
+                        self.assertIn(f"page {place // 4096 + 1} doesn't match its sum", found)
 
-    def test_each_subcommand_tells_it(self):
+    def test_each_subcommand_reports_it(self):
         file = self.summed()
         data = bytearray(file.read_bytes())
         data[-2000] ^= 1
@@ -109,7 +109,7 @@ class PageSums(unittest.TestCase):
                 file.write_bytes(b"".join(pages[:-2]) + pages[-2][: size // 2])
                 self.assertEqual(page_sums.first_wrong(file), len(pages) - 1)
 
-    def test_page_of_a_log_that_has_no_sum_is_told(self):
+    def test_page_of_a_log_that_has_no_sum_is_reported(self):
         file = self.summed()
         with closing(sqlite3.connect(file)) as db:
             db.execute("PRAGMA journal_mode = WAL")

@@ -91,9 +91,9 @@ class Words(unittest.TestCase):
             if old:
                 out.write_bytes(old)
             full = mock.Mock(side_effect=OSError(errno.ENOSPC, "No space left on device"))
-            with mock.patch.multiple(os, **dict.fromkeys(calls, full)), self.assertRaises(Unwritable) as told:
+            with mock.patch.multiple(os, **dict.fromkeys(calls, full)), self.assertRaises(Unwritable) as raised:
                 output.write(str(out), b"a page", old is not None)
-            self.assertIn("No space left", str(told.exception))
+            self.assertIn("No space left", str(raised.exception))
             self.assertEqual(out.read_bytes() if out.exists() else None, old)
             out.unlink(missing_ok=True)
             self.assertEqual(sorted(os.listdir(self.folder)), beside)
@@ -107,9 +107,9 @@ class Words(unittest.TestCase):
     def test_a_file_that_comes_meanwhile_stays(self):
         out = Path(self.folder) / "page.html"
         with mock.patch.object(output, "umask", side_effect=lambda: out.write_bytes(b"mine") and 0o22):
-            with self.assertRaises(Unwritable) as told:
+            with self.assertRaises(Unwritable) as raised:
                 output.write(str(out), b"a page", False)
-        self.assertIn("by now", str(told.exception))
+        self.assertIn("by now", str(raised.exception))
         self.assertEqual(out.read_bytes(), b"mine")
 
     def test_where_it_cannot_be_written(self):

@@ -74,7 +74,7 @@ class Pages(unittest.TestCase):
         self.assertGreater(len(named), 3)
         self.assertEqual([page for page in sorted(named) if not (plans.TOP / page).is_file()], [])
 
-    def test_date_that_is_wrong_is_told(self):
+    def test_date_that_is_wrong_is_reported(self):
         row = "\n000000003 LEDGER           G RC       2024-01-0"
         text = (plans.TOP / "README.md").read_text(encoding="utf-8")
         self.assertIn(f"{row}2", text)
@@ -96,7 +96,7 @@ class Pages(unittest.TestCase):
         done = self.of("```console\n$ exit 0\n```\n```console\n$ true\n```\n")
         self.assertTrue(done.stdout.endswith("1 passed, 2 failed\n"), done.stdout)
 
-    def test_what_is_left_in_the_folder_is_told(self):
+    def test_what_is_left_in_the_folder_is_reported(self):
         done = self.of("```console\n$ touch plan.db\n```\n```text a.in\nlist cp\n```\n")
         self.assertIn("leaves a.in, plan.db in the folder where it begins\n1 passed, 1 failed\n", done.stdout)
 
@@ -108,7 +108,7 @@ class Pages(unittest.TestCase):
             self.assertEqual((done.returncode, done.stderr), (0, b""))
             self.assertIn(b"--db", done.stdout)
 
-    def test_other_blocks_are_told(self):
+    def test_other_blocks_are_reported(self):
         for block in ("```\nfree\n```\n", "```text\nno name\n```\n", "```text ../up\n```\n",
                       "```console\nno command\n```\n", "```console\n```\n", "```console\n$ true\n"):
             with self.subTest(block):

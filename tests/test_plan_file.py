@@ -41,10 +41,10 @@ class PlanFile(unittest.TestCase):
     def refused(self, path, *said):
         """Asks that the file can't be read, that each subcommand's way of telling it says so, and leaves no trace."""
         before = plans.prints(path) if os.path.isdir(os.path.dirname(path)) else None
-        with self.assertRaises(Unreadable) as told, plan_file.opened(path):
+        with self.assertRaises(Unreadable) as raised, plan_file.opened(path):
             self.fail("it was opened")
         for text in (str(path), *said):
-            self.assertIn(text, str(told.exception))
+            self.assertIn(text, str(raised.exception))
         self.assertEqual(before, plans.prints(path) if before is not None else None)
 
     def test_a_plan_has_what_its_planner_knows(self):
@@ -203,9 +203,9 @@ class PlanFile(unittest.TestCase):
                 with contextlib.suppress(FileNotFoundError):
                     os.remove(f"{path}{tail}")
                 make(f"{path}{tail}")
-                with self.assertRaises(Unreadable) as told, plan_file.opened(path):
+                with self.assertRaises(Unreadable) as raised, plan_file.opened(path):
                     self.fail("it was opened")
-                self.assertNotIn("None", str(told.exception))
+                self.assertNotIn("None", str(raised.exception))
 
     def test_a_change_meanwhile_is_seen(self):
         path = self.plan()
@@ -232,10 +232,10 @@ class PlanFile(unittest.TestCase):
                 shutil.copyfile(source, target)
                 os.utime(source, ns=(0, os.stat(source).st_mtime_ns + 1))
 
-        with mock.patch.object(plan_file, "take", written_to), self.assertRaises(Unreadable) as told:
+        with mock.patch.object(plan_file, "take", written_to), self.assertRaises(Unreadable) as raised:
             with plan_file.opened(path):
                 self.fail("it was opened")
-        self.assertIn("written to", str(told.exception))
+        self.assertIn("written to", str(raised.exception))
 
     def test_beside_a_writer(self):
         """While another process writes all the while, what is read is a state that stood, or nothing is read."""
@@ -255,8 +255,8 @@ class PlanFile(unittest.TestCase):
                         a, b = plan.db.execute("SELECT a, b FROM two").fetchone()
                         self.assertEqual(a, b)
                         self.assertEqual(plan.db.execute("PRAGMA integrity_check").fetchone()[0], "ok")
-                except Unreadable as told:
-                    self.assertIn("written to", str(told))
+                except Unreadable as error:
+                    self.assertIn("written to", str(error))
         finally:
             done.set()
             writer.join()

@@ -9,7 +9,7 @@ from pathlib import Path
 from support import page_reader as read, plans
 
 from opcplan.plans import stream_state
-from opcplan.rules import moments, reaches
+from opcplan.rules import horizons, moments
 
 from test_why_day import defined_by
 
@@ -63,7 +63,7 @@ def found_in(output):
     return sorted(re.findall("(?m)^line [0-9]+: (.*)$", joined(output)))
 
 
-class Told(unittest.TestCase):
+class Reported(unittest.TestCase):
     maxDiff = None
 
     def setUp(self):
@@ -77,7 +77,7 @@ class Told(unittest.TestCase):
         file.write_text(text, encoding="ascii")
         return file
 
-    def test_lint_tells_it_by_a_stream_alone_and_over_a_plan(self):
+    def test_lint_reports_it_by_a_stream_alone_and_over_a_plan(self):
         whole = plans.plan("lint", self.stream(BASE + EXTEND))
         self.assertEqual((found_in(whole.stdout), whole.returncode), (sorted(ALL), 1), whole.stderr)
         lines = {line.split(":")[0] for line in whole.stdout.splitlines() if line[0] != " "}
@@ -86,7 +86,7 @@ class Told(unittest.TestCase):
         over = plans.plan("lint", self.stream(EXTEND), "--plan", self.plan)
         self.assertEqual((found_in(over.stdout), over.returncode), (sorted(ALL), 1), over.stderr)
 
-    def test_what_was_short_before_is_told_at_an_extension_alone(self):
+    def test_what_was_short_before_is_reported_at_an_extension_alone(self):
         extended = plans.copy_of(plans.of_stream(BASE + EXTEND), self.room, "extended.db")
         again = plans.plan("lint", self.stream("ltp-modify-all --job 9\n"), "--plan", extended)
         self.assertEqual((again.stdout, again.returncode), ("", 0))
@@ -106,7 +106,7 @@ class Told(unittest.TestCase):
         self.assertEqual(found_in(ran.stdout), [changed])
 
     @unittest.skipUnless(plans.PROGRAM.exists(), "opcplan is not built")
-    def test_check_run_and_the_page_tell_it(self):
+    def test_check_run_and_the_page_report_it(self):
         program = ("--program", plans.PROGRAM)
         checked = plans.plan("check", self.plan, self.stream(EXTEND), *program)
         self.assertEqual((found_in(checked.stdout), checked.returncode), (sorted(ALL), 1), checked.stderr)
@@ -127,7 +127,7 @@ class Forms(unittest.TestCase):
         now = stream_state.Known()
         for item in plans.items_of(text):
             now.take(item)
-        return reaches.way_on("P", now.defined.periods["P"], moments.day_of("2027-12-31")).split("`")[1]
+        return horizons.way_on("P", now.defined.periods["P"], moments.day_of("2027-12-31")).split("`")[1]
 
     def test_forms(self):
         edit = "./plan edit PLAN.db period P"
@@ -174,25 +174,25 @@ WAGES,NOTFIRST,X,MONTH,3,1,2027-01-01,,18.00,,
         for item in plans.items_of(text):
             now.take(item)
         first, last = moments.day_of("2027-01-01"), moments.day_of("2027-12-31")
-        self.assertEqual([one.text for one in reaches.shortfalls(now.defined, first, last)], [
+        self.assertEqual([one.text for one in horizons.shortfalls(now.defined, first, last)], [
             "MONTH ends 2027-02-28 and the plan goes to 2027-12-31: WAGES has no occurrence after it, and NOTLAST of "
             "LEDGER excludes no day after it. `./plan edit PLAN.db period MONTH months ..2027-12` adds the rest."])
         days = defined_by(text.encode()).named("LEDGER", first, last)
         gone = {day for day in range(first, last + 1)} - {day for day, _ in days}
         self.assertEqual(sorted(map(moments.day_text, gone)), ["2027-01-31", "2027-02-28"])
-        (august,) = [one for one in reaches.shortfalls(now.defined, first, moments.day_of("2028-12-31"))
+        (august,) = [one for one in horizons.shortfalls(now.defined, first, moments.day_of("2028-12-31"))
                      if one.text.startswith("AUGUST")]
         self.assertIn("and the plan goes to 2028-12-31: HOLIDAYS of SALES excludes no day after it. ", august.text)
 
     def test_at_random(self):
-        first, last, told = moments.day_of("2027-01-01"), moments.day_of("2027-06-30"), 0
+        first, last, seen = moments.day_of("2027-01-01"), moments.day_of("2027-06-30"), 0
         for seed in range(60):
             text = self.text(random.Random(seed))
             now = stream_state.Known()
             for item in plans.items_of(text):
                 now.take(item)
             planner = defined_by(text.encode())
-            found = reaches.shortfalls(now.defined, first, last)
+            found = horizons.shortfalls(now.defined, first, last)
             said = {}
             for one in found:
                 for apps, end in re.findall(r"(?:: | and )([A-C, ]+) ha(?:s|ve) no occurrence after (\S+?)[.,]? ",
@@ -204,11 +204,11 @@ WAGES,NOTFIRST,X,MONTH,3,1,2027-01-01,,18.00,,
                 days = sorted({day for day, _ in planner.named(app, first, last)})
                 with self.subTest(seed=seed, app=app):
                     if app in said:
-                        told += 1
+                        seen += 1
                         self.assertEqual([day for day in days if day > said[app]], [], text)
                     else:
                         self.assertTrue(days and days[-1] > last - 31, text)
-        self.assertGreater(told, 30)
+        self.assertGreater(seen, 30)
 
     def text(self, any_of):
         """Three applications over a listed period and another, some with validities that end."""
@@ -229,7 +229,7 @@ WAGES,NOTFIRST,X,MONTH,3,1,2027-01-01,,18.00,,
 
     @staticmethod
     def end(month):
-        return moments.day_text(reaches.months_after(moments.day_of(f"2027-0{month}-01"), 1) - 1)
+        return moments.day_text(horizons.months_after(moments.day_of(f"2027-0{month}-01"), 1) - 1)
 
 
 if __name__ == "__main__":

@@ -23,10 +23,10 @@ def asked(path, *given):
     """What `./plan ready` answers here: its status, what it prints, and what it tells."""
     parser = words.Parser(prog="plan ready")
     ready.add_words(parser)
-    out, told = io.StringIO(), io.StringIO()
-    with contextlib.redirect_stdout(out), contextlib.redirect_stderr(told):
+    out, stderr = io.StringIO(), io.StringIO()
+    with contextlib.redirect_stdout(out), contextlib.redirect_stderr(stderr):
         status = ready.run(parser.parse_args([str(path), *given]))
-    return status, out.getvalue(), told.getvalue()
+    return status, out.getvalue(), stderr.getvalue()
 
 
 def ready_rows(planner, now):
@@ -61,9 +61,9 @@ class Ready(unittest.TestCase):
                     self.assertEqual(status, 0 if wanted else 1)
                     shown = asked(path, *moment, "-0")[1]
                     self.assertEqual(shown, "".join(part + "\0" for one in wanted for part in one))
-                    told = [json.loads(line) for line in asked(path, *moment, "--json")[1].splitlines()]
-                    self.assertEqual([(one["application"], one["ia"], str(one["serial"])) for one in told], wanted)
-                    self.assertEqual([(one["due"], one["run_cycle"], one["added"]) for one in told],
+                    stderr = [json.loads(line) for line in asked(path, *moment, "--json")[1].splitlines()]
+                    self.assertEqual([(one["application"], one["ia"], str(one["serial"])) for one in stderr], wanted)
+                    self.assertEqual([(one["due"], one["run_cycle"], one["added"]) for one in stderr],
                                      [(plain.moment_text(row[3], "T").replace(".", ":"), row[4], row[4] is None)
                                       for row in rows])
                     seen.add(min(len(wanted), 2))
@@ -102,9 +102,9 @@ class Ready(unittest.TestCase):
 
     def test_a_moment_outside_of_the_plan_is_said(self):
         self.assertIn("--now names a moment", asked(plans.of_worked("monday"), "--now", "2030-01-01/00.00")[2])
-        status, shown, told = asked(plans.of_worked("first-days"))
+        status, shown, stderr = asked(plans.of_worked("first-days"))
         self.assertEqual((status, shown), (1, ""))
-        self.assertIn("there is no long-term plan yet", told)
+        self.assertIn("there is no long-term plan yet", stderr)
 
 
 if __name__ == "__main__":

@@ -55,8 +55,8 @@ class Restore(BackupRoom, unittest.TestCase):
         made = self.backup()
         self.assertEqual(made.returncode, 0, made.stderr)
 
-    def refused(self, told, status=1):
-        self.refused_by(self.restore, told, status)
+    def refused(self, message, status=1):
+        self.refused_by(self.restore, message, status)
 
     def restored(self):
         """Asks that the plan is the backup, alone, and answers the name under which what stood there is kept."""

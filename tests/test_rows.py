@@ -18,7 +18,7 @@ from opcplan.rules import moments
 NAMES = """week-of-daily-plans batch-through-all-sets statuses-carried one-key-twice added-before-between-and-after
     withdrawn-and-named-again each-status-under-each-action first-days""".split()
 LISTS = {"ltp": "", "cp": "WSECD", "history": "C", "deletions": ""}
-TOLD = {"waiting": "W", "started": "S", "in error": "E", "complete": "C", "deleted": "D"}
+STATUS_LETTERS = {"waiting": "W", "started": "S", "in error": "E", "complete": "C", "deleted": "D"}
 
 
 def asked(path, *given):
@@ -55,10 +55,10 @@ class Lists(unittest.TestCase):
             for what, app in itertools.product(LISTS, [None, *apps[:3]]):
                 with self.subTest(name, what=what, app=app):
                     wanted = planner.list(what, app)
-                    status, lines, told = asked(path, what, *(["--app", app] if app else []))
+                    status, lines, stderr = asked(path, what, *(["--app", app] if app else []))
                     self.assertEqual(lines, [*wanted, f"ok rows {len(wanted)}"])
                     self.assertEqual(status, 0 if wanted else 1)
-                    self.assertEqual("no long-term plan yet" in told, planner.bounds is None)
+                    self.assertEqual("no long-term plan yet" in stderr, planner.bounds is None)
 
     def test_without_a_list_all_but_the_deletions(self):
         planner, path = plans.planner_of(data_centre.whole()), plans.of_stream(data_centre.whole())
@@ -75,8 +75,8 @@ class Filters(unittest.TestCase):
         cls.all = held(cls.planner, LISTS)
 
     def check(self, wanted, *given):
-        status, lines, told = asked(self.path, *given)
-        self.assertEqual((lines, told), ([*map(line, wanted), f"ok rows {len(wanted)}"], ""), given)
+        status, lines, stderr = asked(self.path, *given)
+        self.assertEqual((lines, stderr), ([*map(line, wanted), f"ok rows {len(wanted)}"], ""), given)
         self.assertEqual(status, 0 if wanted else 1, given)
 
     def test_filters_together(self):
@@ -102,7 +102,7 @@ class Filters(unittest.TestCase):
 
     def test_statuses_by_letters_and_words(self):
         others = [("E", "E"), ("error", "E"), ("w,s", "WS"), ("in-error,started", "ES"), ("WSECD", "WSECD")]
-        for given, letters in [*TOLD.items(), *others]:
+        for given, letters in [*STATUS_LETTERS.items(), *others]:
             wanted = [one for one in self.all if one[3] == "cp" and one[1] in letters]
             self.check(wanted, "cp", "--status", given)
 
@@ -117,13 +117,13 @@ class Filters(unittest.TestCase):
         self.check(wanted, "cp", "--late", "--status", "E", "--now", "2026-11-25", "06.00")
 
     def test_late_goes_by_the_clock_and_says_where_it_is_outside(self):
-        told = asked(plans.of_worked("monday"), "--late")[2]
-        self.assertIn("the plan goes from 2024-01-01 to 2024-01-31; --now names a moment", told)
+        stderr = asked(plans.of_worked("monday"), "--late")[2]
+        self.assertIn("the plan goes from 2024-01-01 to 2024-01-31; --now names a moment", stderr)
 
     def test_an_application_that_is_not_there(self):
-        status, lines, told = asked(self.path, "--app", "nosuch")
+        status, lines, stderr = asked(self.path, "--app", "nosuch")
         self.assertEqual((status, lines), (1, ["ok rows 0"]))
-        self.assertIn("there is no application NOSUCH in it", told)
+        self.assertIn("there is no application NOSUCH in it", stderr)
         self.assertIn("in it (is MERGERTEST meant?)", asked(self.path, "--app", "mergertset")[2])
         self.assertIn("there is no application NOSUCH", asked(self.path, "--late", "--app", "nosuch")[2])
         self.assertEqual(asked(self.path, "--app", "MERGERTEST")[2], "")
@@ -143,10 +143,10 @@ class Filters(unittest.TestCase):
             (["links"], "invalid choice"),
             (["--csv", "--json"], "not allowed"),
         ):
-            status, lines, told = asked(self.path, *given)
+            status, lines, stderr = asked(self.path, *given)
             self.assertEqual((status, lines), (2, []), given)
-            self.assertIn(said, told)
-            self.assertEqual(told.count("\n"), 1)
+            self.assertIn(said, stderr)
+            self.assertEqual(stderr.count("\n"), 1)
 
 
 class Forms(unittest.TestCase):
@@ -158,9 +158,9 @@ class Forms(unittest.TestCase):
         """What a program is to read of a row."""
         (serial, app, ia, due, cycle), status, reason, name = one
         stamps = [plain.moment_text(moment, between).replace(".", ":") for moment in (ia, due)]
-        told = {letter: text for text, letter in TOLD.items()}
+        found = {letter: text for text, letter in STATUS_LETTERS.items()}
         reasons = {"O": "deleted by an operator", "W": "withdrawn", "P": "deleted in the current plan"}
-        return [serial, app, name, told.get(status), reasons.get(reason), *stamps, cycle, cycle is None]
+        return [serial, app, name, found.get(status), reasons.get(reason), *stamps, cycle, cycle is None]
 
     def test_json_has_an_object_on_each_line(self):
         for what in LISTS:

@@ -157,6 +157,12 @@ class Run(unittest.TestCase):
         self.assertEqual((ran.returncode, ran.stdout), (1, ""))
         self.assertIn("it is there already; without --new the stream goes on with it", ran.stderr)
 
+    def test_a_plan_alone_lacks_its_stream(self):
+        ran = plans.plan("run", self.file, stdin=subprocess.DEVNULL)
+        self.assertEqual((ran.returncode, ran.stdout), (2, ""))
+        self.assertEqual(ran.stderr, f"plan: {self.file} is a database, and the stream is missing: ./plan run "
+                                     f"{self.file} STREAM; ./plan run --help says more\n")
+
     def test_the_program_gets_the_stream_byte_for_byte(self):
         text = b"* \xc3\xbc\r\nlist cp\r\n\x00\nlist ltp"
         program = self.script(f'cat > {self.room}/got\necho "$@" > {self.room}/words\n'
@@ -186,7 +192,7 @@ class Run(unittest.TestCase):
         self.assertIn("was written to meanwhile; ask again: nothing was done", ran.stderr)
         self.assertEqual((self.room / "other").read_text(encoding="ascii"), "ok serial 151\n")
 
-    def test_what_cannot_be_run_is_told(self):
+    def test_what_cannot_be_run_is_reported(self):
         for words, program in (((), self.room / "none"), ((), self.script("echo hello")), ((), self.script("exit 3"))):
             before = {name: seen for name, seen in plans.prints(self.file).items() if name == "plan.db"}
             ran = self.asked("list cp\n", *words, program=program)
@@ -260,6 +266,75 @@ class ByADesk(desks.Case):
         self.assertEqual(answers, plans.plain.run(self.DONE.encode(), planner))
         self.end(desk)
         self.assertEqual(expected.of_file(self.plan), expected.of_stream(self.TEXT, self.DONE))
+
+    def journal(self):
+        """The texts of all changes that a desk did, in order."""
+        with closing(sqlite3.connect(f"{self.plan}.journal")) as db:
+            return [bytes(text).decode() for (text,) in db.execute("SELECT CAST(text AS BLOB) FROM entry ORDER BY seq")]
+
+    def on_terminal(self, desk, between, answers):
+        """What a run by a desk shows on a terminal, and its status: before the answer to each question, a caller asks
+        the desk something."""
+        ours, theirs = pty.openpty()
+        given = [plans.TOP / "plan", "run", "--desk", desk.socket, self.room / "x.in", "--program", plans.PROGRAM]
+        ran = subprocess.Popen(list(map(str, given)), stdin=theirs, stdout=theirs, stderr=theirs)
+        os.close(theirs)
+        shown, asked, end = b"", 0, time.monotonic() + desks.PATIENCE
+        while time.monotonic() < end:
+            if not select.select([ours], [], [], 1)[0]:
+                continue
+            try:
+                more = os.read(ours, 65_536)
+            except OSError:
+                break
+            shown += more
+            if shown.count(b"[y/N] ") > asked:
+                self.assertEqual(desk.posted(between[asked])[0], 200)
+                os.write(ours, answers[asked].encode() + b"\n")
+                asked += 1
+        os.close(ours)
+        return shown.decode(), ran.wait(60), asked
+
+    def test_what_others_change_between_question_and_answer(self):
+        """Where it makes a difference it is asked again, and where it makes none it is not."""
+        (self.room / "x.in").write_text("define applications\nMORE,A,\n/*\n", encoding="ascii")
+        for name, between, answers, count in (
+            ("another difference", ["define applications\nMORE,A,\n/*", "list cp"], ["y", "y"], 2),
+            ("the same difference", ["cp-start --app REPORT --ia 2024-01-01/20.00"], ["y"], 1),
+            ("another difference, declined", ["define applications\nMORE,A,\nLESS,A,\n/*", "list cp"], ["y", "n"], 2),
+        ):
+            with self.subTest(name):
+                self.plan = plans.copy_of(plans.of_stream(self.TEXT), self.room, f"{len(name)}.db")
+                desk = self.desk()
+                shown, status, asked = self.on_terminal(desk, between, answers)
+                self.assertEqual((asked, status), (count, 1 if answers[-1] == "n" else 0), shown)
+                self.assertIn("somebody changed the plan of", shown)
+                self.assertIn("0 of 1 statements are done", shown)
+                found = self.journal()
+                self.assertEqual(len(found), 1 if answers[-1] == "n" else 2, found)
+                self.end(desk)
+
+    def test_what_others_send_between_the_statements(self):
+        """Each statement is done once and in order, whatever others ask between them."""
+        count = 150
+        own = [f"cp-add --app REPORT --ia 2024-01-01/{place // 60 + 1:02}.{place % 60:02}" for place in range(count)]
+        (self.room / "x.in").write_text("".join(f"{line}\n" for line in own), encoding="ascii")
+        desk = self.desk()
+        given = [plans.TOP / "plan", "run", "--desk", desk.socket, self.room / "x.in", "--program", plans.PROGRAM]
+        ran = subprocess.Popen([*map(str, given), "--yes"], stdout=subprocess.PIPE, stderr=subprocess.PIPE, text=True)
+        desk.comes(lambda found: found["position"] >= 5)
+        self.assertRegex(desk.posted("cp-add --app REPORT --ia 2024-01-01/23.59")[2], "^ok serial")
+        output, said = ran.communicate(timeout=desks.PATIENCE)
+        self.assertEqual(ran.returncode, 0, said)
+        found = [text.partition(" --job ")[0] for text in self.journal()]
+        place = found.index("cp-add --app REPORT --ia 2024-01-01/23.59")
+        self.assertLess(place, count, "the other statement came behind all")
+        self.assertEqual([text for text in found if text != found[place]], own)
+        self.assertIn(f"meanwhile: {place} of {count} statements are done; the rest is tried", said)
+        self.assertEqual(sum(line.startswith("ok serial") for line in output.splitlines()), count)
+        texts = "".join(f"{text}\n" for text in self.journal())
+        self.end(desk)
+        self.assertEqual(expected.of_file(self.plan), expected.of_stream(self.TEXT, texts))
 
     def test_wrong_words_and_a_desk_that_is_away(self):
         for words, status in (((), 2), ((self.plan, "--desk", "127.0.0.1:1"), 2),

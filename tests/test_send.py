@@ -25,8 +25,9 @@ echo run >> "$0.runs"
 next=$(ls "$0".answer.* | head -n 1)
 cat "$next"
 status=8
-case "$next" in *held*) echo 'opcplan: fault 50: another program has FILE open; it is as it was' >&2 ;;
-*other*) echo 'opcplan: fault 50: FILE is no database' >&2 ;;
+case "$next" in
+*held*) echo 'opcplan: fault 50: plan.db: another program has the file open. The file is unchanged' >&2 ;;
+*other*) echo 'opcplan: fault 50: plan.db: the file is not a database. It is unchanged' >&2 ;;
 *) status=0 ;; esac
 rm "$next"
 exit $status
@@ -130,7 +131,7 @@ class Send(unittest.TestCase):
         self.assertEqual((ran.returncode, ran.stdout), (2, ""))
         self.assertIn("No occurrence has the serial 999: the last one is", ran.stderr)
 
-    def test_a_moment_that_is_none_is_told(self):
+    def test_a_moment_that_is_none_is_reported(self):
         for words, says in (
             ("start LEDGER 20.00", "it lacks its day: YYYY-MM-DD/20.00"),
             ("start LEDGER 8:30", "it lacks its day: YYYY-MM-DD/08.30"),
@@ -161,7 +162,7 @@ class Send(unittest.TestCase):
         with expected.held(self.plan, EXTENDED) as program:
             ran = self.send("start", "REPORT", "2024-01-01/20.00")
             self.assertEqual((ran.returncode, ran.stdout), (8, "fault 50\n"))
-            self.assertIn(f"another program has {self.plan} open", ran.stderr)
+            self.assertIn(f"{self.plan}: another program has the file open", ran.stderr)
             timer = threading.Timer(0.6, program.stdin.close)
             timer.start()
             ran = self.send("--wait", "30", "start", "REPORT", "2024-01-01/20.00")
@@ -183,15 +184,15 @@ class Send(unittest.TestCase):
         self.assertEqual([number for number, _ in self.jobs()], list(range(10, 15)))
 
     def test_nothing_is_run_twice(self):
-        held, told = ("held", "fault 50\n"), ("ok", "ok serial 2 status S\n")
-        program = self.stub(held, held, told)
+        held, found = ("held", "fault 50\n"), ("ok", "ok serial 2 status S\n")
+        program = self.stub(held, held, found)
         ran = self.send("--wait", "30", "start", "REPORT", "2024-01-01/20.00", program=program)
-        self.assertEqual((ran.returncode, ran.stdout, self.runs(program)), (0, told[1], 3))
+        self.assertEqual((ran.returncode, ran.stdout, self.runs(program)), (0, found[1], 3))
         for number, answers in enumerate((
-            [("other", "fault 50\n"), told],
-            [("held", "ok rows 0\nfault 50\n"), told],
-            [("held", "fault 41\n"), told],
-            [("held", ""), told],
+            [("other", "fault 50\n"), found],
+            [("held", "ok rows 0\nfault 50\n"), found],
+            [("held", "fault 41\n"), found],
+            [("held", ""), found],
         )):
             with self.subTest(number):
                 for name in self.room.glob("stub*"):
@@ -302,12 +303,12 @@ class ToADesk(desks.Case):
             self.assertEqual((ran.returncode, ran.stdout), (0, "ok serial 2 status C\n"))
         self.end(desk)
 
-    def test_what_a_desk_does_not_do_is_told(self):
+    def test_what_a_desk_does_not_do_is_reported(self):
         tokens = self.room / "tokens"
         tokens.write_text(f"{hashlib.sha256(b'secret').hexdigest()} job operate\n")
         desk = self.desk("--tokens", tokens)
         where = ["--desk", f"http://127.0.0.1:{desk.port}"]
-        for words, text, env, told in (
+        for words, text, env, message in (
             ([*where, "list", "cp"], None, {}, "a token is wanted"),
             ([*where, "dp-replan"], None, {"OPCPLAN_TOKEN": "secret"}, "job may not dp-replan"),
             (where, "define applications --job 7\nA,A,\n", {"OPCPLAN_TOKEN": "secret"}, "nothing was done"),
@@ -317,7 +318,7 @@ class ToADesk(desks.Case):
         ):
             ran = self.send(*words, text=text, env={**os.environ, **env})
             self.assertEqual((ran.returncode, ran.stdout, ran.stderr.count("\n")), (8, "", 1), ran.stderr)
-            self.assertIn(told, ran.stderr)
+            self.assertIn(message, ran.stderr)
         for words in (["--desk", "ftp://here", "list", "cp"], ["--desk", "x:y", "list", "cp"], ["list", "cp"],
                       [*where, "--key", "a b", "list", "cp"], [*where, "--db", self.plan, "list", "cp"],
                       [*where, "strt"], [*where, "define", "options"]):
@@ -331,8 +332,8 @@ class ToADesk(desks.Case):
         with subprocess.Popen([plans.TOP / "plan", "send", "--desk", where, "--wait", "60", "start", "REPORT",
                                "2024-01-01/20.00"], stdout=subprocess.PIPE, stderr=subprocess.PIPE, text=True) as sent:
             desk = self.desk()
-            told, wrong = sent.communicate(timeout=120)
-        self.assertEqual((sent.returncode, told, wrong), (0, "ok serial 2 status S\n", ""))
+            errors, wrong = sent.communicate(timeout=120)
+        self.assertEqual((sent.returncode, errors, wrong), (0, "ok serial 2 status S\n", ""))
         self.end(desk)
 
     def test_an_answer_that_breaks_off_is_asked_again(self):
@@ -392,7 +393,7 @@ class ToADesk(desks.Case):
                          [f"cp-{word} --app REPORT --ia 2024-01-01/20.00 --job {500_000_000 + number}"
                           for number, word in enumerate(("start", "fail"), 1)])
 
-    def test_what_a_desk_refuses_is_told_as_its_plan_is(self):
+    def test_what_a_desk_refuses_is_reported_as_its_plan_is(self):
         """A status since when and by whom, by the journal; and where an occurrence is instead."""
         desk = self.desk()
         where = ["--desk", desk.socket]

@@ -10,8 +10,6 @@ from unittest import mock
 
 from support import plans
 
-from opcplan.plans import printed_numbers
-
 BASE = """define calendars --job 1
 DEFAULT,SAT,FREE
 USA,SUN,FREE
@@ -64,6 +62,37 @@ SAID = (
     (["import", "--csv", "crontab", "--calendar", "USA", "plan.db"],
      "crontab: it is a crontab, and no file of days: is --cron meant?"),
     (["explain", "base.out", "base.in"], "base.in is no output of base.out"),
+    (["days", "plan.db", "LEDGER", "2027-01-05", "2027-01-07"],
+     "2027-01-05 and 2027-01-07 need their options: ./plan days plan.db LEDGER --from 2027-01-05 --to 2027-01-07;"),
+    (["days", "plan.db", "2027-01-05", "LEDGER"],
+     "2027-01-05 needs its option: ./plan days plan.db LEDGER --from 2027-01-05;"),
+    (["days", "plan.db", "LEDGER", "2027-01-05", "--from", "2027-01-01"],
+     "2027-01-05 needs its option: ./plan days plan.db LEDGER --from 2027-01-01 --to 2027-01-05;"),
+    (["days", "plan.db", "--try", "period=MONTH", "2027-01-05", "2027-01-07"],
+     ": ./plan days plan.db --try period=MONTH --from 2027-01-05 --to 2027-01-07;"),
+    (["rows", "plan.db", "LEDGER"], "LEDGER needs its option: ./plan rows plan.db --app LEDGER;"),
+    (["rows", "plan.db", "ltp", "started"], "started needs its option: ./plan rows plan.db ltp --status started;"),
+    (["rows", "plan.db", "ltp", "S"], "'S' needs an option before it: --app or --status;"),
+    (["late", "plan.db", "2027-01-05", "06.00"], ": ./plan late plan.db --now '2027-01-05 06.00';"),
+    (["late", "plan.db", "2027-01-05"], "a moment goes with --now, as `--now 2027-01-05/06.00`;"),
+    (["export", "plan.db", "csv", "ltp"], "csv and ltp need their options: ./plan export plan.db --csv --set ltp;"),
+    (["next-job", "plan.db", "7"], "'7' is one word too many;"),
+    (["import", "days.ics", "plan.db"], "days.ics needs its option: ./plan import plan.db --ics days.ics;"),
+    (["import", "crontab", "plan.db"], "crontab needs its option: ./plan import plan.db --cron crontab;"),
+    (["lint", "base.in", "plan.db"], "plan.db needs its option: ./plan lint base.in --plan plan.db;"),
+    (["run", "http://127.0.0.1:7411", "base.in"], ": ./plan run base.in --desk http://127.0.0.1:7411;"),
+    (["run", "base.in", "http://127.0.0.1:7411"], ": ./plan run base.in --desk http://127.0.0.1:7411;"),
+    (["page", "http://127.0.0.1:7411"], "'http://127.0.0.1:7411' is the address of a desk, and no file;"),
+    (["edit", "plan.db", "calendar", "DEFAULT", "2027-01-05", "2027-01-06", "free"],
+     "'2027-01-06' is none of free, work and unlist (days are given as FIRST..LAST);"),
+    (["why", "plan.db", "LEDGER", "2027-01-05/20.00", "06.00"],
+     "LEDGER 2027-01-05/20.00 is the whole key, and 06.00 is too much (is --now 06.00 meant?)"),
+    (["why-day", "plan.db", "LEDGER", "2027-01-05", "2027-01-06"],
+     "LEDGER 2027-01-05 is the whole key, and 2027-01-06 is too much; `./plan days PLAN.db LEDGER --from D --to D`"),
+    (["send", "plan.db", "start", "LEDGER", "2027-01-05/20.00"],
+     "plan.db needs its option: ./plan send --db plan.db start LEDGER 2027-01-05/20.00; nothing was sent"),
+    (["send", "--db", "plan.db", "dp-extend", "2027-01-05"], "(is `--to 2027-01-05/00.00` meant?); nothing was sent"),
+    (["send", "--db", "plan.db", "list", "cp", "LEDGER"], "(is `--app LEDGER` meant?); nothing was sent"),
 )
 
 
@@ -91,7 +120,7 @@ class Slips(unittest.TestCase):
                 self.assertIn(said, ran.stderr)
         self.assertEqual(plans.prints(self.plan), before)
 
-    def test_exchanged_files_are_told_by_explain(self):
+    def test_exchanged_files_are_reported_by_explain(self):
         self.assertTrue(plans.plan_in_here("explain", "base.out", "base.in").stderr.endswith("are they exchanged?\n"))
         self.assertNotIn("exchanged", plans.plan_in_here("explain", "base.in", "crontab").stderr)
 
@@ -100,7 +129,7 @@ class Slips(unittest.TestCase):
             ran = plans.plan_in_here("help", name)
             self.assertEqual((ran.returncode, ran.stdout), (0, plans.plan_in_here(name, "--help").stdout))
 
-    def test_a_crontab_of_which_nothing_fits_is_told_in_five_lines_at_most(self):
+    def test_a_crontab_of_which_nothing_fits_is_reported_in_five_lines_at_most(self):
         (self.room / "crontab").write_text("".join(f"@reboot job{number}\n" for number in range(12)))
         ran = plans.plan_in_here("import", "--cron", "crontab", "plan.db")
         self.assertEqual((ran.returncode, ran.stderr.count("is left out")), (1, 5))
@@ -111,16 +140,16 @@ class Slips(unittest.TestCase):
         (self.room / "slip.in").write_text(text)
         answers = [*["ok defined 2"] * 3, "ok defined 1", "refused 23 LEDGER", "refused 13", ""]
         (self.room / "slip.out").write_text("\n".join(answers))
-        told = plans.plan_in_here("explain", "slip.in", "slip.out").stdout
-        self.assertIn("DAILY names the period DYA (line 14) (is DAY meant?)", " ".join(told.split()))
-        self.assertIn("of calendars the name USB isn't defined (is USA meant?)", told)
+        output = plans.plan_in_here("explain", "slip.in", "slip.out").stdout
+        self.assertIn("DAILY names the period DYA (line 14) (is DAY meant?)", " ".join(output.split()))
+        self.assertIn("of calendars the name USB isn't defined (is USA meant?)", output)
 
     def test_a_field_with_a_blank_before_it(self):
         (self.room / "blank.in").write_text("define calendars --job 7\nDEFAULT, 2027-12-24,FREE\n/*\n")
         (self.room / "blank.out").write_text("refused 11 1\n")
-        told = " ".join(plans.plan_in_here("explain", "blank.in", "blank.out").stdout.split())
+        output = " ".join(plans.plan_in_here("explain", "blank.in", "blank.out").stdout.split())
         self.assertIn("it has to be MON, TUE, WED, THU, FRI, SAT, SUN or a day YYYY-MM-DD (without the blanks it would "
-                      "be)", told)
+                      "be)", output)
 
     def test_a_calendar_that_nobody_goes_by(self):
         ran = plans.plan_in_here("edit", "plan.db", "calendar", "USA", "2027-12-24", "free")
@@ -173,20 +202,6 @@ class Numbers(unittest.TestCase):
         self.assertEqual(self.edit("2027-12-28"), [9])
         self.keep(8, 9)
         self.assertEqual(self.edit("2027-12-29"), [10])
-
-    def test_what_others_may_write_is_not_read(self):
-        self.edit("2027-12-24")
-        file = self.room / "state" / "opcplan" / printed_numbers.FILE
-        self.assertEqual((file.stat().st_mode & 0o777, file.parent.stat().st_mode & 0o777), (0o600, 0o700))
-        file.chmod(0o666)
-        self.assertEqual(self.edit("2027-12-27"), [6])
-        file.chmod(0o600)
-        file.write_text("[not what was written")
-        self.assertEqual(self.edit("2027-12-27"), [6])
-        file.unlink()
-        file.symlink_to(self.room / "elsewhere")
-        self.assertEqual(self.edit("2027-12-27"), [6])
-        self.assertFalse((self.room / "elsewhere").exists())
 
 
 if __name__ == "__main__":

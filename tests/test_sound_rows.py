@@ -98,7 +98,7 @@ class SoundRows(unittest.TestCase):
             db.commit()
         return file
 
-    def assert_told(self, file, *words):
+    def assert_reported(self, file, *words):
         """Asks that each subcommand tells the plan in one line, and shows nothing of it."""
         for asked in asked_of(file):
             with self.subTest(file.name, words=asked[0]):
@@ -114,15 +114,15 @@ class SoundRows(unittest.TestCase):
             with self.subTest(name), plan_file.opened(plans.of_worked(name)) as plan:
                 self.assertEqual(plan.version, 2)
 
-    def test_what_opcplan_tells_is_told(self):
+    def test_what_opcplan_reports_is_reported(self):
         tool, plan, tried = plan_files(), plans.of_worked(PLAN), 0
         for name, fault, base, change in tool.UNFIT:
             if base and name not in OF_OPCPLAN:
                 file = plans.copy_of(plan, self.room)
                 tool.changed(change, file)
-                with self.subTest(name), self.assertRaises(Unreadable) as told, plan_file.opened(file):
+                with self.subTest(name), self.assertRaises(Unreadable) as raised, plan_file.opened(file):
                     self.fail("it was opened")
-                self.assertIn("no sound plan" if fault == 52 else "", str(told.exception))
+                self.assertIn("no sound plan" if fault == 52 else "", str(raised.exception))
                 tool.remove(file)
                 tried += 1
         self.assertGreater(tried, 30)
@@ -159,11 +159,11 @@ class SoundRows(unittest.TestCase):
         try:
             db.execute(f"UPDATE {table} SET {column} = {value} WHERE rowid = (SELECT min(rowid) FROM {table})")
             with self.subTest(table, column=column, value=str(value)[:60]):
-                with self.assertRaises(sound_rows.Unsound) as told:
+                with self.assertRaises(sound_rows.Unsound) as raised:
                     sound_rows.ask(db, 2)
-                self.assertIn(f"{column} of ", str(told.exception))
-                self.assertTrue(str(told.exception).isprintable())
-                self.assertLess(len(str(told.exception)), 400)
+                self.assertIn(f"{column} of ", str(raised.exception))
+                self.assertTrue(str(raised.exception).isprintable())
+                self.assertLess(len(str(raised.exception)), 400)
         except sqlite3.IntegrityError:
             return False
         finally:
@@ -196,41 +196,41 @@ class SoundRows(unittest.TestCase):
                 db.execute(text)
                 db.commit()
                 db.execute("PRAGMA wal_checkpoint(TRUNCATE)")
-            told = ""
+            found = ""
             try:
                 with plan_file.opened(file):
                     sound += 1
             except Unreadable as why:
-                told = str(why).partition("no sound plan: ")[2]
-                unsound[told] += 1
+                found = str(why).partition("no sound plan: ")[2]
+                unsound[found] += 1
             ran = plans.subprocess.run([plans.PROGRAM, "--db", file], input=b"", capture_output=True, check=False)
-            if (ran.stdout == b"fault 52\n") != bool(told):
-                differ.append((name, text, told, ran.stdout))
+            if (ran.stdout == b"fault 52\n") != bool(found):
+                differ.append((name, text, found, ran.stdout))
         self.assertEqual(differ, [])
         self.assertGreater(sound, 10)
         self.assertGreater(len(unsound), 5, unsound)
 
     def test_name_that_is_statements_goes_into_no_stream(self):
         file = self.changed("statements.db", f"INSERT INTO application VALUES ({text_of(STATEMENTS)}, 1, NULL)")
-        self.assert_told(file, "name of application is 'A,A,\\x0a/*\\x0altp-create")
+        self.assert_reported(file, "name of application is 'A,A,\\x0a/*\\x0altp-create")
 
     def test_name_that_is_lines_of_a_calendar_goes_into_none(self):
         name = text_of("X\r\nATTACH:http://example.com/x\rSUMMARY:Y" + "Z" * 112)
         last = "(SELECT max(serial) FROM cp_row)"
         file = self.changed("lines.db", f"UPDATE cp_row SET app = {name} WHERE serial = {last}")
-        self.assert_told(file, "app of cp_row is 'X\\x0d\\x0aATTACH:")
+        self.assert_reported(file, "app of cp_row is 'X\\x0d\\x0aATTACH:")
 
     def test_name_that_is_a_formula_goes_into_no_table(self):
         name = text_of('=HYPERLINK("http://example.com/"&A1)')
         last = "(SELECT max(serial) FROM ltp_row)"
         file = self.changed("formula.db", f"UPDATE ltp_row SET app = {name} WHERE serial = {last}")
-        self.assert_told(file, "app of ltp_row is '=HYPERLINK")
+        self.assert_reported(file, "app of ltp_row is '=HYPERLINK")
 
     def test_name_that_moves_a_cursor_is_shown_to_no_terminal(self):
         file = self.changed("cursor.db", f"UPDATE run_cycle SET period = {text_of(chr(27) + '[2J')}")
-        self.assert_told(file, "period of run_cycle is '\\x1b[2J'")
+        self.assert_reported(file, "period of run_cycle is '\\x1b[2J'")
 
-    def test_index_that_says_other_names_is_told(self):
+    def test_index_that_says_other_names_is_reported(self):
         """The names of an index are read in place of those of the table; here it is made of other rows."""
         file = plans.copy_of(plans.of_worked(PLAN), self.room)
         with closing(sqlite3.connect(file)) as db:
@@ -242,25 +242,25 @@ class SoundRows(unittest.TestCase):
         self.assertIn(app.encode(), page)
         other = page.replace(app.encode(), b"\x1b" * len(app))
         file.write_bytes(data[: (root - 1) * 4096] + other + data[root * 4096 :])
-        with self.assertRaises(Unreadable) as told, plan_file.opened(file):
+        with self.assertRaises(Unreadable) as raised, plan_file.opened(file):
             self.fail("it was opened")
-        self.assertIn("table application is damaged", str(told.exception))
+        self.assertIn("table application is damaged", str(raised.exception))
 
     def root_of(self, file, name):
         """The page at which an index begins."""
         with closing(sqlite3.connect(file)) as db:
             return db.execute("SELECT rootpage FROM sqlite_schema WHERE name = ?", [name]).fetchone()[0]
 
-    def test_tables_that_are_made_otherwise_are_told(self):
+    def test_tables_that_are_made_otherwise_are_reported(self):
         key = "CREATE TABLE application (name TEXT NOT NULL, active INTEGER NOT NULL, calendar TEXT) STRICT"
         made = ("CREATE TABLE application (name TEXT NOT NULL, active INTEGER AS (abs(-9223372036854775808)), "
                 "calendar TEXT, PRIMARY KEY (name))")
         virtual = "CREATE VIRTUAL TABLE application USING fts4 (name, active, calendar)"
         for name, text in (("key", key), ("made", made), ("virtual", virtual)):
             file = self.changed(f"{name}.db", "DROP TABLE application", text)
-            with self.subTest(name), self.assertRaises(Unreadable) as told, plan_file.opened(file):
+            with self.subTest(name), self.assertRaises(Unreadable) as raised, plan_file.opened(file):
                 self.fail("it was opened")
-            self.assertIn("application", str(told.exception))
+            self.assertIn("application", str(raised.exception))
 
 
 if __name__ == "__main__":

@@ -91,8 +91,29 @@ class Status(unittest.TestCase):
     def test_no_plan_yet(self):
         ran = plans.plan_in_here("status", plans.of_stream("define options --job 1\ndefault_calendar = \"A\"\n"
                                                            "max_extension_hours = 24\n/*\n"))
-        self.assertIn("There is no long-term plan yet: `ltp-create` makes one.", ran.stdout)
+        self.assertIn("There is no long-term plan yet: `ltp-create` makes one, as `./plan send", ran.stdout)
         self.assertEqual(plans.plan_in_here("status").returncode, 2)
+
+    def test_a_plan_before_its_first_daily_plan(self):
+        text = plans.stream("monday").partition(b"dp-extend")[0]
+        planner = plans.planner_of(text)
+        self.assertEqual((planner.bounds[2], planner.current), (planner.bounds[0] * moments.DAY, {}))
+        for word, status in (("2023-12-30/12.00", 0), ("2023-12-31/13.00", 1), ("2024-01-01/00.00", 1)):
+            ran = plans.plan_in_here("status", plans.of_stream(text), "--now", word)
+            self.assertIn("\nThe current plan is empty: the first `dp-extend` fills it, from 2024-01-01 00.00 on.\n",
+                          ran.stdout)
+            self.assertNotIn("0 occurrences", ran.stdout)
+            self.assertEqual(ran.returncode, status, word)
+
+    def test_the_words_that_make_a_long_term_plan_are_taken(self):
+        text = plans.stream("monday").partition(b"ltp-create")[0]
+        path = plans.copy_of(plans.of_stream(text), self.room)
+        said = plans.plan_in_here("status", path).stdout
+        words = re.search("`./plan (send .*)`", said)[1].replace("PLAN.db", str(path))
+        for day in ("2024-01-01", "2024-01-31"):
+            words = words.replace("DAY", day, 1)
+        ran = plans.plan(*words.split())
+        self.assertEqual((ran.returncode, ran.stdout), (0, "ok made 46 withdrawn 0\n"))
 
     def test_colours_only_where_they_are_wanted(self):
         path = plans.of_worked("monday")
@@ -109,7 +130,7 @@ class Status(unittest.TestCase):
 class OfADesk(desks.Case):
     TEXT = plans.stream("monday")
 
-    def test_a_desk_tells_the_same(self):
+    def test_a_desk_reports_the_same(self):
         alone = plans.plan("status", self.plan, "--now", "2024-01-01/12.00").stdout.splitlines()[1:]
         desk = self.desk()
         words = ["status", "--desk", desk.socket, "--now", "2024-01-01/12.00"]

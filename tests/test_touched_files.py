@@ -4,6 +4,7 @@ its status are those of a run that nobody disturbed."""
 import contextlib
 import hashlib
 import os
+import re
 import select
 import sqlite3
 import subprocess
@@ -18,14 +19,14 @@ from support import expected, plans
 OPTIONS = b"define options --job 900001\nmax_extension_hours = 99\n/*\n"
 ASKED = b"list ltp --app NOBODY\n"
 MORE = b"define options --job 900002\nmax_extension_hours = 98\n/*\n"
-TAKEN = "opcplan: FILE was taken away while this ran"
-REPLACED = "opcplan: FILE is no longer the file that was opened"
-CUT = "opcplan: FILE was cut or overwritten while this ran"
-OTHER_LOG = "opcplan: FILE-wal is not the log that this run wrote"
-LOG_CUT = "opcplan: the disk failed as FILE was closed, or FILE-wal was cut or taken away"
+TAKEN = "the file was removed while this ran"
+REPLACED = "another file is at this path now"
+CUT = "the file was cut or overwritten while this ran"
+OTHER_LOG = "the -wal file is not the log that this run wrote"
+LOG_CUT = "the disk failed while the file was being closed, or the -wal file was cut or removed"
 BACKUP = "./plan restore"
 AGAIN = "un the whole stream again"
-LOG_AWAY = "Take FILE-wal away"
+LOG_AWAY = "Remove the -wal file"
 # what a log has that holds nothing
 EMPTY_LOG = 41
 
@@ -79,18 +80,18 @@ class Touched(unittest.TestCase):
         """What is said of a run that files were touched in, once its answers and its status are as they should be."""
         with self.running(text, file) as ran:
             touch()
-            out, told = ran.communicate(more, timeout=60)
-        self.assertEqual((out, ran.returncode), (answers, 0), told)
-        lines = told.decode().splitlines()
-        self.assertLessEqual(len(lines), 1, told)
+            out, stderr = ran.communicate(more, timeout=60)
+        self.assertEqual((out, ran.returncode), (answers, 0), stderr)
+        lines = stderr.decode().splitlines()
+        self.assertLessEqual(len(lines), 1, stderr)
         return "".join(lines)
 
-    def check_told(self, told, *said, unsaid=()):
-        self.assertTrue(told.startswith(said[0]), told)
+    def check_reported(self, message, *said, unsaid=()):
+        self.assertRegex(message, rf"\Aopcplan: [^:]+: {re.escape(said[0])}")
         for one in said:
-            self.assertIn(one, told)
+            self.assertIn(one, message)
         for one in ("othing is lost", *unsaid):
-            self.assertNotIn(one, told)
+            self.assertNotIn(one, message)
 
     def hours(self, path):
         with closing(sqlite3.connect(path)) as db:
@@ -109,16 +110,16 @@ class Touched(unittest.TestCase):
             for touch in (lambda: self.plan.unlink(), lambda: self.plan.rename(self.room / "elsewhere.db")):
                 with self.subTest(text):
                     self.start("two-hundred-statements")
-                    told = self.touched(touch, text, MORE, b"ok defined 1\n")
-                    self.check_told(told, TAKEN, BACKUP, AGAIN, unsaid=("FILE-wal",))
+                    stderr = self.touched(touch, text, MORE, b"ok defined 1\n")
+                    self.check_reported(stderr, TAKEN, BACKUP, AGAIN, unsaid=("-wal",))
         self.assertEqual(self.hours(self.room / "elsewhere.db"), 98)
 
     def test_file_that_is_replaced(self):
         for text in (OPTIONS, b""):
             self.start("two-hundred-statements")
             wanted = sum_of(self.other)
-            told = self.touched(lambda: self.other.rename(self.plan), text, MORE, b"ok defined 1\n")
-            self.check_told(told, REPLACED, AGAIN, unsaid=("FILE-wal",))
+            stderr = self.touched(lambda: self.other.rename(self.plan), text, MORE, b"ok defined 1\n")
+            self.check_reported(stderr, REPLACED, AGAIN, unsaid=("-wal",))
             self.assertEqual((sum_of(self.plan), self.log.stat().st_size), (wanted, EMPTY_LOG))
         self.assertEqual(expected.of_file(self.plan), expected.of_stream(plans.stream("monday")))
 
@@ -126,7 +127,7 @@ class Touched(unittest.TestCase):
         link, new = self.room / "link.db", self.room / "new"
         link.symlink_to(self.plan.name)
         new.symlink_to(self.other.name)
-        self.check_told(self.touched(lambda: new.rename(link), file=link), REPLACED)
+        self.check_reported(self.touched(lambda: new.rename(link), file=link), REPLACED)
 
     def test_file_that_is_cut(self):
         """The log is not copied into what is left of it, whether or not the run wrote something."""
@@ -135,13 +136,13 @@ class Touched(unittest.TestCase):
             for text in (OPTIONS, b""):
                 with self.subTest(bytes_left, text=text):
                     self.start("two-hundred-statements")
-                    told = self.touched(lambda: os.truncate(self.plan, bytes_left), text)
-                    self.check_told(told, CUT, BACKUP, AGAIN)
+                    stderr = self.touched(lambda: os.truncate(self.plan, bytes_left), text)
+                    self.check_reported(stderr, CUT, BACKUP, AGAIN)
                     self.assertEqual(self.plan.stat().st_size, bytes_left)
 
     def test_file_that_is_cut_before_more_statements(self):
-        told = self.touched(lambda: os.truncate(self.plan, 5000), OPTIONS, MORE, b"ok defined 1\n")
-        self.check_told(told, CUT)
+        stderr = self.touched(lambda: os.truncate(self.plan, 5000), OPTIONS, MORE, b"ok defined 1\n")
+        self.check_reported(stderr, CUT)
 
     def test_log_that_is_taken_away(self):
         """What it had is in FILE all the same, so nothing is said."""
@@ -153,8 +154,8 @@ class Touched(unittest.TestCase):
             self.start("two-hundred-statements")
             strange = self.room / "strange"
             strange.write_bytes(b"junk" * 1000)
-            told = self.touched(lambda: strange.rename(self.log), text, MORE, b"ok defined 1\n")
-            self.check_told(told, OTHER_LOG, "take it away", "FILE is whole")
+            stderr = self.touched(lambda: strange.rename(self.log), text, MORE, b"ok defined 1\n")
+            self.check_reported(stderr, OTHER_LOG, "Remove it", "The file itself is whole")
             self.assertEqual(self.log.stat().st_size, 4000)
             self.log.unlink()
             self.assertEqual(self.hours(self.plan), 98)
@@ -163,28 +164,28 @@ class Touched(unittest.TestCase):
         def cut():
             os.truncate(self.log, 100)
 
-        self.check_told(self.touched(cut), LOG_CUT, AGAIN)
+        self.check_reported(self.touched(cut), LOG_CUT, AGAIN)
 
         def cut_and_taken():
             cut()
             self.log.unlink()
 
         self.start("two-hundred-statements")
-        self.check_told(self.touched(cut_and_taken), LOG_CUT)
+        self.check_reported(self.touched(cut_and_taken), LOG_CUT)
 
     def test_log_that_is_cut_and_grows_again(self):
         """It has its length again at the end, with less in it."""
         for bytes_left in (0, EMPTY_LOG, 100, 5000):
             with self.subTest(bytes_left):
                 self.start("two-hundred-statements")
-                told = self.touched(lambda: os.truncate(self.log, bytes_left), OPTIONS, MORE, b"ok defined 1\n")
-                self.check_told(told, LOG_CUT, AGAIN)
+                stderr = self.touched(lambda: os.truncate(self.log, bytes_left), OPTIONS, MORE, b"ok defined 1\n")
+                self.check_reported(stderr, LOG_CUT, AGAIN)
 
     def test_log_that_is_emptied_in_its_place(self):
         """A long log is copied while the run goes on: it keeps its length, and nothing is said."""
         text = b"".join(b"define options --job %d\n/*\n" % (900001 + turn) for turn in range(1200))
-        lines, status, told = expected.asked(self.plan, text)
-        self.assertEqual((lines, status, told), (["ok defined 1"] * 1200, 0, ""))
+        lines, status, stderr = expected.asked(self.plan, text)
+        self.assertEqual((lines, status, stderr), (["ok defined 1"] * 1200, 0, ""))
         self.assertEqual(self.log.stat().st_size, EMPTY_LOG)
 
     def test_log_that_is_cut_beside_a_file_that_is_replaced(self):
@@ -193,14 +194,14 @@ class Touched(unittest.TestCase):
             os.truncate(self.log, 100)
             self.other.rename(self.plan)
 
-        self.check_told(self.touched(cut), REPLACED, LOG_AWAY)
+        self.check_reported(self.touched(cut), REPLACED, LOG_AWAY)
 
         def cut_and_taken():
             cut()
             self.log.unlink()
 
         self.start("two-hundred-statements")
-        self.check_told(self.touched(cut_and_taken), REPLACED, unsaid=(LOG_AWAY,))
+        self.check_reported(self.touched(cut_and_taken), REPLACED, unsaid=(LOG_AWAY,))
 
     def test_what_holds_first(self):
         """FILE before FILE-wal, and what was taken away before what was cut."""
@@ -223,21 +224,21 @@ class Touched(unittest.TestCase):
         for touch, wanted in ((take, TAKEN), (replace, REPLACED), (cut, CUT)):
             self.start("two-hundred-statements")
             strange.write_bytes(b"junk" * 1000)
-            self.check_told(self.touched(touch), wanted, unsaid=(LOG_AWAY,))
+            self.check_reported(self.touched(touch), wanted, unsaid=(LOG_AWAY,))
 
     def test_fault_over_a_file_that_is_taken_away(self):
         """It isn't said that what was answered stands; where FILE stays, it is."""
-        for touch, wanted in ((self.plan.unlink, TAKEN), (lambda: None, "opcplan: fault 41: standard output failed")):
+        for touch, wanted in ((self.plan.unlink, TAKEN), (lambda: None, "standard output failed")):
             self.start("two-hundred-statements")
             with self.running(OPTIONS) as ran:
                 touch()
                 ran.stdout.close()
                 ran.stdin.write(ASKED)
                 ran.stdin.close()
-                told = ran.stderr.read().decode()
-            self.assertEqual((ran.returncode, told.count("\n")), (8, 1), told)
-            self.assertTrue(told.startswith(wanted), told)
-            self.assertEqual("what was answered stands" in told, wanted != TAKEN)
+                stderr = ran.stderr.read().decode()
+            self.assertEqual((ran.returncode, stderr.count("\n")), (8, 1), stderr)
+            self.assertRegex(stderr, rf"\Aopcplan: [^:]+: {wanted}")
+            self.assertEqual("Every answered statement is done" in stderr, wanted != TAKEN)
 
     def test_file_that_its_log_makes_shorter(self):
         """Stock SQLite took pages away and was killed: the next run cuts FILE, at its end or, if long, before."""
@@ -254,16 +255,16 @@ class Touched(unittest.TestCase):
                 plans.copy_of(self.plan, self.room, "killed.db")
             killed = self.room / "killed.db"
             whole = killed.stat().st_size
-            lines, status, told = expected.asked(killed, b"".join(text.splitlines(keepends=True)[: 2 * count]))
-            self.assertEqual((lines, status, told), (["ok defined 1"] * count, 0, ""))
+            lines, status, stderr = expected.asked(killed, b"".join(text.splitlines(keepends=True)[: 2 * count]))
+            self.assertEqual((lines, status, stderr), (["ok defined 1"] * count, 0, ""))
             self.assertLess(killed.stat().st_size, whole)
 
     def test_file_that_is_new(self):
-        lines, status, told = expected.asked(self.room / "new.db", plans.stream("two-hundred-statements"))
+        lines, status, stderr = expected.asked(self.room / "new.db", plans.stream("two-hundred-statements"))
         wanted = (plans.DATA / "two-hundred-statements.out").read_text().splitlines()
         self.assertEqual((lines, status), (wanted, 4))
-        self.assertEqual(told.count("\n"), 1)
-        self.assertIn("a new one was made", told)
+        self.assertEqual(stderr.count("\n"), 1)
+        self.assertIn("a new one was made", stderr)
 
 
 if __name__ == "__main__":

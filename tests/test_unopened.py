@@ -102,7 +102,7 @@ class Unopened(unittest.TestCase):
             self.assertEqual(sum(cause.startswith(known) for cause in causes), 1, known)
         self.assertEqual(len(causes), len(MADE) + len(ELSEWHERE))
 
-    def test_each_is_told_and_has_a_way_out(self):
+    def test_each_is_reported_and_has_a_way_out(self):
         for cause, number, way in rows():
             first = [] if cause.startswith(WITHOUT_PLAN) else [MONDAY]
             text = EXTENDED if number == 41 else b""

@@ -110,8 +110,8 @@ class Expected:
             if place in "LWSE":
                 chain = self.chain(serial)
                 ends = sorted((self.rows[end][0] for end in chain if end not in self.waits), key=plain.in_lists)
-                told = [f"{row[1]} {plain.moment_text(row[2])} {self.state(row[0])}" for row in ends]
-                found[serial] = (self.state(serial), len(chain), "; ".join(told) or None)
+                seen = [f"{row[1]} {plain.moment_text(row[2])} {self.state(row[0])}" for row in ends]
+                found[serial] = (self.state(serial), len(chain), "; ".join(seen) or None)
         return found
 
 

@@ -194,7 +194,7 @@ class WhatIf(unittest.TestCase):
         ran = plans.plan("what-if", file, "-", "--program", plans.PROGRAM, text=text)
         self.assertEqual((ran.returncode, ran.stdout), (1, self.tried(file, text.encode()).stdout))
 
-    def test_what_cannot_be_tried_is_told(self):
+    def test_what_cannot_be_tried_is_reported(self):
         file, stream = plans.of_worked("monday"), self.room / "stream.in"
         stream.write_bytes(b"list cp\n")
         for words in ((file, self.room / "nowhere.in"), (self.room / "nowhere.db", stream), (stream, stream),
@@ -205,7 +205,7 @@ class WhatIf(unittest.TestCase):
         for words in ((), (file,), (file, stream, "more"), (file, stream, "--db", "x")):
             self.assertEqual(plans.plan("what-if", *words).returncode, 2, words)
 
-    def test_planner_that_ends_in_a_fault_is_told(self):
+    def test_planner_that_ends_in_a_fault_is_reported(self):
         program = self.room / "faulty"
         program.write_text("#!/bin/sh\necho ok rows 0\necho fault 41\nexit 8\n")
         os.chmod(program, 0o755)

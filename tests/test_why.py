@@ -98,10 +98,10 @@ class Rows(unittest.TestCase):
     def check_waiting(self, found, mine, lines):
         """The tree has each row that isn't complete, once with what it waits for; the last ones wait for nothing."""
         text = "\n".join(lines)
-        told = re.search(r"It waits for ([0-9]+) that (?:is|are) not complete:", text)
-        self.assertEqual(int(told.group(1)) if told else 0, len(found) - 1)
+        seen = re.search(r"It waits for ([0-9]+) that (?:is|are) not complete:", text)
+        self.assertEqual(int(seen.group(1)) if seen else 0, len(found) - 1)
         self.assertEqual("Nothing is in its way" in text, len(found) == 1)
-        if not told:
+        if not seen:
             return
         tree, _, ends = text.partition(" not complete:\n\n")[2].partition("\n\nOf these,")
         below = self.below(tree, mine.serial)
@@ -131,13 +131,13 @@ class Rows(unittest.TestCase):
                         try:
                             planner.copy().act("start", row[1], row[2])
                             self.assertEqual(blocked, [], name)
-                        except plain.Refused as refused:
+                        except plain.Refusal as refused:
                             self.assertEqual(refused.line, f"refused 30 {min(one.serial for one in blocked)}", name)
 
 
 class Nowhere(unittest.TestCase):
     def test_what_was_never_made(self):
-        told = set()
+        found = set()
         for name in ("week-of-daily-plans", "withdrawn-and-named-again", "made-pending", "definitions-taken-away"):
             text = plans.stream(name)
             planner = plans.planner_of(text)
@@ -147,8 +147,8 @@ class Nowhere(unittest.TestCase):
                     for ia in self.moments(planner):
                         if (app, ia) not in known:
                             with self.subTest(name, app=app, ia=plain.moment_text(ia)):
-                                told |= self.check(planner, plan, app, ia)
-        self.assertEqual(told, {"names", "nothing names", "isn't defined", "pending", "no long-term plan"})
+                                found |= self.check(planner, plan, app, ia)
+        self.assertEqual(found, {"names", "nothing names", "isn't defined", "pending", "no long-term plan"})
 
     def moments(self, planner):
         first = planner.bounds[0] if planner.bounds else moments.day_of("2024-01-01")
@@ -169,7 +169,7 @@ class Nowhere(unittest.TestCase):
             try:
                 planner.ask_definitions([app])
                 named = (ia // plain.DAY, ia % plain.DAY) in planner.named(app, ia // plain.DAY, ia // plain.DAY)
-            except plain.Refused:
+            except plain.Refusal:
                 pass
         self.assertEqual("now nothing names it" not in text, named)
         is_unknown = app not in planner.defined["applications"]
@@ -177,8 +177,8 @@ class Nowhere(unittest.TestCase):
         is_pending = not planner.defined["applications"].get(app, (True, None))[0]
         self.assertEqual("is pending, and only active ones" in text, is_pending)
         self.assertEqual("There is no long-term plan yet" in text, planner.bounds is None)
-        told = {"pending": is_pending, "no long-term plan": planner.bounds is None, "isn't defined": is_unknown}
-        return {"names" if named else "nothing names", *(text for text, holds in told.items() if holds)}
+        found = {"pending": is_pending, "no long-term plan": planner.bounds is None, "isn't defined": is_unknown}
+        return {"names" if named else "nothing names", *(text for text, holds in found.items() if holds)}
 
 
 class Command(unittest.TestCase):
@@ -198,21 +198,21 @@ class Command(unittest.TestCase):
         return ran.stdout
 
     def test_what_waits(self):
-        told = self.ask("REPORT", "2024-01-02/20.00", "--now", "2024-01-03/08.30")
+        output = self.ask("REPORT", "2024-01-02/20.00", "--now", "2024-01-03/08.30")
         for text in ("REPORT 2024-01-02 20.00 waits in the current plan (serial 4, by RC, due 2024-01-03 08.00).",
                      "At 2024-01-03 08.30 it is blocked, and late by 30 min.", "It waits for 1 that is not complete:",
                      "  LEDGER 2024-01-02 18.00  ready  due 2024-01-03 06.00, serial 3, late by 2 h 30 min",
                      "  job 12  cp-start: refused 30 3"):
-            self.assertIn(text, told)
+            self.assertIn(text, output)
 
     def test_late_is_past_the_deadline_alone(self):
         self.assertNotIn("late", self.ask("REPORT", "2024-01-02/20.00", "--now", "2024-01-03/06.00"))
         self.assertIn("late by 1 min", self.ask("REPORT", "2024-01-02/20.00", "--now", "2024-01-03/06.01"))
 
     def test_jobs_of_what_is_complete(self):
-        told = self.ask("ledger", "2024-01-01/18.00")
-        self.assertIn("is complete, in history", told)
-        self.assertIn("  job 8  cp-start: ok serial 1 status S\n  job 9  cp-complete: ok serial 1 status C\n", told)
+        output = self.ask("ledger", "2024-01-01/18.00")
+        self.assertIn("is complete, in history", output)
+        self.assertIn("  job 8  cp-start: ok serial 1 status S\n  job 9  cp-complete: ok serial 1 status C\n", output)
 
     def test_a_name_that_is_like_another(self):
         self.assertEqual(self.ask("LEGDER", "2024-01-13/18.00", status=1),

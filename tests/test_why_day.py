@@ -29,7 +29,7 @@ class Defined(plain.Planner):
     """A planner that takes definitions alone, and nothing else."""
 
     def refuse(self, *_):
-        raise plain.Refused(20)
+        raise plain.Refusal(20)
 
     def nothing(self, *_):
         return []
@@ -54,7 +54,7 @@ def read_back(text):
         db.row_factory = sqlite3.Row
         for made in plans.schema():
             db.execute(made)
-        for table, rows in tool.rows_told(defined_by(text)).items():
+        for table, rows in tool.table_rows(defined_by(text)).items():
             columns = tool.COLUMNS[table]
             db.executemany(f"INSERT INTO {table} ({columns}) VALUES ({', '.join('?' * len(columns.split(',')))})", rows)
         meta = db.execute("SELECT * FROM plan_meta").fetchone()
@@ -98,7 +98,7 @@ def obstacle(planner, app):
     """Why an application isn't planned, by the plain planner."""
     try:
         planner.ask_definitions([app])
-    except plain.Refused as refused:
+    except plain.Refusal as refused:
         if refused.line.startswith("refused 22"):
             return "calendar"
         return "periods" if planner.defined["applications"][app][0] else "pending"
@@ -163,9 +163,9 @@ class Days(unittest.TestCase):
         self.assertEqual([one.cycle.name for one in said.answers], sorted(planner.defined["run-cycles"].get(app, {})))
         for one in said.answers:
             self.assertEqual(one.names, not one.reasons)
-            self.assertTrue(all(naming_words.told(read, app, day, one)))
+            self.assertTrue(all(naming_words.reasons(read, app, day, one)))
 
-    def test_what_can_not_be_planned_is_told(self):
+    def test_what_can_not_be_planned_is_reported(self):
         seen = set()
         for _, planner, read, app in differing():
             said = naming.names(read, app, NEW_YEAR)
@@ -296,24 +296,24 @@ class Command(unittest.TestCase):
         return " ".join(ran.stdout.split())
 
     def test_a_day_that_is_named_by_a_move(self):
-        told = self.ask("PAYROLL", "2024-02-23", 0)
+        output = self.ask("PAYROLL", "2024-02-23", 0)
         raw = "offset 25 gives Sunday 2024-02-25, the 25th day of MONTH's interval 2024-02-01 to 2024-02-29"
         for text in ("named at 08.00.", "by WAGES, due 2024-02-23 16.00", raw,
                      "It stands in the long-term plan (serial ", "by rule 1 it goes to the work day before"):
-            self.assertIn(text, told)
+            self.assertIn(text, output)
 
     def test_small_letters_of_an_application(self):
         self.assertEqual(self.ask("payroll", "2024-02-23", 0), self.ask("PAYROLL", "2024-02-23", 0))
 
     def test_a_free_date(self):
-        told = self.ask("PAYROLL", "2024-12-25", 1)
-        self.assertIn("not named.", told)
-        self.assertIn("BANK lists 2024-12-25 as free", told)
-        self.assertIn("by rule 1 it goes to the work day before, Monday 2024-12-23", told)
+        output = self.ask("PAYROLL", "2024-12-25", 1)
+        self.assertIn("not named.", output)
+        self.assertIn("BANK lists 2024-12-25 as free", output)
+        self.assertIn("by rule 1 it goes to the work day before, Monday 2024-12-23", output)
 
     def test_a_day_that_an_excluding_run_cycle_takes(self):
-        told = self.ask("REPORT", "2024-12-02", 1)
-        self.assertIn("07.00 taken away by CLOSED, though MORNING names it", told)
+        output = self.ask("REPORT", "2024-12-02", 1)
+        self.assertIn("07.00 taken away by CLOSED, though MORNING names it", output)
 
     def test_a_pending_application_and_an_unknown_one(self):
         self.assertIn("ARCHIVE is pending", self.ask("ARCHIVE", "2024-12-02", 1))
@@ -346,7 +346,7 @@ class Missing(unittest.TestCase):
     TEXTS = "isn't made yet", "isn't made:", "an operator deleted it"
 
     def test_a_modification_makes_what_is_said_to_wait_for_one(self):
-        told = set()
+        found = set()
         # an application is named on further days, and nothing is modified yet
         late = plans.stream("monday") + plans.stream("tuesday") + DAILY.encode()
         for name in ("batch-through-all-sets", "withdrawn-and-named-again", "deleted-stays-deleted", None):
@@ -354,18 +354,18 @@ class Missing(unittest.TestCase):
                 planner = plans.planner_of(text)
                 with contextlib.ExitStack() as stack:
                     plan = stack.enter_context(plan_file.opened(plans.of_stream(text)))
-                    told |= self.check(planner, plan)
-        self.assertEqual(told, set(self.TEXTS))
+                    found |= self.check(planner, plan)
+        self.assertEqual(found, set(self.TEXTS))
 
     def check(self, planner, plan):
         if planner.bounds is None:
             return set()
-        told, read = set(), plan_definitions.of_plan(plan)
+        seen, read = set(), plan_definitions.of_plan(plan)
         for app in planner.active():
             after = planner.copy()
             try:
                 after.modify_one(app)[2]()
-            except plain.Refused:
+            except plain.Refusal:
                 continue
             made = {row[2] for row in after.planned.values() if row[1] == app}
             live = {row[2] for row in planner.live() if row[1] == app}
@@ -378,8 +378,8 @@ class Missing(unittest.TestCase):
                     self.assertEqual(bool(found), ia not in live)
                     if found:
                         self.assertEqual("modify-one" in found[0], ia in made)
-                        told |= {text for text in self.TEXTS if text in found[0]}
-        return told
+                        seen |= {text for text in self.TEXTS if text in found[0]}
+        return seen
 
 
 def beginnings(text):

@@ -1,22 +1,38 @@
-"""./plan SUBCOMMAND: what an operator asks of a plan or a stream. Agent, desk, run, send, restore change a plan."""
+"""./plan SUBCOMMAND: what an operator asks of a plan or a stream. agent, desk, roll, run, send, restore change one."""
 
-import argparse
-import importlib
-import keyword
+from __future__ import annotations
+
 import os
-import re
 import sys
-from typing import Protocol, cast
 
-from opcplan.cli import output, signals, version, words
-from opcplan.errors import Error, WrongWords
+from opcplan.cli import output, signals
+from opcplan.errors import Error, UsageError
 from opcplan.plans import tempfiles
+
+TYPE_CHECKING = False  # as in `typing`; what --help doesn't need is imported where it is needed
+if TYPE_CHECKING:
+    import argparse
+    from typing import Protocol
+
+    from opcplan.cli import words
+
+    class Command(Protocol):
+        """A subcommand: its module in the package commands."""
+
+        SUMMARY: str
+
+        def add_words(self, parser: words.Parser) -> None:
+            """Adds its words to a parser."""
+
+        def run(self, given: argparse.Namespace) -> int:
+            """Does what the words ask for; the exit status."""
 
 GROUPS = {
     "What stands in a plan:": ("status", "page", "late", "ready", "rows", "why", "why-day", "cal", "days", "export"),
     "Job streams, before they are run and after:": ("lint", "check", "what-if", "run", "send", "explain", "next-job"),
     "Definitions of a plan, as job streams:": ("init", "dump", "edit", "import"),
     "One plan for many callers:": ("desk", "log", "journal", "agent"),
+    "A plan that goes on by itself:": ("roll", "watch"),
     "Copies of a plan:": ("backup", "restore"),
 }
 SUBCOMMANDS = [name for names in GROUPS.values() for name in names]
@@ -27,7 +43,8 @@ OTHERWISE = {
     "add": "send", "holidays": "import", "holiday": "edit", "crontab": "import", "cron": "import", "html": "page",
     "graph": "page", "ics": "export", "csv": "export", "json": "export", "gendays": "days", "calendar": "cal",
     "year": "cal", "copy": "backup", "diff": "what-if", "try": "what-if", "trial": "what-if", "serve": "desk",
-    "server": "desk", "print": "rows", "today": "status", "summary": "status", "overview": "status",
+    "extend": "roll", "alarm": "watch", "monitor": "watch", "server": "desk", "print": "rows",
+    "today": "status", "summary": "status", "overview": "status",
 }
 WITH_TRACEBACK = "PLAN_TRACEBACK"
 DEFECT = 3
@@ -37,34 +54,29 @@ can't be read or written; 2 where the words are wrong; 3 where ./plan itself is;
 a signal it ends by it, and leaves nothing behind. python/opcplan/plans/views.sql has views for stock sqlite3."""
 
 
-class Command(Protocol):
-    """A subcommand: its module in the package commands."""
-
-    SUMMARY: str
-
-    def add_words(self, parser: words.Parser) -> None:
-        """Adds its words to a parser."""
-
-    def run(self, given: argparse.Namespace) -> int:
-        """Does what the words ask for; the exit status."""
-
-
 def module_name(name: str) -> str:
     """The name of the module of a subcommand."""
+    import keyword
+
     return name.replace("-", "_") + "_" * keyword.iskeyword(name)
 
 
 def module_of(name: str) -> Command:
     """The module of a subcommand."""
-    return cast(Command, importlib.import_module(f"opcplan.commands.{module_name(name)}"))
+    import importlib
+    from typing import cast
+
+    return cast("Command", importlib.import_module(f"opcplan.commands.{module_name(name)}"))
 
 
 def summary_of(name: str) -> str:
     """The SUMMARY of a subcommand, read from the text of its module: not one of them is imported for it."""
     path = os.path.join(os.path.dirname(os.path.abspath(__file__)), "commands", f"{module_name(name)}.py")
     with open(path, encoding="utf-8") as file:
-        found = re.search(r'(?m)^SUMMARY = "([^"\\]*)"$', file.read())
-    return found.group(1) if found else module_of(name).SUMMARY
+        line = next((line for line in file if line.startswith("SUMMARY = ")), "")
+    text = line.removeprefix('SUMMARY = "').removesuffix('"\n')
+    is_plain = len(line) - len(text) == len('SUMMARY = ""\n') and not {'"', "\\"} & {*text}
+    return text if is_plain else module_of(name).SUMMARY
 
 
 def help_text() -> str:
@@ -79,6 +91,8 @@ def help_text() -> str:
 
 def parser_of(name: str) -> words.Parser:
     """The parser of a subcommand's words."""
+    from opcplan.cli import words
+
     module = module_of(name)
     parser = words.Parser(prog=f"{words.CALLED} {name}", description=module.SUMMARY)
     module.add_words(parser)
@@ -107,11 +121,13 @@ def main(given: list[str]) -> int:
         print(help_text())
         return 0
     if given in (["-V"], ["--version"]):
+        from opcplan.cli import version
+
         print("\n".join(version.lines()))
         return 0
     if not given or given[0] not in SUBCOMMANDS:
-        told = f"there is no subcommand {given[0]!r}{meant_text(given[0])}" if given else "a subcommand is wanted"
-        raise WrongWords(f"{told}; ./plan --help lists all")
+        problem = f"there is no subcommand {given[0]!r}{meant_text(given[0])}" if given else "a subcommand is wanted"
+        raise UsageError(f"{problem}; ./plan --help lists all")
     return ask(given[0], given[1:])
 
 
@@ -132,21 +148,28 @@ def status_of(given: list[str]) -> int:
     except Error as error:
         return ended_by(error)
     except MemoryError:
-        words.tell("memory was refused")
+        print_message("memory was refused")
     except OSError as error:
-        words.tell(f"{error.filename}: {error.strerror}" if error.filename else f"{error.strerror or error}")
+        print_message(f"{error.filename}: {error.strerror}" if error.filename else f"{error.strerror or error}")
     except Exception as error:
         if os.environ.get(WITH_TRACEBACK):
             raise
         what = f"{type(error).__name__}: {error}"
-        words.tell(f"this is a defect of ./plan: {what}; with {WITH_TRACEBACK}=1 before it, it tells where")
+        print_message(f"this is a defect of ./plan: {what}; with {WITH_TRACEBACK}=1 before it, it tells where")
         return DEFECT
     return 1
 
 
+def print_message(message: str) -> None:
+    """Says something on standard error, in one line."""
+    from opcplan.cli import words
+
+    words.print_message(message)
+
+
 def ended_by(error: Error) -> int:
     """Says what isn't done, and why; the exit status."""
-    words.tell(str(error))
+    print_message(str(error))
     return error.exit_status
 
 
@@ -161,7 +184,7 @@ def run(given: list[str]) -> None:
             status = status_of(given)
         finally:
             signals.ignore()
-    except signals.Stopped as stopped:
+    except signals.SignalReceived as stopped:
         number = stopped.number
     finally:
         tempfiles.drop_all()

@@ -10,7 +10,7 @@ class Error(Exception):
     exit_status = 1
 
 
-class WrongWords(Error):
+class UsageError(Error):
     """Why the words of a command are wrong."""
 
     exit_status = 2

@@ -143,7 +143,7 @@ class Desk:
     Each method raises Desk.Refused where the desk doesn't do what it is asked (`status` has HTTP's), and Desk.Away
     where there is no whole answer (`may_be_done` tells whether it may be done all the same)."""
 
-    Away, Refused, Wrong = client.Away, client.Refused, client.Wrong
+    Away, Refused, Wrong = client.DeskUnreachable, client.RequestRefused, client.InvalidAddress
 
     def __init__(self, url: str, token: str | None = None) -> None:
         self._client = client.Client(url, client.token() if token is None else token)
@@ -169,16 +169,22 @@ class Desk:
         _, found = self._client.request("GET", f"/rows?{query}")
         return [row_of_object(json.loads(line), name) for line in found.decode().splitlines()]
 
+    def log(self, serial: int) -> str:
+        """The ends of the logs of an occurrence's job, one try behind the other, as agents gave them to the desk; empty
+        where none did. Asks for the role `operate`."""
+        return self._client.request("GET", f"/logs/{int(serial)}")[1].decode()
+
     def events(self, since: int | None = None) -> Iterator[Answer]:
         """Each change once it is answered, without an end: those behind an entry of the journal, else those that come.
         Raises Desk.Refused with status 410 where the desk doesn't have all of these any more."""
         heads = {} if since is None else {"Last-Event-ID": str(since)}
         with self._client.answer("GET", "/events", None, heads) as answer:
-            for event, told in events_of(answer):
+            for event, fields in events_of(answer):
                 if event == "entry":
-                    yield answer_of(told)
-                elif told.get("tag") == ANEW:
-                    raise client.Refused(410, f"the desk doesn't have all entries behind {since}: look at the rows")
+                    yield answer_of(fields)
+                elif fields.get("tag") == ANEW:
+                    raise client.RequestRefused(410, f"the desk doesn't have all entries behind {since}: look at the "
+                                                "rows")
 
 
 def check_list(name: str) -> None:
@@ -217,17 +223,18 @@ def row_of(row: waits.Row) -> Row:
                row.place.upper() if is_gone else None)
 
 
-def row_of_object(told: Mapping[str, Any], name: str) -> Row:
+def row_of_object(fields: Mapping[str, Any], name: str) -> Row:
     """The row that a desk tells."""
-    ia, deadline = (moment_of(minutes_of(told[word])) for word in ("ia", "deadline"))
-    return Row(told["serial"], told["app"], ia, deadline, told["run_cycle"], name, told.get("status"),
-               told.get("reason"))
+    ia, deadline = (moment_of(minutes_of(fields[word])) for word in ("ia", "deadline"))
+    return Row(fields["serial"], fields["app"], ia, deadline, fields["run_cycle"], name, fields.get("status"),
+               fields.get("reason"))
 
 
-def answer_of(told: Mapping[str, Any]) -> Answer:
+def answer_of(fields: Mapping[str, Any]) -> Answer:
     """The answer that a desk tells."""
-    return Answer(told["statement"], told["reply"], told["seq"], told["job"], tuple(told["rows"]), told.get("at"),
-                  told.get("key"))
+    return Answer(fields["statement"], fields["reply"], fields["seq"], fields["job"], tuple(fields["rows"]),
+                  fields.get("at"),
+                  fields.get("key"))
 
 
 def events_of(answer: http.client.HTTPResponse) -> Iterator[tuple[str, Mapping[str, Any]]]:

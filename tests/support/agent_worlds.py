@@ -24,9 +24,11 @@ OLD_JOB = 20
 ANY = ""
 ROUNDS = 12
 MOST_STEPS = 150  # of a walk
+# what an agent's state has that decides nothing, or is the same in a world, or follows from the rest
+UNSEEN = ("messages", "said", "rules", "counted")
 
 
-class Wrong(Exception):
+class InvariantViolated(Exception):
     """What a world shows that must not be."""
 
 
@@ -36,6 +38,10 @@ class Kind(NamedTuple):
 
     rows: int = 1
     most: int = 2
+    tries: int = 1  # that an occurrence gets
+    is_chained: bool = True  # whether each occurrence waits for the one before it
+    class_most: int = 0  # how many may be started at once, 0 where no class limits that
+    elsewhere: int = 0  # the occurrence whose jobs another agent runs
     acts: tuple = ()  # what people do, in this order, at any moment
     olds: int = 0  # old jobs that are answered again
     fails: int = 0  # jobs that end badly
@@ -93,6 +99,7 @@ class World:
     late: tuple = ()
     done: int = 0  # how many of the acts people did
     keys: int = 0
+    rested: frozenset = frozenset()  # keys of the starts of tries whose pause is over
 
     def next(self):
         """A copy that is to change."""
@@ -106,7 +113,19 @@ class World:
     def frozen(self):
         """What tells this state from others."""
         return (frozen(self.agent), self.left, self.log, self.served, self.begins, self.life, self.disk, self.claimed,
-                self.runners, self.jobs, self.late, self.done, self.keys)
+                self.runners, self.jobs, self.late, self.done, self.keys, self.rested)
+
+    @property
+    def rules(self):
+        """What the agent is told of applications."""
+        apps = [f"A{serial}" for serial in range(1, self.kind.rows + 1)] if self.kind.class_most else []
+        return state.Rules(frozenset({f"A{self.kind.elsewhere}"}), dict.fromkeys(apps, "db"),
+                           {"db": self.kind.class_most})
+
+    def resting(self):
+        """The records of tries that failed, and whose pause isn't over."""
+        return [one for one in self.disk
+                if one.ended is not None and one.is_tried_again and one.start_key not in self.rested]
 
     def spent(self, name):
         """Notes that something went wrong once more."""
@@ -136,13 +155,17 @@ class World:
         """The entry that a statement becomes, at the end of the log."""
         before, after = ACTS[act]
         status = self.status(serial)
-        if act == "start" and serial > 1 and self.status(serial - 1) != "C":
+        if act == "start" and self.waits(serial):
             reply = "refused 30"
         else:
             reply = f"ok serial {serial} status {after}" if status in before else "refused 29"
         seq = len(self.log) + 1
         self.log += (Entry(seq, f"cp-{act} --app A{serial} --ia {serial}", FIRST_JOB + seq - 1, reply, key),)
         return self.log[-1]
+
+    def waits(self, serial):
+        """Whether an occurrence waits for the one before it."""
+        return self.kind.is_chained and serial > 1 and self.status(serial - 1) != "C"
 
     def deliver(self, sent):
         """What the desk answers to a statement with a key and a condition; None where the plan has changed."""
@@ -200,7 +223,7 @@ def copied(one):
 def frozen(one):
     """The values of an agent's state, without what it says."""
     if isinstance(one, (state.State, known_plan.KnownPlan, state.Fetched)):
-        return tuple(frozen(value) for name, value in vars(one).items() if name not in ("messages", "said"))
+        return tuple(frozen(value) for name, value in vars(one).items() if name not in UNSEEN)
     if isinstance(one, dict):
         return tuple(sorted(one.items()))
     if isinstance(one, set):
@@ -219,7 +242,7 @@ def steps(world, kind_of_state=state.State):
         yield "an agent begins", found
     elif world.agent.command is None:
         found = world.next()
-        found.agent.look(NOW, world.kind.most)
+        found.agent.look(NOW, world.kind.most, world.rules)
         yield "the agent looks", found
     else:
         yield from steps_of_the_agent(world)
@@ -230,6 +253,10 @@ def steps(world, kind_of_state=state.State):
         yield "the agent is killed", found
     for one in world.runners:
         yield from steps_of_a_runner(world, one)
+    for one in world.resting():
+        found = world.next()
+        found.rested |= {one.start_key}
+        yield f"the pause of {one.start_key} is over", found
     yield from steps_of_the_desk(world)
     yield from steps_of_people(world)
 
@@ -269,24 +296,26 @@ def sent_by(command):
 
 
 def do(world, command):
-    """Does what the agent's state says, as opcplan.agent.work does; what that is."""
+    """Does what the agent's state says, as opcplan.agent.executor does; what that is."""
     agent = world.agent
     try:
         if isinstance(command, state.AskStanding):
             agent.standing(world.served, str(world.life))
         elif isinstance(command, state.AskPairs):
-            agent.pairs([Pair(serial, serial - 1) for serial in range(2, world.kind.rows + 1)], world.served)
+            last = world.kind.rows if world.kind.is_chained else 1
+            agent.pairs([Pair(serial, serial - 1) for serial in range(2, last + 1)], world.served)
         elif isinstance(command, state.AskRows):
             agent.rows(world.rows(), world.served)
         elif isinstance(command, state.AskEntries):
             agent.entries([one for one in world.answered() if one.seq > max(command.since, world.begins)])
         elif isinstance(command, state.Send):
+            check_sent(world, command)
             answer = world.deliver(sent_by(command))
             world.served = len(world.log)
             agent.changed() if answer is None else agent.answered(answer)
         else:
             do_here(world, command)
-    except state.Behind:
+    except state.DeskBehind:
         world.rest()
         return f"{type(command).__name__}: the desk is behind"
     if agent.command is None:
@@ -301,13 +330,16 @@ def do_here(world, command):
     if isinstance(command, state.Look):
         world.claimed -= {command.serial}
         one = world.record(command.serial) or agent.records[command.serial]
-        agent.seen(one, world.runner(command.serial) is not None)
+        agent.seen(one, world.runner(command.serial) is not None, one.start_key in world.rested)
     elif isinstance(command, state.Prepare):
         if world.runner(command.row.serial):
             agent.prepared(None)
             return
+        if command.row.serial == world.kind.elsewhere:
+            raise InvariantViolated(f"{command.row} is another agent's")
         world.keys += 1
-        one = Record(command.row.serial, command.row.app, command.row.ia, f"k{world.keys}", command.after, None)
+        one = Record(command.row.serial, command.row.app, command.row.ia, f"k{world.keys}", command.after, None,
+                     attempt=command.attempt, tries=world.kind.tries)
         world.keep(one)
         world.claimed |= {one.serial}
         agent.prepared(one)
@@ -319,12 +351,15 @@ def do_here(world, command):
     elif isinstance(command, state.Run):
         one = command.record
         if one.serial not in world.claimed or world.runner(one.serial):
-            raise Wrong(f"two runners of {one.serial}")
-        if [other.key for other in world.of_serial(one.serial, agent.plan.position)][-1:] != [one.key]:
-            raise Wrong(f"{one.key} is run, and by what the agent knows it isn't started")
-        world.runners = tuple(sorted((*world.runners, Runner(one.serial, one.key, "begun"))))
+            raise InvariantViolated(f"two runners of {one.serial}")
+        if [other.key for other in world.of_serial(one.serial, agent.plan.position)][-1:] != [one.start_key]:
+            raise InvariantViolated(f"{one.start_key} is run, and by what the agent knows it isn't started")
+        world.runners = tuple(sorted((*world.runners, Runner(one.serial, one.start_key, "begun"))))
         world.claimed -= {one.serial}
         agent.begun()
+    elif isinstance(command, state.Again):
+        world.keep(command.record)
+        agent.renewed()
     else:
         world.disk = world.without(command.record.serial)
         world.claimed -= {command.record.serial}
@@ -422,39 +457,81 @@ def steps_of_people(world):
 # What has to hold.
 
 
+def check_sent(world, command):
+    """What the agent sends has its time."""
+    one = command.record
+    if command.act == "reset" and one.start_key not in world.rested:
+        raise InvariantViolated(f"{one.start_key} is reset within its pause")
+
+
 def check(world):
-    """Asks all that has to hold of a state. Raises Wrong."""
+    """Asks all that has to hold of a state. Raises InvariantViolated."""
     keys = [job.key for job in world.jobs]
     if len(set(keys)) < len(keys):
-        raise Wrong(f"a job began twice: {keys}")
+        raise InvariantViolated(f"a job began twice: {keys}")
     for job in world.jobs:
         if not any(one.key == job.key and one.reply.endswith(" S") for one in world.log):
-            raise Wrong(f"the job of {job.key} began, and nobody was told")
+            raise InvariantViolated(f"the job of {job.key} began, and nobody was told")
     for one in world.log:
-        if one.key is not None and one.key.endswith("-end") and one.reply.startswith("ok"):
-            check_end(world, one)
+        if one.key is not None and one.reply.startswith("ok"):
+            check_step(world, one)
     if world.agent is not None and world.agent.fetched is None and world.agent.plan.position is not None:
         check_plan(world, world.agent.plan)
+
+
+def check_step(world, one):
+    """What the desk accepted of an agent was its turn."""
+    serial = int(one.statement.split()[-1])
+    before = world.of_serial(serial, one.seq - 1)
+    if one.key.endswith("-end"):
+        check_end(world, one)
+    elif one.key.endswith("-reset"):
+        failed = f"{start_of(one.key)}-end"
+        if (before[-1].key, before[-1].reply[-1]) != (failed, "E"):
+            raise InvariantViolated(f"{one.statement} under {one.key}, and {before[-1]} was in force")
+    else:
+        check_start(world, one, serial, before)
+
+
+def check_start(world, one, serial, before):
+    """A start is that of a try that there may be, behind the reset of the one before it, and its class has room."""
+    attempt = attempt_of(one.key)
+    if attempt > world.kind.tries:
+        raise InvariantViolated(f"{one.key} is started, and there are {world.kind.tries} tries")
+    if attempt > 1 and not (before and str(before[-1].key).endswith(f".{attempt - 1}-reset")):
+        raise InvariantViolated(f"{one.key} is started, and no try before it was reset")
+    if is_full(world, one.seq - 1):
+        raise InvariantViolated(f"{one.key} is started, and its class is full")
+
+
+def attempt_of(key):
+    """Which try a key of a start or an end stands for."""
+    return int(key.removesuffix("-end").partition(".")[2] or 1)
+
+
+def start_of(key):
+    """The key of the start of the try that a key of a reset stands for."""
+    return key.removesuffix("-reset").removesuffix(".1")
 
 
 def check_end(world, one):
     """What is told of a job's end happened, and of the start that was in force."""
     job = next((job for job in world.jobs if f"{job.key}-end" == one.key), None)
     if job is None or job.outcome != (GOOD if one.reply.endswith(" C") else BAD):
-        raise Wrong(f"{one.statement} is told under {one.key}, and the job is {job}")
+        raise InvariantViolated(f"{one.statement} is told under {one.key}, and the job is {job}")
     last = [other for other in world.of_serial(job.serial, one.seq - 1)][-1]
     if last.key != job.key:
-        raise Wrong(f"{one.statement} is told under {one.key}, and {last} was in force")
+        raise InvariantViolated(f"{one.statement} is told under {one.key}, and {last} was in force")
 
 
 def check_plan(world, plan):
     """What the agent knows of rows is so at its position."""
     if plan.position > len(world.log):
-        raise Wrong(f"position {plan.position} of {len(world.log)} entries")
+        raise InvariantViolated(f"position {plan.position} of {len(world.log)} entries")
     if plan.stale == known_plan.NOTHING:
         for serial, row in plan.rows.items():
             if row.status != world.status(serial, plan.position):
-                raise Wrong(f"{row} at entry {plan.position} isn't so")
+                raise InvariantViolated(f"{row} at entry {plan.position} isn't so")
 
 
 def check_outcome(world, kind_of_state=state.State):
@@ -462,20 +539,35 @@ def check_outcome(world, kind_of_state=state.State):
     last = finished(world, kind_of_state)
     for one in last.disk:
         is_unknown = one.began is not None and one.ended is None or last.begins > one.after
-        if not is_unknown:
-            raise Wrong(f"a record is left: {one}")
+        is_waiting = is_full(last) and (one.began is None or one.is_tried_again)
+        if not is_unknown and not is_waiting:
+            raise InvariantViolated(f"a record is left: {one}")
     for job in last.jobs:
-        told = any(one.key == f"{job.key}-end" and one.reply.startswith("ok") for one in last.log)
+        found = any(one.key == f"{job.key}-end" and one.reply.startswith("ok") for one in last.log)
         kept = last.record(job.serial)
-        if not told and last.of_serial(job.serial)[-1].key == job.key and (kept is None or kept.key != job.key):
-            raise Wrong(f"the end of {job} is never told")
+        if not found and last.of_serial(job.serial)[-1].key == job.key and (kept is None or kept.start_key != job.key):
+            raise InvariantViolated(f"the end of {job} is never told")
     for serial in range(1, last.kind.rows + 1):
         changes = last.of_serial(serial)
         if changes and changes[-1].reply.endswith(" S") and changes[-1].key and last.record(serial) is None:
-            raise Wrong(f"{changes[-1]} is started, and nobody has it")
-        is_free = serial == 1 or last.status(serial - 1) == "C"
-        if last.status(serial) == "W" and is_free and last.record(serial) is None:
-            raise Wrong(f"{serial} is ready, and nobody begins it")
+            raise InvariantViolated(f"{changes[-1]} is started, and nobody has it")
+        check_left(last, serial, changes)
+
+
+def check_left(last, serial, changes):
+    """Nothing is left that could go on: what is ready is begun, and what failed is tried again."""
+    may_begin = serial != last.kind.elsewhere and not is_full(last)
+    if last.status(serial) == "W" and not last.waits(serial) and may_begin and not last.record(serial):
+        raise InvariantViolated(f"{serial} is ready, and nobody begins it")
+    key = changes[-1].key if changes and changes[-1].reply.endswith(" E") else None
+    if key and attempt_of(key) < last.kind.tries and not last.begins and may_begin:
+        raise InvariantViolated(f"{changes[-1]} is never tried again")
+
+
+def is_full(world, upto=None):
+    """Whether as many occurrences are started as their class may have, after some entries."""
+    started = [one for one in range(1, world.kind.rows + 1) if world.status(one, upto) == "S"]
+    return 0 < world.kind.class_most <= len(started)
 
 
 def finished(world, kind_of_state):
@@ -483,12 +575,13 @@ def finished(world, kind_of_state):
     found, before = world.next(), None
     for _ in range(ROUNDS):
         found.served = len(found.log)
+        found.rested |= {one.start_key for one in found.resting()}
         while found.runners:
             _, found, _ = next(moves(found, found.runners[0]))
         if found.agent is None:
             found.agent = kind_of_state(found.disk)
         if found.agent.command is None:
-            found.agent.look(NOW, found.kind.most)
+            found.agent.look(NOW, found.kind.most, found.rules)
         while found.agent.command is not None:
             do(found, found.agent.command)
             check(found)
@@ -496,11 +589,11 @@ def finished(world, kind_of_state):
         if now == before:
             return found
         before = now
-    raise Wrong("the agent comes to no end")
+    raise InvariantViolated("the agent comes to no end")
 
 
 def explored(kind, kind_of_state=state.State):
-    """How many states a world has. Raises Wrong, with how it comes to that."""
+    """How many states a world has. Raises InvariantViolated, with how it comes to that."""
     first = World(kind, kind)
     seen, waiting = {hash(first.frozen()): (None, "")}, deque([first])
     while waiting:
@@ -514,14 +607,14 @@ def explored(kind, kind_of_state=state.State):
                 if (other := hash(found.frozen())) not in seen:
                     seen[other] = number, label
                     waiting.append(found)
-        except (Wrong, AssertionError) as why:
-            raise Wrong(f"{why}\n" + "\n".join(path_to(seen, number))) from None
+        except (InvariantViolated, AssertionError) as why:
+            raise InvariantViolated(f"{why}\n" + "\n".join(path_to(seen, number))) from None
     return len(seen)
 
 
 def walked(kind, seed, kind_of_state=state.State):
-    """Takes steps at random through a world, and asks at some rests whether all comes to its end. Raises Wrong, with
-    the path."""
+    """Takes steps at random through a world, and asks at some rests whether all comes to its end. Raises
+    InvariantViolated, with the path."""
     chosen, path, world = random.Random(seed), [], World(kind, kind)
     try:
         while len(path) < MOST_STEPS:
@@ -530,8 +623,8 @@ def walked(kind, seed, kind_of_state=state.State):
                 check_outcome(world, kind_of_state)
             label, world = chosen.choice(list(steps(world, kind_of_state)))
             path.append(label)
-    except (Wrong, AssertionError) as why:
-        raise Wrong("\n".join([f"{why}, by seed {seed}", *path])) from None
+    except (InvariantViolated, AssertionError) as why:
+        raise InvariantViolated("\n".join([f"{why}, by seed {seed}", *path])) from None
 
 
 def path_to(seen, number):

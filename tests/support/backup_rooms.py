@@ -27,10 +27,10 @@ class BackupRoom:
     def restore(self):
         return plans.plan("restore", self.file, self.plan, "--program", plans.PROGRAM)
 
-    def refused_by(self, call, told, status):
+    def refused_by(self, call, message, status):
         """Asks that a call ends with that status and one sentence, and that plan and backup stay."""
         before = plans.prints(self.plan), plans.prints(self.file)
         ran = call()
         self.assertEqual((ran.returncode, ran.stdout), (status, ""), ran.stderr)
-        self.assertRegex(ran.stderr, f"^plan: [^\n]*{told}[^\n]*\n$")
+        self.assertRegex(ran.stderr, f"^plan: [^\n]*{message}[^\n]*\n$")
         self.assertEqual((plans.prints(self.plan), plans.prints(self.file)), before)

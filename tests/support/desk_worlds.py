@@ -15,7 +15,7 @@ LIFE, START = "life", chain.chain_of("life", 0)
 AT = "2024-01-01T00:00:00.000Z"
 
 
-class Wrong(Exception):
+class InvariantViolated(Exception):
     """What a world shows that must not be."""
 
 
@@ -81,7 +81,7 @@ class World:
     queue: tuple = ()  # changes that wait for the writer
     writing: tuple | None = None  # changes, replies, whether the disk has them
     asked: tuple = ()  # on the way to opcplan
-    told: tuple = ()  # on the way from opcplan
+    replies: tuple = ()  # on the way from opcplan
     is_stopped: bool = False
     callers: tuple = ()
     acknowledged: tuple = ()
@@ -106,7 +106,7 @@ class World:
         core = self.core and tuple(
             tuple(value.items()) if isinstance(value, dict) else tuple(value) if isinstance(value, (list, deque))
             else value for value in vars(self.core).values())
-        return (core, self.left, self.journal, self.plan, self.queue, self.writing, self.asked, self.told,
+        return (core, self.left, self.journal, self.plan, self.queue, self.writing, self.asked, self.replies,
                 self.is_stopped, self.callers, self.acknowledged, self.cursor, self.heard, self.seen, self.look,
                 self.listed)
 
@@ -147,7 +147,7 @@ class World:
             digest = chain.chained(digest, one)
         pending = [Ask(-1, 0, dataclasses.replace(one, reply=None)) for one in self.journal[position:]]
         self.core = kind_of_state(LIFE, position, digest, pending)
-        self.queue, self.writing, self.asked, self.told, self.is_stopped = (), None, (), (), False
+        self.queue, self.writing, self.asked, self.replies, self.is_stopped = (), None, (), (), False
 
     def do(self, commands):
         """What is around the state does what it says."""
@@ -163,7 +163,7 @@ class World:
         if one.item.caller == READER:
             wanted = tuple(seq for seq, _, reply in self.plan[: one.position] if reply.startswith("ok"))
             if tuple(map(int, one.reply.split()[1:])) != wanted:
-                raise Wrong(f"a list of {one.reply} is told as that of entry {one.position}")
+                raise InvariantViolated(f"a list of {one.reply} is told as that of entry {one.position}")
             return
         entry = one.entry or one.item.entry
         for number, caller in enumerate(self.callers):
@@ -228,13 +228,13 @@ class World:
             if known.entry is not None and known.entry.seq in answered:
                 self.get(number, key, answered[known.entry.seq])
             elif known not in (*waits, *self.core.line, *self.core.flight):
-                raise Wrong(f"{key} is waited for, and nobody has it")
+                raise InvariantViolated(f"{key} is waited for, and nobody has it")
         elif (one := self.find("me", key)) is None:
             ask = Ask(number, place)
             self.core.wants("me", key, ask)
             self.queue += ((ask, key, text, stream.digest),)
         elif one.reply is None:
-            raise Wrong(f"{key} is in the journal without a reply, and not in line")
+            raise InvariantViolated(f"{key} is in the journal without a reply, and not in line")
         else:
             self.get(number, key, one.reply)
 
@@ -252,7 +252,7 @@ def steps(world, kind_of_state):
     if world.left.desk_ends:
         found = world.next()
         found.spent("desk_ends")
-        found.core, found.queue, found.writing, found.asked, found.told = None, (), None, (), ()
+        found.core, found.queue, found.writing, found.asked, found.replies = None, (), None, (), ()
         found.cursor = None
         for number, caller in enumerate(found.callers):
             found.set(number, caller._replace(is_waiting=False, got=()))
@@ -294,12 +294,12 @@ def steps_of_the_subscriber(world):
     if due:
         found = world.next()
         if isinstance(due, state.Read):
-            told = [one.seq for one in world.journal if due.since < one.seq <= due.upto and one.reply is not None]
+            seen = [one.seq for one in world.journal if due.since < one.seq <= due.upto and one.reply is not None]
             found.cursor = due.upto
         else:
-            told = [one.seq for one in due]
-            found.cursor = told[-1]
-        found.heard += tuple(told)
+            seen = [one.seq for one in due]
+            found.cursor = seen[-1]
+        found.heard += tuple(seen)
         yield "the subscriber hears", found
 
 
@@ -369,46 +369,47 @@ def steps_of_the_planner(world):
             reply = world.reply_of(item.entry)
             if item.entry.seq not in [seq for seq, *_ in world.plan]:
                 found.plan += ((item.entry.seq, item.entry.text.decode(), reply),)
-        found.told += (reply,)
+        found.replies += (reply,)
         yield "opcplan answers", found
-    if world.told:
+    if world.replies:
         found = world.next()
         first = world.core.flight[0]
-        found.told = world.told[1:]
+        found.replies = world.replies[1:]
         if first.entry is not None:
             found.seen = max(found.seen, first.entry.seq)
-        found.do(found.core.replied(world.told[0]))
+        found.do(found.core.replied(world.replies[0]))
         yield "the desk hears it", found
     if world.left.planner_ends:
         found = world.next()
         found.spent("planner_ends")
-        found.asked = found.told = ()
+        found.asked = found.replies = ()
         found.core.ended()
         yield "opcplan is killed", found
 
 
 def check(world):
-    """Asks all that has to hold of a state. Raises Wrong."""
+    """Asks all that has to hold of a state. Raises InvariantViolated."""
     core = world.core
     check_disk(world)
     if list(world.heard) != list(range(1, len(world.heard) + 1)):
-        raise Wrong(f"the subscriber hears of {world.heard}")
+        raise InvariantViolated(f"the subscriber hears of {world.heard}")
     if core is None:
         return
     if why := core.broken():
-        raise Wrong(why)
+        raise InvariantViolated(why)
     done = {seq for seq, *_ in world.plan}
     if not set(range(1, core.position + 1)) <= done or core.position > world.seen:
-        raise Wrong(f"position {core.position} of a plan that has {sorted(done)}, and answered up to {world.seen}")
+        raise InvariantViolated(f"position {core.position} of a plan that has {sorted(done)}, and answered up to "
+                                f"{world.seen}")
     if core.durable > len(world.journal):
-        raise Wrong(f"entry {core.durable} counts as durable")
+        raise InvariantViolated(f"entry {core.durable} counts as durable")
     if world.cursor is not None and list(range(1, world.cursor + 1)) != list(world.heard):
-        raise Wrong(f"the subscriber is at {world.cursor} and heard {world.heard}")
+        raise InvariantViolated(f"the subscriber is at {world.cursor} and heard {world.heard}")
     if world.cursor is not None and not core.due(world.cursor, 2) and world.cursor < core.position:
         if world.writing is None and not core.unkept():
-            raise Wrong(f"entry {core.position} is never told to one who has {world.cursor}")
+            raise InvariantViolated(f"entry {core.position} is never told to one who has {world.cursor}")
     if world.look is not None and core.is_idle and core.is_state(world.look[0]) and world.look[1] != world.content():
-        raise Wrong(f"{world.look[0]} named {world.look[1]}, and names {world.content()}")
+        raise InvariantViolated(f"{world.look[0]} named {world.look[1]}, and names {world.content()}")
 
 
 def check_disk(world):
@@ -416,20 +417,21 @@ def check_disk(world):
     by_key, replies = {}, {seq: reply for seq, _, reply in world.plan}
     for one in world.journal:
         if one.reply is not None and replies.get(one.seq) != one.reply:
-            raise Wrong(f"entry {one.seq} is kept with {one.reply}, and the plan has {replies.get(one.seq)}")
+            raise InvariantViolated(f"entry {one.seq} is kept with {one.reply}, and the plan has "
+                                    f"{replies.get(one.seq)}")
         key, stream = one.key.partition("#")[0], one.stream
         if by_key.setdefault(key, stream) != stream:
-            raise Wrong(f"{key} stands for {stream} and for {by_key[key]}")
+            raise InvariantViolated(f"{key} stands for {stream} and for {by_key[key]}")
     for key, reply in world.acknowledged:
         one = world.find("me", key)
         if reply != QUESTION and (one is None or replies.get(one.seq) != reply):
-            raise Wrong(f"{key} was answered {reply}, and isn't so")
+            raise InvariantViolated(f"{key} was answered {reply}, and isn't so")
     if [one.seq for one in world.journal] != list(range(1, len(world.journal) + 1)):
-        raise Wrong("the journal has gaps")
+        raise InvariantViolated("the journal has gaps")
 
 
 def explored(kind, kind_of_state=state.State):
-    """How many states a world has. Raises Wrong, with how it comes to that."""
+    """How many states a world has. Raises InvariantViolated, with how it comes to that."""
     first = World(kind, None, kind, callers=(Caller(),) * len(kind.streams))
     seen, waiting = {hash(first.frozen()): (None, "")}, deque([first])
     while waiting:
@@ -441,8 +443,8 @@ def explored(kind, kind_of_state=state.State):
                 if (other := hash(found.frozen())) not in seen:
                     seen[other] = number, label
                     waiting.append(found)
-        except (Wrong, state.Broken) as why:
-            raise Wrong(f"{why}\n" + "\n".join(path_to(seen, number))) from None
+        except (InvariantViolated, state.InvariantBroken) as why:
+            raise InvariantViolated(f"{why}\n" + "\n".join(path_to(seen, number))) from None
     return len(seen)
 
 
@@ -456,7 +458,8 @@ def path_to(seen, number):
 
 
 def walked(kind, seed, kind_of_state=state.State):
-    """How many steps a walk at random through a world takes until nothing is left. Raises Wrong, with the path."""
+    """How many steps a walk at random through a world takes until nothing is left. Raises InvariantViolated, with the
+    path."""
     chosen, path = random.Random(seed), []
     world = World(kind, None, kind, callers=(Caller(),) * len(kind.streams))
     try:
@@ -467,6 +470,6 @@ def walked(kind, seed, kind_of_state=state.State):
                 break
             label, world = chosen.choice(found)
             path.append(label)
-    except (Wrong, state.Broken) as why:
-        raise Wrong("\n".join([f"{why}, by seed {seed}", *path])) from None
+    except (InvariantViolated, state.InvariantBroken) as why:
+        raise InvariantViolated("\n".join([f"{why}, by seed {seed}", *path])) from None
     return len(path)

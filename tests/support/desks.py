@@ -88,9 +88,9 @@ class Desk:
         """What /health says, an empty one where nobody answers."""
         try:
             return json.loads(client.Client(self.socket).request("GET", "/health")[1])
-        except client.Refused as why:
+        except client.RequestRefused as why:
             return json.loads(str(why))
-        except client.Away:
+        except client.DeskUnreachable:
             return {}
 
     def comes(self, holds):

@@ -128,11 +128,11 @@ class Machines:
 
 class Callers:
     """Callers who send at once, each one stream after another under keys of its own, to any desk, and to the next one
-    where it is away. `told` has what each got: by caller and place the stream and the lines of its answer."""
+    where it is away. `answers` has what each got: by caller and place the stream and the lines of its answer."""
 
     def __init__(self, ports, count, turns, seed=1, first=0):
         self.ports, self.count, self.turns, self.seed = ports, count, turns, seed
-        self.told, self.waits, self.again, self.wrong = {}, [], 0, []
+        self.answers, self.waits, self.again, self.wrong = {}, [], 0, []
         self.lock = threading.Lock()
         self.threads = [threading.Thread(target=self.call, args=(caller,), daemon=True)
                         for caller in range(first, first + count)]
@@ -149,17 +149,17 @@ class Callers:
         if self.wrong:
             raise AssertionError(self.wrong[0])
         if any(thread.is_alive() for thread in self.threads):
-            raise AssertionError(f"{len(self.told)} streams are answered, and the others aren't")
+            raise AssertionError(f"{len(self.answers)} streams are answered, and the others aren't")
 
     def answered(self):
         """How many statements are answered."""
         with self.lock:
-            return sum(len(one) for one, _ in self.told.values())
+            return sum(len(one) for one, _ in self.answers.values())
 
     def changes(self):
         """How many statements that change something are answered."""
         with self.lock:
-            return sum(is_change(text) for one, _ in self.told.values() for text in one)
+            return sum(is_change(text) for one, _ in self.answers.values() for text in one)
 
     def wait(self, share):
         """Waits until such a share of all statements is answered."""
@@ -179,7 +179,7 @@ class Callers:
                     answer = self.send(choice, "\n".join(one) + "\n", f"{caller}-{place}")
                     with self.lock:
                         self.waits.append(time.monotonic() - begun)
-                        self.told[caller, place] = one, answer
+                        self.answers[caller, place] = one, answer
                     place += 1
         except Exception as error:  # pylint: disable=broad-exception-caught
             self.wrong.append(f"caller {caller}: {error!r}")
@@ -251,19 +251,19 @@ def wrong(over, callers, before=()):
     each key stands once in the log, and all plans are what the log makes of the first one. `before` has Entries that
     are trimmed."""
     found = joined(before, entries(over.etcd))
-    told = []
+    seen = []
     if [one.seq for one in found] != list(range(1, len(found) + 1)):
-        told.append("the log has gaps")
+        seen.append("the log has gaps")
     by_key = {one.key: one for one in found}
     if len(by_key) != len(found):
-        told.append(f"{len(found) - len(by_key)} keys stand in the log twice")
+        seen.append(f"{len(found) - len(by_key)} keys stand in the log twice")
     planner = plans.plain.Planner()
     plans.plain.run(desks.CENTRE, planner)
     replies = {one.seq: plans.plain.run(one.text, planner)[0] for one in found}
     kept = 0
-    for (caller, place), (texts, answers) in callers.told.items():
+    for (caller, place), (texts, answers) in callers.answers.items():
         if len(texts) != len(answers):
-            told.append(f"{caller}-{place}: {len(answers)} answers to {len(texts)} statements")
+            seen.append(f"{caller}-{place}: {len(answers)} answers to {len(texts)} statements")
         for number, (text, answer) in enumerate(zip(texts, answers)):
             if not is_change(text):
                 continue
@@ -272,16 +272,16 @@ def wrong(over, callers, before=()):
             kept += one is not None
             wanted = one and {"seq": one.seq, "job": one.job, "reply": replies[one.seq], "key": key}
             if wanted != {name: answer[name] for name in ("seq", "job", "reply", "key")}:
-                told.append(f"{key}: told {answer}, and the log has {wanted}")
+                seen.append(f"{key}: told {answer}, and the log has {wanted}")
     if kept != len(found):
-        told.append(f"the log has {len(found)} statements, and callers know of {kept}")
+        seen.append(f"the log has {len(found)} statements, and callers know of {kept}")
     lists, first = plans.plain.run(expected.LOOK, planner), jobs(over.plans[0])
     for path in over.plans:
         if expected.of_file(path) != lists:
-            told.append(f"{path.name} lists otherwise than the log run again")
+            seen.append(f"{path.name} lists otherwise than the log run again")
         if jobs(path) != first:
-            told.append(f"{path.name} has other jobs than {over.plans[0].name}")
-    return told
+            seen.append(f"{path.name} has other jobs than {over.plans[0].name}")
+    return seen
 
 
 class Case(unittest.TestCase):

@@ -112,7 +112,7 @@ def write(planner, path):
         db.execute("PRAGMA synchronous = OFF")
         for text in schema():
             db.execute(text)
-        for table, rows in plan_rows.rows_told(planner).items():
+        for table, rows in plan_rows.table_rows(planner).items():
             columns = plan_rows.COLUMNS[table]
             marks = ", ".join("?" * len(columns.split(",")))
             db.executemany(f"INSERT INTO {table} ({columns}) VALUES ({marks})", rows)
@@ -129,29 +129,32 @@ def plan_in_here(*words):
     """What ./plan answers to its words, as `plan` does, run in this process."""
     from opcplan import __main__ as program
 
-    out, told = io.StringIO(), io.StringIO()
-    with contextlib.redirect_stdout(out), contextlib.redirect_stderr(told):
+    out, stderr = io.StringIO(), io.StringIO()
+    with contextlib.redirect_stdout(out), contextlib.redirect_stderr(stderr):
         status = program.status_of([str(word) for word in words])
-    return subprocess.CompletedProcess(words, status, out.getvalue(), told.getvalue())
+    return subprocess.CompletedProcess(words, status, out.getvalue(), stderr.getvalue())
 
 
 def plan_here(module, *words):
     """What a subcommand's module answers, as `plan` does, run in this process."""
-    name, out, told = module.__name__.rpartition(".")[2], io.StringIO(), io.StringIO()
+    name, out, stderr = module.__name__.rpartition(".")[2], io.StringIO(), io.StringIO()
     parser = module_words.Parser(prog=f"plan {name}")
     module.add_words(parser)
-    with contextlib.redirect_stdout(out), contextlib.redirect_stderr(told):
+    with contextlib.redirect_stdout(out), contextlib.redirect_stderr(stderr):
         try:
             status = module.run(parser.parse_args([str(word) for word in words]))
         except Error as error:
             status = ended_by(error)
-    return subprocess.CompletedProcess(words, status, out.getvalue(), told.getvalue())
+    return subprocess.CompletedProcess(words, status, out.getvalue(), stderr.getvalue())
 
 
 def prints(path):
-    """All that can be seen of a file and of what stands beside it: names, bytes and times."""
+    """All that can be seen of a file and of what stands beside it: names, bytes and times; but for the job numbers that
+    were printed for a plan (tests/test_printed_numbers.py)."""
     found = {}
     for name in sorted(os.listdir(os.path.dirname(path))):
+        if name.endswith(".numbers"):
+            continue
         beside = os.path.join(os.path.dirname(path), name)
         stat = os.stat(beside)
         data = Path(beside).read_bytes() if os.path.isfile(beside) else b""

@@ -1,5 +1,6 @@
 """A function in a process of its own that is killed as it enters its system call of a number."""
 
+import contextlib
 import ctypes
 import os
 import signal
@@ -27,6 +28,18 @@ def traced(request: int, pid: int, data: int) -> None:
 
 def killed_at(number: int, call: Callable[[], object]) -> bool:
     """Whether a process that makes a call was killed at its system call of this number; else it came to its end."""
+    return entered_at(number, call, lambda child: os.kill(child, signal.SIGKILL))
+
+
+def stopped_at(number: int, call: Callable[[], object], meanwhile: Callable[[], object]) -> bool:
+    """Whether a process that makes a call came to its system call of this number: there it stands still while another
+    call is made here, and then goes on to its end."""
+    return entered_at(number, call, lambda _: meanwhile())
+
+
+def entered_at(number: int, call: Callable[[], object], then: Callable[[int], object]) -> bool:
+    """Whether a process that makes a call came to its system call of this number, where `then` is called with its
+    process id; it is waited for."""
     child = os.fork()
     if not child:
         status = 1
@@ -41,16 +54,15 @@ def killed_at(number: int, call: Callable[[], object]) -> bool:
     traced(SET_OPTIONS, child, MARK_CALLS | DIE_WITH_TRACER)
     entered, is_inside, passed_on = 0, False, 0
     while True:
-        traced(NEXT_CALL, child, passed_on)
+        with contextlib.suppress(ProcessLookupError):  # it was killed there
+            traced(NEXT_CALL, child, passed_on)
         _, status = os.waitpid(child, 0)
         if not os.WIFSTOPPED(status):
-            assert os.waitstatus_to_exitcode(status) == 0, status
-            return False
+            assert entered >= number or os.waitstatus_to_exitcode(status) == 0, status
+            return entered >= number
         is_call = os.WSTOPSIG(status) == OF_A_CALL
         passed_on = 0 if is_call else os.WSTOPSIG(status)
         is_inside = is_inside != is_call
         entered += is_call and is_inside
-        if entered == number:
-            os.kill(child, signal.SIGKILL)
-            os.waitpid(child, 0)
-            return True
+        if entered == number and is_call and is_inside:
+            then(child)

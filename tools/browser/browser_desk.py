@@ -11,6 +11,7 @@ import time
 
 from support import data_centre, desks, large_plans, plans
 
+from opcplan.desk import client
 from opcplan.rules import moments
 from opcplan.webpage import page_data
 
@@ -192,8 +193,8 @@ def place(browser, folder, ask):
     ready = room.row("state(i) === 'R'")
     for text in (f"cp-start {room.key_of(ready)}\n", "cp-add --app STOCKUPDATE --ia 2026-11-25/05.58\n",
                  f"cp-fail {room.key_of(ready)}\n"):
-        count, told = room.js("lately.length"), room.post(text)
-        ask(told.startswith("ok"), text, told)
+        count, result = room.js("lately.length"), room.post(text)
+        ask(result.startswith("ok"), text, result)
         room.comes(f"lately.length > {count} && {SETTLED}", text.split()[0], 2)
         after = room.js(f"[{seen}, document.querySelectorAll('#needs details[open]').length, "
                         "document.querySelectorAll('#next li').length]")
@@ -228,8 +229,8 @@ def buttons(browser, folder, ask):
         press(room, act)
         room.comes(f"{STATE.format(number)} === '{status}'", f"{act} by keys", 2)
         room.comes("document.querySelector('#answer').textContent.includes('ok serial')", f"{act} is answered")
-        told = room.js("[document.querySelector('#answer').textContent, document.activeElement.id]")
-        ask(told[0].startswith(text) and told[1] == "answer", f"{act}: the answer in words has the focus", told)
+        found = room.js("[document.querySelector('#answer').textContent, document.activeElement.id]")
+        ask(found[0].startswith(text) and found[1] == "answer", f"{act}: the answer in words has the focus", found)
         room.comes(f"{SAID}.includes({json.dumps(text)})", f"{act} is said to a screen reader")
     press(room, "delete")
     ask(room.js(STATE.format(number)) == "R", "one press deletes nothing")
@@ -252,6 +253,42 @@ def buttons(browser, folder, ask):
     room.end()
 
 
+def logs(browser, folder, ask):
+    """The end of a job's log in the card of its row: as text, kept up while the job runs, for who may operate."""
+    room = Room(browser, folder, ask)
+    caller = client.Client(room.desk.socket)
+    room.open()
+    number = room.row("state(i) === 'S'")
+
+    def put(text):
+        caller.request("PUT", f"/logs/{number}?try=1", text.encode())
+
+    shown = "document.querySelector('#card .log pre')?.textContent"
+    room.js(f"choose(rowOfSerial({number}))")
+    ask(not room.holds(shown), "no log is shown where the desk has none")
+    put("first line\n<img src=x onerror=\"window.bad=1\"><script>window.bad=1</script>\n")
+    room.comes(f"{shown}?.includes('<img src=x')", "the log of a job that runs comes into its card", 7)
+    ask(not room.js("window.bad || document.querySelector('#card .log img, #card .log script')"), "it is text alone")
+    room.js("document.querySelector('#card .log').open = true")
+    put("first line\nsecond line\n")
+    room.comes(f"{shown} === 'first line\\nsecond line'", "it keeps up", 7)
+    ask(room.js("document.querySelector('#card .log').open"), "what is opened stays opened")
+    put("".join(f"line {one}\n" for one in range(1000)))
+    room.comes(f"{shown}?.endsWith('line 999')", "a long one ends with its last line", 7)
+    ask(room.js(f"{shown}.split('\\n').length") == 200, "no more than 200 lines are shown")
+    put("the end\n")
+    room.post(f"cp-fail {room.key_of(number)}\n")
+    room.comes(f"{shown} === 'the end'", "a change of the status fetches it at once", 2)
+    other = room.row("state(i) === 'C'")
+    room.js(f"choose(rowOfSerial({other}))")
+    ask(not room.holds(shown), "another card has a log of its own")
+    put("after it\n")
+    room.js(f"choose(rowOfSerial({number}))")
+    room.comes(f"{shown} === 'after it'", "a card that is opened again fetches it", 2)
+    ask(not room.complaints(), "logs: no complaints", room.complaints())
+    room.end()
+
+
 def press(room, act):
     """Goes to a button of the chosen row by `a` and Tab, and presses it."""
     room.browser.key("a")
@@ -270,11 +307,11 @@ def trials(browser, folder, ask):
     room.js("document.querySelector('#look').focus()")
     browser.key("Enter")
     room.comes("document.querySelector('#do')", "the trial shows", 2)
-    told = room.js("document.querySelector('#told').textContent")
+    found = room.js("document.querySelector('#told').textContent")
     wanted = plans.planner_of(data_centre.whole())
     reply = plans.plain.run(b"dp-trial extend --to 2026-11-27/00.00\n", wanted)[-1].split()
-    ask(told == f"Nothing is done yet. It would be: {reply[2]} moved, {reply[4]} carried, {reply[6]} completed, "
-        f"{reply[8]} deleted.", "the trial in words", told)
+    ask(found == f"Nothing is done yet. It would be: {reply[2]} moved, {reply[4]} carried, {reply[6]} completed, "
+        f"{reply[8]} deleted.", "the trial in words", found)
     ask(room.js("D.plan.end") == END and room.desk.health()["position"] == 0, "a trial changes nothing")
     ask(room.js("document.activeElement.id") == "trial", "the focus is at what it would do")
     ready = room.row("state(i) === 'R'")
@@ -345,8 +382,8 @@ def roles(browser, folder, ask):
         room.post(f"cp-start {room.key_of(number)}\n")
         room.comes(f"{STATE.format(number)} === 'S'", f"{role} sees what others do")
         if role == "read":
-            told = room.js(f"ask('cp-fail ' + streamName(rowOfSerial({number})), 'k').then(found => found.wrong)")
-            ask("reader may not" in told, "who may only read can't, by whatever way", told)
+            seen = room.js(f"ask('cp-fail ' + streamName(rowOfSerial({number})), 'k').then(found => found.wrong)")
+            ask("reader may not" in seen, "who may only read can't, by whatever way", seen)
         browser.go(url)
         room.comes("document.querySelector('#leave')", "a session goes on")
         room.js("document.querySelector('#leave').click()")
@@ -452,4 +489,4 @@ def large(browser, folder, ask):
     room.end()
 
 
-OF_DESKS = [another_caller, place, buttons, trials, roles, gone, clock, large]
+OF_DESKS = [another_caller, place, buttons, logs, trials, roles, gone, clock, large]

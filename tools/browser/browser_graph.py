@@ -162,7 +162,7 @@ def filtered(browser, page, ask):
     ask(browser.js("[view.find.length, document.querySelector('#filtered').hidden]") == [0, True], "all is shown again")
 
 
-def told_apart(browser, page, ask):
+def distinct_names(browser, page, ask):
     """Wherever a row is named, its arrival stands beside its name; and what holds others up holds somebody."""
     browser.open(page)
     browser.js("document.querySelectorAll('#now details').forEach(x => { x.drawLines?.(); x.open = true; })")
@@ -188,5 +188,5 @@ def large_graph(browser, folder, ask):
     ask(browser.js("document.querySelectorAll('*').length") <= 10_000, "elements of a large graph")
 
 
-OF_GRAPH = [graph, graph_of_all, graph_widths, graph_keys, filtered, told_apart]
+OF_GRAPH = [graph, graph_of_all, graph_widths, graph_keys, filtered, distinct_names]
 OF_LARGE = [large_graph]

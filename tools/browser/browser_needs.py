@@ -130,8 +130,8 @@ def signs(browser, page, ask):
     found = browser.js(SIGNS)
     wanted = {"E": "E", "S": "S", "R": "R", "B": "B", "F": "W", "C": "C"}
     ask(wanted.items() <= found.items(), "the letters of states", found)
-    told = browser.js(texts(".legend .count"))
-    ask([text[0] for text in told] == list("CSRBWE"), "the letters are told beside the counts", told)
+    seen = browser.js(texts(".legend .count"))
+    ask([text[0] for text in seen] == list("CSRBWE"), "the letters are told beside the counts", seen)
     browser.js("view.kind = 'open'; showAsGraph(true)")
     for key, part, other in (("E", "fill", "backgroundColor"), ("S", "fill", "backgroundColor"),
                              ("R", "stroke", "borderTopColor")):

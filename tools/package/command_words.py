@@ -61,8 +61,8 @@ def of_parser(name, summary, parser):
     found = Command(name, usage, summary, parser.description or summary, [], [])
     for action in parser._actions:
         if isinstance(action, argparse._SubParsersAction):
-            told = {choice.dest: choice.help or "" for choice in action._choices_actions}
-            found.commands = [of_parser(one, told.get(one, ""), below) for one, below in action.choices.items()]
+            seen = {choice.dest: choice.help or "" for choice in action._choices_actions}
+            found.commands = [of_parser(one, seen.get(one, ""), below) for one, below in action.choices.items()]
         elif action.help is not argparse.SUPPRESS:
             (found.options if action.option_strings else found.places).append(word_of(parser, action))
     return found
@@ -90,9 +90,9 @@ def of_program(program):
     listed, _, more = rest.partition("\n\n")
     options = []
     for line in listed.splitlines():
-        short, long, metavar, told = OPTION.fullmatch(line).groups()
+        short, long, metavar, found = OPTION.fullmatch(line).groups()
         names = [name for name in (short, long) if name]
-        options.append(Word(names, metavar, told, [], metavar is not None))
+        options.append(Word(names, metavar, found, [], metavar is not None))
     return Command("./opcplan", f"./{usage}", about, f"{about}\n\n{more}", options, [])
 
 

@@ -113,7 +113,7 @@ ZSH_WAY = """\
         esac
     done
     local -a commands=(
-{told}
+{found}
     )
     _describe -t commands subcommand commands
 """
@@ -133,8 +133,8 @@ def zsh(name, command):
 def zsh_way(command, function):
     """The lines that hand on to the subcommand that is among the words, and offer the subcommands where none is."""
     names = " | ".join(below.name for below in command.commands)
-    told = [f"        {quoted(zsh_text(below.name) + ':' + below.summary)}" for below in command.commands]
-    return ZSH_WAY.format(names=names, function=function, told="\n".join(told)).splitlines()
+    found = [f"        {quoted(zsh_text(below.name) + ':' + below.summary)}" for below in command.commands]
+    return ZSH_WAY.format(names=names, function=function, found="\n".join(found)).splitlines()
 
 
 def zsh_option(option):

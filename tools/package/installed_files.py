@@ -1,5 +1,5 @@
 """What `make install` puts below a prefix: the program, ./plan as opcplan-plan with its package, man pages, completion,
-pages and examples. Texts say there how a command is called and where a page stands."""
+pages and examples, and files for systemd. Texts say there how a command is called and where a page stands."""
 
 import os
 import re
@@ -14,11 +14,18 @@ TOP = Path(__file__).resolve().parents[2]
 DATA = TOP / "crates" / "worked_streams" / "data"
 EXAMPLES = ["first-days", "monday", "tuesday"]
 # all pages but those for one who has the sources
-FOR_SOURCES = {"ARCHITECTURE.md", "CONTRIBUTING.md", "DECISIONS.md", "DEFINITIONS.md", "INSTALL.md", "KIT.md"}
+FOR_SOURCES = {"ARCHITECTURE.md", "CLAIMS.md", "CONTRIBUTING.md", "DECISIONS.md", "DEFINITIONS.md", "KIT.md"}
 # by name, which no two have: all are in one folder where they are installed
 PAGES = {path.name: path for path in sorted((TOP / "docs").glob("*/*.md")) if path.name not in FOR_SOURCES}
+# what is beside a page, for other programs
+BESIDE = {f"monitoring/{path.name}": path for path in sorted((TOP / "docs" / "use" / "monitoring").iterdir())}
 # of a page of docs/
-OF_CODE = {"Where it stands in the code"}
+OF_CODE = {"Where it is in the code"}
+# units, users and folders for systemd, by their path below the prefix
+SYSTEMD = TOP / "tools" / "package" / "systemd"
+UNITS = {f"lib/systemd/system/{path.name}": path for path in sorted(SYSTEMD.glob("*@.*"))}
+SERVICES = {**UNITS, **{f"lib/{name}.d/opcplan.conf": SYSTEMD / f"{name}.conf" for name in ("sysusers", "tmpfiles")}}
+UNIT_COMMAND = re.compile(r"(?m)^(Exec\w+=)/usr(/bin/opcplan-plan) ")
 VIEWS = "python/opcplan/plans/views.sql"
 SHARE, DOC = "share/opcplan", "share/doc/opcplan"
 CALLED = {"./plan": "opcplan-plan", "./opcplan": "opcplan"}
@@ -27,11 +34,11 @@ PAGE = re.compile(rf"(?<![\w./-])docs/(?:\w+/)?(?=(?:{'|'.join(map(re.escape, PA
 # what pages say of the folder of the sources, and what is right where the commands are installed
 LINKS = re.compile(r' && ln -s (?:"\$PWD/\w+" )+"\$\w+"')
 OF_TOP = {
-    "There are two commands, given in the top folder of this repository.": "There are two commands.",
-    "For this page both are put into a folder of its own,": "For this page there is a folder of its own,",
-    "The first line is typed in the top folder; it makes the new one and": "The first line makes it and",
-    "The first line is typed in the top folder of this repository; it makes the folder, puts both commands there, and":
-    "The first line makes the folder, and",
+    "The top folder of this repository has two commands.": "There are two commands.",
+    "For this page you put both commands into a new folder,": "For this page you use a new folder,",
+    "Type the first line in the top folder. It makes": "The first line makes",
+    "Type the first line in the top folder of this repository: it makes the new folder, puts both commands there, and":
+    "The first line makes the new folder, and",
 }
 STREAM = re.compile(rf"(?<![\w./-])crates/worked_streams/data/(?=(?:{'|'.join(EXAMPLES)})\.in\b)")
 
@@ -71,7 +78,7 @@ def said(text, prefix):
     for of_top, installed in OF_TOP.items():
         text = text.replace(of_top, installed)
     text = COMMAND.sub(lambda it: CALLED[it[0]], text)
-    text = PAGE.sub(f"{prefix}/{DOC}/", text)
+    text = PAGE.sub(f"{prefix}/{DOC}/", text).replace("docs/use/monitoring/", f"{prefix}/{DOC}/monitoring/")
     text = STREAM.sub(f"{prefix}/{DOC}/examples/", text)
     return text.replace(VIEWS, f"{prefix}/{SHARE}/{VIEWS}")
 
@@ -83,6 +90,8 @@ def files(prefix, python, zsh):
              "bin/opcplan-plan": Link(f"../{SHARE}/plan")}
     found.update(of_package(prefix, python))
     found.update(of_pages(prefix))
+    for place, path in SERVICES.items():
+        found[place] = as_file(of_unit(path.read_text(encoding="utf-8"), prefix))
     plan = command_words.plan_module()
     commands = {"opcplan": command_words.of_program(TOP / "release" / "opcplan"),
                 "opcplan-plan": command_words.of_plan(plan)}
@@ -126,9 +135,15 @@ def in_words(data, prefix):
         return data
 
 
+def of_unit(text, prefix):
+    """A file for systemd, whose commands are those below the prefix; a path with a blank stands in quotes."""
+    quote = '"' if " " in prefix else ""
+    return UNIT_COMMAND.sub(lambda it: f"{it[1]}{quote}{prefix}{it[2]}{quote} ", text)
+
+
 def of_pages(prefix):
     """The pages for operators, the changelog and some streams."""
-    found = {f"{DOC}/{name}": File(in_words(path.read_bytes(), prefix)) for name, path in PAGES.items()}
+    found = {f"{DOC}/{name}": File(in_words(path.read_bytes(), prefix)) for name, path in {**PAGES, **BESIDE}.items()}
     found[f"{DOC}/CHANGELOG.md"] = File((TOP / "CHANGELOG.md").read_bytes())
     for name in EXAMPLES:
         found[f"{DOC}/examples/{name}.in"] = File((DATA / f"{name}.in").read_bytes())

@@ -66,9 +66,9 @@ def words_of(command):
     for word in [*command.places, *(option for option in command.options if "--help" not in option.names)]:
         names = ", ".join(f"\\fB{escaped(name)}\\fR" for name in word.names)
         value = f"\\fI{escaped(word.metavar)}\\fR" if word.metavar else ""
-        told = f"{word.about}: {', '.join(word.choices)}" if word.choices and word.metavar[:1] != "{" else word.about
-        if told or word.names:
-            found += [".TP", line(f"{names} {value}".strip()), prose(told) if told else "\\&"]
+        seen = f"{word.about}: {', '.join(word.choices)}" if word.choices and word.metavar[:1] != "{" else word.about
+        if seen or word.names:
+            found += [".TP", line(f"{names} {value}".strip()), prose(seen) if seen else "\\&"]
     return found
 
 

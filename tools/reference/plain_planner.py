@@ -79,7 +79,7 @@ class Faulty(Exception):
     """A block's first faulty record."""
 
 
-class Refused(Exception):
+class Refusal(Exception):
     """A refusal: its number, and what it shows after it."""
 
     def __init__(self, number, detail=None):
@@ -187,11 +187,11 @@ def read_options(block):
     try:
         given = tomllib.loads(block.decode("utf-8"))
     except (tomllib.TOMLDecodeError, UnicodeDecodeError):
-        raise Refused(11, 1) from None
+        raise Refusal(11, 1) from None
     name, hours = ({**OPTIONS, **given}[key] for key in OPTIONS)
     good = set(given) <= set(OPTIONS) and isinstance(name, str) and read_name(name, 16)
     if not good or type(hours) is not int or not 1 <= hours <= 504:
-        raise Refused(11, 1)
+        raise Refusal(11, 1)
     return {**OPTIONS, **given}
 
 
@@ -209,7 +209,7 @@ def read_block(kind, block):
                 widths = [len(fields)]
                 take(found, fields)
             except Faulty:
-                raise Refused(11, number) from None
+                raise Refusal(11, number) from None
     return found
 
 
@@ -322,11 +322,11 @@ class Planner:
         for app in apps:
             name = self.defined["applications"][app][1]
             if name not in (None, self.options["default_calendar"]) and name not in self.defined["calendars"]:
-                raise Refused(22, app)
+                raise Refusal(22, app)
         for app in apps:
             cycles = self.defined["run-cycles"].get(app, {}).values()
             if any(cycle["period"] not in self.defined["periods"] for cycle in cycles):
-                raise Refused(23, app)
+                raise Refusal(23, app)
 
     def named(self, app, first, last):
         """The named occurrences of an active application: (day, time) to (run cycle, deadline)."""
@@ -388,7 +388,7 @@ class Planner:
                     reached.add(here)
                     open_ends.extend(ways.get(here, ()))
             if app in reached:
-                raise Refused(25, app)
+                raise Refusal(25, app)
 
     def new_rows(self, named):
         """Rows of the named keys that stand nowhere in the plan and that no operator deleted, numbered by key."""
@@ -400,11 +400,11 @@ class Planner:
 
     def ask_room(self, more, new):
         if len(self.planned) + len(self.current) + more > MOST_ROWS or self.issued + new > GREATEST_SERIAL:
-            raise Refused(31)
+            raise Refusal(31)
 
     def ask_plan(self):
         if self.bounds is None:
-            raise Refused(20)
+            raise Refusal(20)
         return self.bounds
 
     # Decisions: each is refused, or answers what it would show, its reply, and the change
@@ -426,10 +426,10 @@ class Planner:
 
     def create(self, first, last):
         if self.bounds:
-            raise Refused(21)
+            raise Refusal(21)
         self.ask_definitions(self.active())
         if last < first or last > LAST_PLANNING_DAY or last > first + LONGEST_WINDOW:
-            raise Refused(24)
+            raise Refusal(24)
         self.ask_loop(self.lists())
         rows = self.new_rows(self.named_within(self.active(), first * DAY, (last + 1) * DAY))
         return self.planning((first, last, first * DAY), self.lists(), rows)
@@ -438,7 +438,7 @@ class Planner:
         first, last, end = self.ask_plan()
         self.ask_definitions(self.active())
         if to <= last or to > LAST_PLANNING_DAY or to > end // DAY + LONGEST_WINDOW:
-            raise Refused(24)
+            raise Refusal(24)
         self.ask_loop(self.lists())
         rows = self.new_rows(self.named_within(self.active(), (last + 1) * DAY, (to + 1) * DAY))
         return self.planning((first, to, end), self.lists(), rows)
@@ -467,18 +467,18 @@ class Planner:
             lists[app] = self.lists()[app]
         self.ask_loop(lists)
         if not is_active:
-            raise Refused(26)
+            raise Refusal(26)
         return self.modify([app], lambda other: other == app, lists)
 
     def add(self, app, arrival, to_current):
         first, last, end = self.ask_plan()
         begin, stop = (first * DAY, end) if to_current else (end, (last + 1) * DAY)
         if not begin <= arrival < stop:
-            raise Refused(24)
+            raise Refusal(24)
         if app not in self.active():
-            raise Refused(26)
+            raise Refusal(26)
         if any(row[1:3] == (app, arrival) for row in self.live()):
-            raise Refused(27)
+            raise Refusal(27)
         self.ask_room(1, 1)
         row = (self.issued + 1, app, arrival, arrival + DAY, None)
 
@@ -496,7 +496,7 @@ class Planner:
         self.ask_plan()
         found = [serial for serial, row in self.planned.items() if row[1:3] == (app, arrival)]
         if not found:
-            raise Refused(28)
+            raise Refusal(28)
 
         def change():
             self.deleted[found[0]] = (self.planned.pop(found[0]), "O")
@@ -518,7 +518,7 @@ class Planner:
         if to is None:
             to = end
         elif to <= end or to > (last + 1) * DAY or to > end + 60 * self.options["max_extension_hours"]:
-            raise Refused(32)
+            raise Refusal(32)
         moved = [row for row in self.planned.values() if row[2] < to]
         by_status = {status: [row for row, held in self.current.values() if held == status] for status in "WSECD"}
 
@@ -544,16 +544,16 @@ class Planner:
         found = [(row, status) for row, status in self.current.values()
                  if row[1:3] == (app, arrival) and status != "D"]
         if not found:
-            raise Refused(28)
+            raise Refusal(28)
         row, status = found[0]
         after = NEXT_STATUS.get((status, action))
         if after is None:
-            raise Refused(29)
+            raise Refusal(29)
         if action == "start":
             complete = set(self.history) | {serial for serial, (_, held) in self.current.items() if held == "C"}
             waits_for = [last for first, last in self.pairs if first == row[0] and last not in complete]
             if waits_for:
-                raise Refused(30, min(waits_for))
+                raise Refusal(30, min(waits_for))
 
         def change():
             self.current[row[0]] = (row, after)
@@ -572,7 +572,7 @@ class Planner:
 
     def undefine(self, kind, name):
         if name not in self.defined[kind]:
-            raise Refused(13)
+            raise Refusal(13)
         return [], "ok undefined", lambda: self.defined[kind].pop(name)
 
     # What is shown
@@ -581,9 +581,9 @@ class Planner:
         is_active = app in self.active()
         self.ask_definitions([app] if is_active else [])
         if last < first or last > LAST_PLANNING_DAY or last - first + 1 > LONGEST_WINDOW:
-            raise Refused(24)
+            raise Refusal(24)
         if not is_active:
-            raise Refused(26)
+            raise Refusal(26)
         return [f"{day_text(day)} {minute_text(time)} {name:8} {moment_text(due)}"
                 for (day, time), (name, due) in sorted(self.named(app, first, last).items())]
 
@@ -727,11 +727,11 @@ def answer(planner, words, block):
     try:
         if name == "define":
             if block is None or len(block) > 262_144:
-                raise Refused(11, 0)
+                raise Refusal(11, 0)
             data, block = block, read_block(word, block)
         if "job" not in values:
             return show(planner, name, word, values)
-    except Refused as refused:
+    except Refusal as refused:
         return [refused.line]
     text = " ".join(words).encode() + (b"\n" + data if name == "define" else b"")
     kept_text, kept_reply = planner.jobs.get(values["job"], (text, None))
@@ -741,7 +741,7 @@ def answer(planner, words, block):
         try:
             _, kept_reply, change = decide(planner, name, word, values, block)
             change()
-        except Refused as refused:
+        except Refusal as refused:
             kept_reply = refused.line
         planner.jobs[values["job"]] = (text, kept_reply)
     return [kept_reply]

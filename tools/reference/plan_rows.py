@@ -99,7 +99,7 @@ def period_rows(name, period):
     return [(name, seq, "N", origin, end) for seq, (origin, end) in enumerate(period[1])]
 
 
-def rows_told(planner):
+def table_rows(planner):
     """The rows of each table, by the plain planner."""
     defined = planner.defined
     cycles = [(app, name, cycle) for app, named in defined["run-cycles"].items() for name, cycle in named.items()]
@@ -168,7 +168,7 @@ def after_each(items):
     planner, found = plain.Planner(), []
     for item in [b"", *items]:
         plain.run(item, planner)
-        found.append(rows_told(planner))
+        found.append(table_rows(planner))
     return found
 
 
@@ -197,16 +197,16 @@ def loaded_before(room, text):
 
 def ended_before(library, text, file=None, **numbers):
     """A run of the program with that library before it, and whether the library told a byte."""
-    told, tells = os.pipe()
-    env = {"LD_PRELOAD": str(library), "TELLS": str(tells), **{name: str(value) for name, value in numbers.items()}}
-    ran = ended(text, file, env=env, pass_fds=[tells])
-    os.close(tells)
-    has_told = os.read(told, 1) != b""
-    os.close(told)
-    return ran, has_told
+    reader, writer = os.pipe()
+    env = {"LD_PRELOAD": str(library), "TELLS": str(writer), **{name: str(value) for name, value in numbers.items()}}
+    ran = ended(text, file, env=env, pass_fds=[writer])
+    os.close(writer)
+    has_reported = os.read(reader, 1) != b""
+    os.close(reader)
+    return ran, has_reported
 
 
 def run_before(library, text, file=None, **numbers):
     """What the program answers with that library before it, its exit status, and whether the library told a byte."""
-    ran, has_told = ended_before(library, text, file, **numbers)
-    return ran.stdout, ran.returncode, has_told
+    ran, has_reported = ended_before(library, text, file, **numbers)
+    return ran.stdout, ran.returncode, has_reported

@@ -154,11 +154,11 @@ class KnownPlan:
         return row is not None and row.status == "W" and not any(one and one.status in IN_THE_WAY for one in others)
 
 
-def row_of(told: Any) -> Row | None:
+def row_of(fields: Any) -> Row | None:
     """The row that is told, or None where it isn't one that a plan can have."""
     try:
-        serial, app, ia, status = (told[name] for name in ("serial", "app", "ia", "status"))
-        arrival, deadline = moment_of(ia), moment_of(told["deadline"])
+        serial, app, ia, status = (fields[name] for name in ("serial", "app", "ia", "status"))
+        arrival, deadline = moment_of(ia), moment_of(fields["deadline"])
         is_row = isinstance(serial, int) and 1 <= serial <= 999_999_999 and words.NAME.fullmatch(app)
     except (KeyError, TypeError):
         return None
@@ -167,14 +167,14 @@ def row_of(told: Any) -> Row | None:
     return Row(serial, app, ia, arrival, deadline, status)
 
 
-def entry_of(told: Any) -> Entry:
+def entry_of(fields: Any) -> Entry:
     """The entry that is told. Raises KeyError and TypeError."""
-    seq, statement, job, reply = (told[name] for name in ("seq", "statement", "job", "reply"))
+    seq, statement, job, reply = (fields[name] for name in ("seq", "statement", "job", "reply"))
     if not (isinstance(seq, int) and isinstance(job, int) and isinstance(statement, str) and isinstance(reply, str)):
         raise TypeError
-    return Entry(seq, statement, job, reply, told["key"])
+    return Entry(seq, statement, job, reply, fields["key"])
 
 
-def pair_of(told: Any) -> Pair:
+def pair_of(fields: Any) -> Pair:
     """The pair that is told. Raises KeyError and TypeError."""
-    return Pair(told["successor"], told["predecessor"])
+    return Pair(fields["successor"], fields["predecessor"])

@@ -2,7 +2,10 @@
 
 The agent writes a record before it says that the job is started. From then on it is the runner's: that writes when it
 begins the job and how the job ended. The lock of the log belongs to the agent first and then to the runner, for as long
-as that is there."""
+as that is there.
+
+Each step of a run is sent under a key that the record alone makes: the key of the run, the number of the try, and the
+step. An agent that begins anew therefore sends a step again under the key that it had."""
 
 import contextlib
 import dataclasses
@@ -11,10 +14,14 @@ import json
 import os
 import re
 from collections.abc import Iterator
+from typing import Any
 
 from opcplan.errors import Unreadable
 
 FILE = re.compile(r"([0-9]{9})\.run")
+RESET = re.compile(r".*\.([0-9]{1,3})-reset")
+# what a file has as lists
+OF_LISTS = ("command", "complete", "pauses")
 
 
 @dataclasses.dataclass(frozen=True)
@@ -24,13 +31,22 @@ class Record:
     serial: int
     app: str
     ia: str  # as statements have it
-    key: str  # under which a desk is asked to start it
+    key: str  # names the run; under it a desk is asked to start the first try
     after: int  # the position of the desk's journal behind which it is asked
     limit: float | None  # in seconds
     began: str | None = None
     ended: str | None = None
     status: int | None = None  # of the job: its exit status, or less than 0 the signal that ended it
     why: str | None = None  # what else there is to say of its end
+    attempt: int = 1  # which try this is
+    tries: int = 1  # how many there may be
+    pauses: tuple[float, ...] = ()  # seconds from the end of a try to the next one; the last one counts for all later
+    complete: tuple[int, ...] = (0,)  # exit statuses of a job that did what it had to do
+    command: tuple[str, ...] = ()  # its words, none for the file of the application
+    folder: str | None = None  # in which it runs, else that of the jobs
+    user: str | None = None  # as whom it runs, else as the agent
+    environment: tuple[tuple[str, str], ...] | None = None  # None: that of the agent
+    offset: int = 0  # where the output of this try begins in the log
 
     @property
     def name(self) -> str:
@@ -40,23 +56,60 @@ class Record:
     @property
     def is_good(self) -> bool:
         """Whether a job that ended did what it had to do."""
-        return self.status == 0 and self.why is None
+        return self.status in self.complete and self.why is None
+
+    @property
+    def is_tried_again(self) -> bool:
+        """Whether a job that ended is to be tried once more."""
+        return not self.is_good and self.attempt < self.tries
+
+    @property
+    def start_key(self) -> str:
+        """The key under which a desk is asked to start this try."""
+        return self.key if self.attempt == 1 else f"{self.key}.{self.attempt}"
 
     @property
     def end_key(self) -> str:
         """The key under which a desk is told how the job ended."""
-        return f"{self.key}-end"
+        return f"{self.start_key}-end"
+
+    @property
+    def reset_key(self) -> str:
+        """The key under which a desk is asked to let a try that failed wait again."""
+        return f"{self.key}.{self.attempt}-reset"
+
+    @property
+    def pause(self) -> float:
+        """The seconds between the end of this try and the next one."""
+        return self.pauses[min(self.attempt, len(self.pauses)) - 1] if self.pauses else 0.0
+
+    @property
+    def try_text(self) -> str:
+        """Which try it is, in words; empty where there is one alone."""
+        return f"try {self.attempt} of {self.tries}" if self.tries > 1 else ""
+
+    def next_try(self, after: int) -> "Record":
+        """The record of the next try, which is asked behind a position."""
+        return dataclasses.replace(self, attempt=self.attempt + 1, after=after, began=None, ended=None, status=None,
+                                   why=None, offset=0)
 
     @property
     def ended_text(self) -> str:
         """How the job ended, in words."""
         if self.status is None:
             return self.why or ""
-        told = f"status {self.status}" if self.status >= 0 else f"by signal {-self.status}"
-        return f"{told}; {self.why}" if self.why else told
+        how = f"status {self.status}" if self.status >= 0 else f"by signal {-self.status}"
+        return f"{how}; {self.why}" if self.why else how
 
 
-class Faulty(Unreadable):
+def try_after(key: str | None) -> int:
+    """The number of the try that comes next where an entry of a key let an occurrence wait: agents count on what others
+    tried before."""
+    found = RESET.fullmatch(key or "")
+    return int(found[1]) + 1 if found else 1
+
+
+class InvalidRecord(Unreadable):
     """What is wrong with a file of a record."""
 
 
@@ -93,21 +146,38 @@ def sync(folder: str) -> None:
 
 
 def read(folder: str, serial: int) -> Record:
-    """The record of a serial. Raises Faulty and OSError."""
+    """The record of a serial. Raises InvalidRecord and OSError."""
     path = path_of(folder, serial)
     with open(path, encoding="utf-8") as file:
         try:
-            one = Record(**json.load(file))
-        except (ValueError, TypeError):
-            raise Faulty(f"{path}: it is no record of a run") from None
+            one = of_json(json.load(file))
+        except (ValueError, TypeError, AttributeError):
+            raise InvalidRecord(f"{path}: it is no record of a run") from None
     if one.serial != serial:
-        raise Faulty(f"{path}: it is the record of another serial, {one.serial}")
+        raise InvalidRecord(f"{path}: it is the record of another serial, {one.serial}")
     return one
+
+
+def of_json(fields: Any) -> Record:
+    """The record that a file has. Raises ValueError, TypeError and AttributeError."""
+    given = {name: tuple(value) if name in OF_LISTS else value for name, value in fields.items()}
+    if given.get("environment") is not None:
+        given["environment"] = tuple((str(name), str(value)) for name, value in given["environment"])
+    return Record(**given)
 
 
 def serials(folder: str) -> list[int]:
     """The serials of which there are records."""
     return sorted(int(found[1]) for found in map(FILE.fullmatch, os.listdir(folder)) if found)
+
+
+def remove_log(folder: str, serial: int) -> bool:
+    """Takes the log of a serial away, whether no run needs it. Raises OSError."""
+    with locked_log(folder, serial) as log:
+        is_free = log is not None and not os.path.exists(path_of(folder, serial))
+        if is_free:
+            os.remove(log_of(folder, serial))
+        return is_free
 
 
 def forget(folder: str, serial: int) -> None:
@@ -119,11 +189,23 @@ def forget(folder: str, serial: int) -> None:
 def open_log(folder: str, serial: int) -> int | None:
     """The number of the log's open file, with its lock; None where another one has that. Raises OSError."""
     flags = os.O_WRONLY | os.O_CREAT | os.O_APPEND | os.O_NOFOLLOW | os.O_CLOEXEC
-    number = os.open(log_of(folder, serial), flags, 0o640)
-    if is_taken(number):
-        return number
-    os.close(number)
-    return None
+    path = log_of(folder, serial)
+    while True:
+        number = os.open(path, flags, 0o640)
+        if not is_taken(number):
+            os.close(number)
+            return None
+        if is_at(number, path):
+            return number
+        os.close(number)  # who prunes logs took it away meanwhile
+
+
+def is_at(number: int, path: str) -> bool:
+    """Whether an open file is the one of a path."""
+    try:
+        return os.path.samestat(os.fstat(number), os.stat(path, follow_symlinks=False))
+    except FileNotFoundError:
+        return False
 
 
 @contextlib.contextmanager

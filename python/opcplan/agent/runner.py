@@ -1,23 +1,31 @@
 """Runs one job for an agent, and leaves in its record when it began and how it ended. It outlives the agent.
 
 Its words are the folder of the records, a serial, the folder of the jobs, and the number of the open log, whose lock it
-has. The job gets a session of its own, and neither the lock nor the token for the desk."""
+has. The job gets a session of its own, and neither the lock nor the token for the desk. Where the record names a user,
+it runs as that one, with all groups of that user and none of the agent's."""
 
 import dataclasses
 import datetime
 import os
+import pwd
 import signal
 import subprocess
 import sys
 import time
+from collections.abc import Sequence
+from typing import NamedTuple
 
 from opcplan.agent import record
 from opcplan.agent.record import Record
 
 # between the signal that asks a job to end and the one that ends it
 GRACE = 10
-PRIVATE = ("OPCPLAN_TOKEN", "OPCPLAN_TOKEN_FILE")
+# the last one is where systemd puts the file of the token
+PRIVATE = ("OPCPLAN_TOKEN", "OPCPLAN_TOKEN_FILE", "CREDENTIALS_DIRECTORY")
 REST = 1
+# of a job that is described: what its environment has, and what it has of the agent's
+PATH, SHELL = "/usr/local/sbin:/usr/local/bin:/usr/sbin:/usr/bin:/sbin:/bin", "/bin/sh"
+KEPT = ("LANG", "LC_ALL", "TZ")
 
 
 def main(folder: str, serial: str, jobs: str, number: str) -> None:
@@ -27,9 +35,10 @@ def main(folder: str, serial: str, jobs: str, number: str) -> None:
     os.chdir("/")  # it began in the folder of the package
     log = int(number)
     os.set_inheritable(log, False)
-    begun = dataclasses.replace(record.read(folder, int(serial)), began=clock())
+    begun = dataclasses.replace(record.read(folder, int(serial)), began=clock(), offset=os.fstat(log).st_size)
     keep(folder, begun)
-    say(log, f"begins {begun.app} {begun.ia} {begun.serial} at {begun.began}")
+    tries = f", {begun.try_text}" if begun.try_text else ""
+    say(log, f"begins {begun.app} {begun.ia} {begun.serial} at {begun.began}{tries}")
     status, why = outcome(begun, jobs, record.log_of(folder, begun.serial))
     ended = dataclasses.replace(begun, ended=clock(), status=status, why=why)
     say(log, f"ended at {ended.ended}: {ended.ended_text}")
@@ -38,23 +47,76 @@ def main(folder: str, serial: str, jobs: str, number: str) -> None:
 
 def outcome(one: Record, jobs: str, log: str) -> tuple[int | None, str | None]:
     """The status with which a job ends, and what else there is to say."""
+    words = one.command or (os.path.join(jobs, one.app), one.app, one.ia, str(one.serial))
     try:
+        user = switched(one.user)
         with open(log, "ab") as output:
             job = subprocess.Popen(
-                [os.path.join(jobs, one.app), one.app, one.ia, str(one.serial)], stdin=subprocess.DEVNULL,
-                stdout=output, stderr=output, cwd=jobs, start_new_session=True,
-                env=environment())
+                words, stdin=subprocess.DEVNULL, stdout=output, stderr=output, cwd=one.folder or jobs,
+                start_new_session=True, env=environment_of(one), user=user.uid, group=user.gid,
+                extra_groups=user.groups)
+    except KeyError:
+        return None, f"it can't be run: this machine has no user {one.user}"
     except OSError as error:
-        return None, f"it can't be run: {error.strerror}"
+        return None, f"it can't be run: {error.filename or words[0]}: {error.strerror}"
     try:
         return job.wait(one.limit), None
     except subprocess.TimeoutExpired:
         return stopped(job), f"it ran longer than {one.limit:g} seconds, and was ended"
 
 
+class Switch(NamedTuple):
+    """The user and groups that a job gets, None where it keeps those of the agent."""
+
+    uid: int | None = None
+    gid: int | None = None
+    groups: Sequence[int] | None = None
+
+
+def switched(name: str | None) -> Switch:
+    """What makes a job that of a user. Raises KeyError."""
+    if name is None:
+        return Switch()
+    found = pwd.getpwnam(name)
+    if found.pw_uid == os.geteuid():
+        return Switch()
+    return Switch(found.pw_uid, found.pw_gid, os.getgrouplist(name, found.pw_gid))
+
+
 def environment() -> dict[str, str]:
-    """The environment of this process without the token: a job can read that of its runner."""
+    """The environment of this process without the token and its place: a job can read that of its runner."""
     return {name: value for name, value in os.environ.items() if name not in PRIVATE}
+
+
+def environment_of(one: Record) -> dict[str, str]:
+    """The environment of a job: that of the agent, or where the jobs are described a small one and what is named there;
+    and what says which occurrence it is. Raises KeyError."""
+    own = {"OPCPLAN_APP": one.app, "OPCPLAN_IA": one.ia, "OPCPLAN_SERIAL": str(one.serial),
+           "OPCPLAN_TRY": str(one.attempt)}
+    if one.environment is None:
+        return environment() | own
+    user = user_of(one.user)
+    fixed = {"PATH": PATH, "SHELL": SHELL, "HOME": user.home, "USER": user.name, "LOGNAME": user.name}
+    kept = {name: os.environ[name] for name in KEPT if name in os.environ}
+    return fixed | kept | dict(one.environment) | own
+
+
+class User(NamedTuple):
+    """A user's name and home."""
+
+    name: str
+    home: str
+
+
+def user_of(name: str | None) -> User:
+    """The user of a name, or the one of this process. Raises KeyError where there is none of that name."""
+    try:
+        found = pwd.getpwnam(name) if name else pwd.getpwuid(os.geteuid())
+    except KeyError:
+        if name:
+            raise
+        return User(str(os.geteuid()), "/")
+    return User(found.pw_name, found.pw_dir)
 
 
 def stopped(job: subprocess.Popen[bytes]) -> int:

@@ -3,14 +3,15 @@
 import dataclasses
 import os
 import signal
+import socket
 import stat
 import sys
 import threading
 
-from opcplan.agent import record, work
-from opcplan.agent.work import Settings
+from opcplan.agent import executor, jobs, record
+from opcplan.agent.executor import Settings
 from opcplan.desk import client
-from opcplan.errors import Error, WrongWords
+from opcplan.errors import Error, UsageError
 
 LOCK = ".agent"
 # a token that an agent gives itself
@@ -19,30 +20,32 @@ PIPE = "/dev/fd/"
 LONGEST_REST = 30
 
 
-class Unable(Error):
+class AgentNotStarted(Error):
     """Why an agent doesn't begin."""
 
 
 def run(name: str | None, given: Settings) -> int:
-    """Works for the desk of a name, or else the usual one; the exit status. Raises WrongWords and Unable."""
+    """Works for the desk of a name, or else the usual one; the exit status. Raises UsageError and AgentNotStarted."""
     name = name or client.usual()
     if name is None:
-        raise WrongWords("agent: --desk is wanted; ./plan agent --help says more")
+        raise UsageError("agent: --desk is wanted; ./plan agent --help says more")
     try:
         desk = client.Client(name, private_token())
-    except client.Wrong as why:
-        raise WrongWords(f"agent: {why}") from None
+    except client.InvalidAddress as why:
+        raise UsageError(f"agent: {why}") from None
     except OSError as error:
-        raise Unable(f"agent: {error.filename}: the token can't be read: {error.strerror}") from None
+        raise AgentNotStarted(f"agent: {error.filename}: the token can't be read: {error.strerror}") from None
     try:
-        given = with_folders(given)
+        given = with_folders(dataclasses.replace(given, name=given.name or own_name()))
         number = locked(given.logs)
-    except Unable as why:
-        raise Unable(f"agent: {why}") from None
+    except AgentNotStarted as why:
+        raise AgentNotStarted(f"agent: {why}") from None
     except OSError as error:
-        raise Unable(f"agent: {error.filename}: {error.strerror}") from None
+        raise AgentNotStarted(f"agent: {error.filename}: {error.strerror}") from None
     try:
-        return watch(given, work.Agent(given, desk))
+        return watch(given, executor.Agent(given, desk))
+    except jobs.InvalidJobsFile as why:
+        raise AgentNotStarted(f"agent: {why}") from None
     finally:
         os.close(number)
 
@@ -64,29 +67,39 @@ def private_token() -> str | None:
     return found
 
 
+def own_name() -> str:
+    """The name of an agent that was given none: that of its machine. Raises AgentNotStarted."""
+    found = socket.gethostname()
+    if not executor.NAME.fullmatch(found):
+        raise AgentNotStarted(f"this machine's name, {found!r}, can't be an agent's; --name gives it another one")
+    return found
+
+
 def with_folders(given: Settings) -> Settings:
-    """The same with whole paths; the folder of logs is made where there is none. Raises Unable and OSError."""
+    """The same with whole paths; the folder of logs is made where there is none. Raises AgentNotStarted and OSError."""
     jobs = os.path.realpath(given.jobs)
     if not os.path.isdir(jobs):
-        raise Unable(f"{jobs}: there is no such folder")
+        raise AgentNotStarted(f"{jobs}: there is no such folder")
     if os.stat(jobs).st_mode & stat.S_IWOTH:
-        raise Unable(f"{jobs}: everybody may write into it, so no job of it is run")
+        raise AgentNotStarted(f"{jobs}: everybody may write into it, so no job of it is run")
     logs = os.path.realpath(given.logs or os.path.join(jobs, "log"))
     os.makedirs(logs, mode=0o750, exist_ok=True)
     return dataclasses.replace(given, jobs=jobs, logs=logs)
 
 
 def locked(folder: str) -> int:
-    """The number of the open file whose lock says that an agent has a folder of logs. Raises Unable and OSError."""
+    """The number of the open file whose lock says that an agent has a folder of logs. Raises AgentNotStarted and
+    OSError."""
     number = os.open(os.path.join(folder, LOCK), os.O_WRONLY | os.O_CREAT | os.O_CLOEXEC | os.O_NOFOLLOW, 0o600)
     if not record.is_taken(number):
         os.close(number)
-        raise Unable(f"{folder}: another agent has it")
+        raise AgentNotStarted(f"{folder}: another agent has it")
     return number
 
 
-def watch(given: Settings, agent: work.Agent) -> int:
-    """Looks until it is to end; the exit status. Raises Unable where the desk refuses it from the beginning."""
+def watch(given: Settings, agent: executor.Agent) -> int:
+    """Looks until it is to end; the exit status. Raises AgentNotStarted where the desk refuses it from the
+    beginning."""
     stop = threading.Event()
     for one in (signal.SIGTERM, signal.SIGINT):
         signal.signal(one, lambda *_: stop.set())
@@ -96,16 +109,16 @@ def watch(given: Settings, agent: work.Agent) -> int:
         try:
             agent.step()
             if trouble:
-                work.tell(f"{name} answers again")
+                executor.print_message(f"{name} answers again")
             trouble, rest = "", given.every
-        except (client.Away, client.Refused, OSError) as why:
-            if agent.state.plan.position is None and isinstance(why, client.Refused) and why.status < 500:
-                raise Unable(f"agent: {name}: {why}") from None
+        except (client.DeskUnreachable, client.RequestRefused, OSError) as why:
+            if agent.state.plan.position is None and isinstance(why, client.RequestRefused) and why.status < 500:
+                raise AgentNotStarted(f"agent: {name}: {why}") from None
             if str(why) != trouble:
                 trouble = str(why)
-                work.tell(f"{trouble}; it is tried again")
+                executor.print_message(f"{trouble}; it is tried again")
             rest = min(max(2 * rest, given.every), LONGEST_REST)
         stop.wait(rest)
     if agent.state.running:
-        work.tell(f"ends; {agent.state.running} of its jobs go on, and the next agent tells how they end")
+        executor.print_message(f"ends; {agent.state.running} of its jobs go on, and the next agent tells how they end")
     return 0

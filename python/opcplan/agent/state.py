@@ -10,13 +10,21 @@ What always holds (tests/test_agent_states.py asks it in each state of small wor
   agent look again. Only where the plan changes at each of TRIES tries it is sent without.
 - No record is given up before the desk has answered its start, so that none is done later which nobody waits for.
 - Nothing is decided of a job that began by a desk that is behind its start: a desk that was begun again, or another
-  desk of its log, may be for a while."""
+  desk of its log, may be for a while.
+- A try follows another one only once the desk has accepted that it failed and a reset, both under keys of its record,
+  while that failure is in force and its pause is over. An occurrence gets no more tries than its record says, also
+  where the next one is another agent's: that counts by the key of the reset. A failure in force is followed by the next
+  try as long as there is one.
+- The start of an application that has a class is accepted only where fewer occurrences of that class are started than
+  its limit, whoever started them: it is sent on the condition that the plan is as it is known here.
+- Nothing is begun of an application whose jobs other agents run."""
 
 import dataclasses
-from collections import deque
-from collections.abc import Iterable, Sequence
+from collections import Counter, deque
+from collections.abc import Iterable, Mapping, Sequence, Set
 from typing import NamedTuple
 
+from opcplan.agent import record
 from opcplan.agent.known_plan import ALL, STATUS, Entry, KnownPlan, NOTHING, Pair, Row
 from opcplan.agent.record import Record
 from opcplan.errors import Error
@@ -27,10 +35,21 @@ LEFT = ("nothing is touched; where it did its work, `cp-complete` says so, else 
 UNKNOWN = "the desk's journal doesn't go back to who started it"
 # how often one look asks again because the plan changed meanwhile
 TRIES = 9
+# how many entries of the desk's journal an agent that begins knows at least: they say which tries others made
+BACK = 1000
 
 
-class Behind(Error):
+class DeskBehind(Error):
     """Why nothing is decided for now: the desk hasn't all that the agent knows, or the plan changes all the while."""
+
+
+class Rules(NamedTuple):
+    """What an agent is told of applications: those whose jobs other agents run, the class of each that has one, and how
+    many occurrences of a class may be started at once."""
+
+    elsewhere: Set[str] = frozenset()
+    classes: Mapping[str, str] = {}
+    limits: Mapping[str, int] = {}
 
 
 class AskStanding(NamedTuple):
@@ -58,11 +77,12 @@ class Look(NamedTuple):
 
 
 class Prepare(NamedTuple):
-    """Command: a new record is made of a row, behind a position, and the lock of its log is taken; where there is no
-    job for it, nothing is done."""
+    """Command: a new record is made of a try of a row, behind a position, and the lock of its log is taken; where there
+    is no job for it, nothing is done."""
 
     row: Row
     after: int
+    attempt: int = 1
 
 
 class Claim(NamedTuple):
@@ -87,6 +107,12 @@ class Run(NamedTuple):
     record: Record
 
 
+class Again(NamedTuple):
+    """Command: the record of the next try takes the place of that of a try that failed."""
+
+    record: Record
+
+
 class Forget(NamedTuple):
     """Command: a record is taken away, which is said with the reason; perhaps its occurrence rests for a while."""
 
@@ -95,7 +121,15 @@ class Forget(NamedTuple):
     is_refused: bool = False
 
 
-Command = AskStanding | AskPairs | AskRows | AskEntries | Look | Prepare | Claim | Send | Run | Forget
+Command = AskStanding | AskPairs | AskRows | AskEntries | Look | Prepare | Claim | Send | Run | Again | Forget
+
+
+class Counted(NamedTuple):
+    """How many occurrences of each class are started, at a position of a log."""
+
+    life: str
+    position: int | None
+    started: Mapping[str, int]
 
 
 @dataclasses.dataclass
@@ -111,7 +145,7 @@ class Fetched:
 
 
 class State:
-    """The state of an agent that found these records. Where a call raises Behind, the look is over."""
+    """The state of an agent that found these records. Where a call raises DeskBehind, the look is over."""
 
     def __init__(self, records: Iterable[Record] = ()) -> None:
         self.plan = KnownPlan()
@@ -128,16 +162,20 @@ class State:
         self.now = self.most = self.tries = 0
         self.stood = 0  # the position that the desk told last
         self.is_quick = False  # whether only entries are asked for, to decide of a run again
+        self.is_undone = False  # whether the desk said of a start that it did nothing
+        self.rules = Rules()
+        self.counted: Counted | None = None
 
     @property
     def running(self) -> int:
         """How many jobs run."""
         return sum(one.ended is None and serial not in self.lost for serial, one in self.records.items())
 
-    def look(self, now: int, most: int) -> None:
+    def look(self, now: int, most: int, rules: Rules = Rules()) -> None:
         """Looks once: at what the desk has, at each run, and at what is ready at a moment, as long as fewer jobs run
-        than so many."""
-        self.now, self.most, self.tries = now, most, TRIES
+        than so many, and as rules have it."""
+        self.now, self.most, self.tries, self.rules = now, most, TRIES, rules
+        self.is_undone, self.counted = False, None
         self.left, self.offered = deque(self.records), None
         self.refresh()
 
@@ -149,15 +187,16 @@ class State:
         self.command = AskStanding()
 
     def standing(self, position: int, life: str) -> None:
-        """The desk is at a position of a log. Raises Behind."""
+        """The desk is at a position of a log. Raises DeskBehind."""
         plan = self.plan
         if self.fetched is not None:
             self.stands(position, life)
             return
         if plan.position is not None and life and life == self.life and position < plan.position:
-            raise Behind(f"it is behind entry {plan.position}")  # another desk of the same log, which hasn't all yet
+            # another desk of the same log, which hasn't all yet
+            raise DeskBehind(f"it is behind entry {plan.position}")
         if plan.position is None or life != self.life or position < plan.position:
-            plan.begin(min([position, *(one.after for one in self.records.values())]))
+            plan.begin(min([max(0, position - BACK), *(one.after for one in self.records.values())]))
             self.keys.clear()
         self.life, self.stood = life, position
         if plan.position is None:
@@ -168,10 +207,10 @@ class State:
             self.go_on()
 
     def stands(self, position: int, life: str) -> None:
-        """The desk whose journal told nothing is at a position. Raises Behind where its rows were further."""
+        """The desk whose journal told nothing is at a position. Raises DeskBehind where its rows were further."""
         assert self.fetched is not None
         if life != self.life or position < self.fetched.rows_at:
-            raise Behind("it was begun again meanwhile")
+            raise DeskBehind("it was begun again meanwhile")
         self.command = AskEntries(0)
 
     def fetch_all(self) -> None:
@@ -186,17 +225,17 @@ class State:
         self.command = AskRows()
 
     def rows(self, rows: Iterable[Row], position: int) -> None:
-        """The rows of the current plan, at a position. Raises Behind."""
+        """The rows of the current plan, at a position. Raises DeskBehind."""
         fetched, known = self.fetched, self.plan.position
         assert fetched is not None
         if known is not None and position < known:
-            raise Behind(f"it is behind entry {known}")
+            raise DeskBehind(f"it is behind entry {known}")
         fetched.rows, fetched.rows_at = {row.serial: row for row in rows}, position
         last = self.plan.last
         self.command = AskEntries(last if fetched.pairs is None else min(last, fetched.pairs_at))
 
     def entries(self, entries: Sequence[Entry]) -> None:
-        """The entries behind a position that was asked for, as far as the desk has them. Raises Behind."""
+        """The entries behind a position that was asked for, as far as the desk has them. Raises DeskBehind."""
         if self.fetched is None:
             self.follow(entries)
             return
@@ -218,7 +257,7 @@ class State:
         self.take_fetched(fetched, fetched.rows, known)
 
     def take_fetched(self, fetched: Fetched, rows: dict[int, Row], entries: Sequence[Entry]) -> None:
-        """Takes what the desk told of one state of its plan, and the entries up to that. Raises Behind."""
+        """Takes what the desk told of one state of its plan, and the entries up to that. Raises DeskBehind."""
         last, is_broken, stale = self.plan.last, self.note_gap(entries, fetched.rows_at), self.plan.stale
         for one in entries:
             if one.seq > last:
@@ -232,7 +271,7 @@ class State:
         self.go_on()
 
     def follow(self, entries: Sequence[Entry]) -> None:
-        """Takes what came since, and asks anew where that doesn't tell all. Raises Behind."""
+        """Takes what came since, and asks anew where that doesn't tell all. Raises DeskBehind."""
         assert self.plan.position is not None
         if entries:
             self.note_gap(entries, entries[-1].seq)
@@ -252,21 +291,21 @@ class State:
             self.go_on()
 
     def note_gap(self, entries: Sequence[Entry], upto: int) -> bool:
-        """Whether entries are lacking behind what is known. Raises Behind where they don't go up to a position."""
+        """Whether entries are lacking behind what is known. Raises DeskBehind where they don't go up to a position."""
         last = self.plan.last
         behind = [one.seq for one in entries if one.seq > last]
         if upto > last and (not behind or behind[-1] < upto):
-            raise Behind(f"it lacks entries up to {upto}")
+            raise DeskBehind(f"it lacks entries up to {upto}")
         if not behind or behind[0] == last + 1:
             return False
         self.plan.skip(behind[0] - 1)  # a desk that joined its log later
         return True
 
     def note(self, one: Entry) -> None:
-        """Notes that the desk has the start of a run, or its end."""
+        """Notes that the desk has the start of a try, its end, or the reset behind it."""
         found = STATUS.fullmatch(one.reply)
         run = self.records.get(int(found[1])) if found else None
-        if run is not None and one.key is not None and one.key in (run.key, run.end_key):
+        if run is not None and one.key is not None and one.key in (run.start_key, run.end_key, run.reset_key):
             self.keys.add(one.key)
 
     # What becomes of a run.
@@ -282,11 +321,12 @@ class State:
         """What was under way isn't done in this look."""
         if self.left:
             self.left.popleft()
-        self.tries = TRIES
+        self.tries, self.is_undone = TRIES, False
         self.go_on()
 
-    def seen(self, one: Record, has_runner: bool) -> None:
-        """The record of a run, as it was after it was seen whether a runner has its log."""
+    def seen(self, one: Record, has_runner: bool, is_rested: bool = True) -> None:
+        """The record of a run, as it was after it was seen whether a runner has its log, and whether the pause after
+        its try is over."""
         self.records[one.serial] = one
         if one.ended is None and has_runner:
             self.skip()
@@ -297,7 +337,7 @@ class State:
         elif self.is_start_ahead(one):
             self.wait(one)
         elif one.ended is not None:
-            self.report(one)
+            self.report(one, is_rested)
         else:
             self.see_broken(one)
 
@@ -310,7 +350,7 @@ class State:
 
     def is_start_ahead(self, one: Record) -> bool:
         """Whether the entry that started a job comes behind what is known of the desk's journal."""
-        return one.key not in self.keys and one.after >= self.plan.since
+        return one.start_key not in self.keys and one.after >= self.plan.since
 
     def wait(self, one: Record) -> None:
         """Says once that a run waits for the desk."""
@@ -345,13 +385,20 @@ class State:
         latest = self.plan.latest.get(one.serial)
         if latest is None and one.after < self.plan.since:
             return None
-        return latest is not None and (latest.status, latest.key) == ("S", one.key)
+        return latest is not None and (latest.status, latest.key) == ("S", one.start_key)
 
-    def report(self, one: Record) -> None:
-        """Has the desk told how a job ended."""
+    def is_given(self, one: Record, status: str, key: str) -> bool:
+        """Whether an occurrence has a status that the entry of a key gave it."""
+        latest = self.plan.latest.get(one.serial)
+        return self.status_of(one) == status and latest is not None and (latest.status, latest.key) == (status, key)
+
+    def report(self, one: Record, is_rested: bool) -> None:
+        """Has the desk told how a job ended, and what comes of that."""
         how = f"it ended: {one.ended_text}"
         is_ours = self.is_ours(one)
-        if one.end_key in self.keys:
+        if one.end_key in self.keys and one.is_tried_again:
+            self.try_again(one, is_rested)
+        elif one.end_key in self.keys:
             self.command = Forget(one, f"{how}; it is {self.status_text(one)}")
         elif is_ours:
             self.send(one, "complete" if one.is_good else "fail", one.end_key)
@@ -360,10 +407,26 @@ class State:
         else:
             self.command = Forget(one, f"{how}; the desk isn't told, for it is {self.status_text(one)} by now")
 
+    def try_again(self, one: Record, is_rested: bool) -> None:
+        """The desk knows that a try failed, and there is another one: once the pause is over and the next one can begin
+        at once, a reset makes way for it."""
+        assert self.plan.position is not None
+        if self.is_given(one, "W", one.reset_key):
+            self.command = Again(one.next_try(self.plan.position))
+        elif one.reset_key in self.keys or not self.is_given(one, "E", one.end_key):
+            how = f"it ended: {one.ended_text}; it isn't tried again"
+            self.command = Forget(one, f"{how}, for it is {self.status_text(one)} by now, and not by this agent")
+        elif is_rested and self.running < self.most and not self.is_full(one.app):
+            self.send(one, "reset", one.reset_key)
+        else:
+            self.skip()
+
     def send(self, one: Record, act: str, key: str) -> None:
-        """Has a statement sent, an end on the condition that the plan is as it is known."""
-        is_free = act == "start" or not self.life or self.tries <= 0
-        self.command = Send(one, act, key, "" if is_free else f"{self.life}-{self.plan.position}")
+        """Has a statement sent, on the condition that the plan is as it is known; a start that no class limits without,
+        and others where the plan changes all the while."""
+        is_start = act == "start"
+        is_free = one.app not in self.rules.classes if is_start else self.tries <= 0
+        self.command = Send(one, act, key, "" if is_free or not self.life else f"{self.life}-{self.plan.position}")
 
     def claimed(self, is_free: bool) -> None:
         """The lock of a log was taken, or a runner has it. A start that may have been sent is sent again, also where it
@@ -374,13 +437,21 @@ class State:
             self.skip()
         elif self.is_ours(one):
             self.command = Run(one)
+        elif not self.is_full(one.app):
+            self.send(one, "start", one.start_key)
+        elif self.is_undone:  # what was sent before is refused too, for the plan has changed since
+            self.command = Forget(one, "as many of its class are started as may be; it is begun later")
         else:
-            self.send(one, "start", one.key)
+            self.skip()
 
     def changed(self) -> None:
         """Nothing was done, for the plan isn't as it was known: it is looked at again, and decided anew."""
         assert isinstance(self.command, Send)
-        self.look_again(self.command.record)
+        one, self.is_undone = self.command.record, self.command.act == "start"
+        if self.is_undone and self.tries <= 0:
+            self.command = Forget(one, "the plan changes all the while; it is begun later")
+        else:
+            self.look_again(one)
 
     def look_again(self, one: Record) -> None:
         """Asks what changed, and looks at a run again then."""
@@ -400,10 +471,28 @@ class State:
             self.note(answer)
             self.plan.take(answer)
             self.plan.settle()
-        if act != "start":
-            is_told = f"it is {WORDS[found[2]]}" if found else f"the desk says `{answer.reply}`"
-            self.command = Forget(one, f"it ended: {one.ended_text}; {is_told}")
-        elif not found or int(found[1]) != one.serial:
+        if act == "start":
+            self.start_answered(one, answer, known)
+        elif found and one.is_tried_again and answer.seq <= known + 1:
+            self.note(answer)
+            self.report_failed_try(one, act)
+            self.report(one, False)
+        elif found and one.is_tried_again:  # others came between
+            self.look_again(one)
+        else:
+            is_reported = f"it is {WORDS[found[2]]}" if found else f"the desk says `{answer.reply}`"
+            self.command = Forget(one, f"it ended: {one.ended_text}; {is_reported}")
+
+    def report_failed_try(self, one: Record, act: str) -> None:
+        """Has said that a try failed, and that there is another one."""
+        if act == "fail":
+            self.messages.append(f"{one.name}: it ended: {one.ended_text}; it is in error, {one.try_text}; it is tried "
+                                 f"again after {one.pause:g} seconds")
+
+    def start_answered(self, one: Record, answer: Entry, known: int) -> None:
+        """The desk's answer to a start."""
+        found = STATUS.fullmatch(answer.reply)
+        if not found or int(found[1]) != one.serial:
             self.command = Forget(one, f"it isn't started: the desk says `{answer.reply}`", True)
         elif answer.seq <= known and self.is_ours(one) is None:
             self.lose(one, f"is started, and {UNKNOWN}")
@@ -424,8 +513,17 @@ class State:
         one = self.command.record
         self.records.pop(one.serial, None)
         self.lost.discard(one.serial)
-        self.keys -= {one.key, one.end_key}
+        self.keys -= {one.start_key, one.end_key, one.reset_key}
         self.skip()
+
+    def renewed(self) -> None:
+        """The record of the next try is on the disk."""
+        assert isinstance(self.command, Again)
+        one = self.command.record
+        old = self.records[one.serial]
+        self.keys -= {old.start_key, old.end_key, old.reset_key}
+        self.records[one.serial] = one
+        self.command = Claim(one)
 
     # What is ready.
 
@@ -435,10 +533,29 @@ class State:
             self.offered = deque(row.serial for row in self.plan.ready(self.now))
         while self.offered and self.running < self.most:
             serial = self.offered.popleft()
-            if serial not in self.records and self.plan.is_ready(serial):
+            if serial not in self.records and self.plan.is_ready(serial) and self.may_begin(self.plan.rows[serial].app):
                 assert self.plan.position is not None
-                return Prepare(self.plan.rows[serial], self.plan.position)
+                latest = self.plan.latest.get(serial)
+                return Prepare(self.plan.rows[serial], self.plan.position, record.try_after(latest and latest.key))
         return None
+
+    def may_begin(self, app: str) -> bool:
+        """Whether an application's jobs are run here, and its class has room."""
+        return app not in self.rules.elsewhere and not self.is_full(app)
+
+    def is_full(self, app: str) -> bool:
+        """Whether as many occurrences of an application's class are started as may be."""
+        name = self.rules.classes.get(app)
+        return name is not None and self.started().get(name, 0) >= self.rules.limits[name]
+
+    def started(self) -> Mapping[str, int]:
+        """How many occurrences of each class are started, by what is known of the plan."""
+        where, classes = (self.life, self.plan.position), self.rules.classes
+        if self.counted is None or self.counted[:2] != where:
+            found = Counter(classes[row.app] for row in self.plan.rows.values()
+                            if row.status == "S" and row.app in classes)
+            self.counted = Counted(*where, found)
+        return self.counted.started
 
     def prepared(self, one: Record | None) -> None:
         """There is a new record on the disk, or none where a row has no job here."""
@@ -446,4 +563,4 @@ class State:
             self.go_on()
             return
         self.records[one.serial] = one
-        self.send(one, "start", one.key)
+        self.send(one, "start", one.start_key)

@@ -1,17 +1,22 @@
 """What a subcommand prints, and the file that it writes: whole, or it is told why it isn't."""
 
+from __future__ import annotations
+
 import errno
 import io
 import os
 import select
 import stat
 import sys
-from typing import Any
 
-from opcplan.cli import words
-from opcplan.cli.words import Parser
 from opcplan.errors import Unwritable
 from opcplan.plans import tempfiles
+
+TYPE_CHECKING = False  # as in `typing`, which `./plan --help` needn't load
+if TYPE_CHECKING:
+    from typing import Any
+
+    from opcplan.cli.words import Parser
 
 # how a log of a database begins, and what its name ends with
 LOGS = (b"\x37\x7f\x06\x82", b"\x37\x7f\x06\x83", b"\xd9\xd5\x05\xf9\x20\xa1\x63\xd7")
@@ -58,6 +63,8 @@ def prepare() -> None:
 
 def add_words(parser: Parser, what: str) -> None:
     """The options of a subcommand that writes a file, as `words.out` and `words.force`."""
+    from opcplan.cli import words
+
     parser.add_argument("-o", dest="out", metavar="FILE", type=words.file,
                         help=f"where {what} goes (else standard output)")
     parser.add_argument("--force", action="store_true", help="also over a file that is there, but no database")

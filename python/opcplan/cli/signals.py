@@ -6,7 +6,7 @@ import signal
 SIGNALS = (signal.SIGINT, signal.SIGTERM, signal.SIGHUP)
 
 
-class Stopped(BaseException):
+class SignalReceived(BaseException):
     """A signal came; `number` is the signal's."""
 
     def __init__(self, number: int) -> None:
@@ -15,7 +15,7 @@ class Stopped(BaseException):
 
 
 def catch() -> None:
-    """From here on each of the signals raises Stopped, once; one that is ignored stays so, as under nohup."""
+    """From here on each of the signals raises SignalReceived, once; one that is ignored stays so, as under nohup."""
     for number in SIGNALS:
         if signal.getsignal(number) is not signal.SIG_IGN:
             signal.signal(number, stop)
@@ -23,7 +23,7 @@ def catch() -> None:
 
 def stop(number: int, _: object) -> None:
     ignore()
-    raise Stopped(number)
+    raise SignalReceived(number)
 
 
 def ignore() -> None:

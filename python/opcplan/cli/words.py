@@ -8,17 +8,18 @@ import re
 import shlex
 import sys
 from collections.abc import Callable, Sequence
-from typing import NoReturn
+from typing import Any, NoReturn
 
-from opcplan.errors import WrongWords
-from opcplan.rules import hints, moments, printable
+from opcplan.cli import bare_words
+from opcplan.errors import UsageError
+from opcplan.rules import amounts, hints, moments, printable
 
 CALLED = "./plan"  # by make install as the command is called there
 
 NAME = re.compile(r"[A-Z@#$][A-Z0-9@#$]{0,15}")
 
 
-def tell(message: str) -> None:
+def print_message(message: str) -> None:
     """Says something on standard error, in one line. Where it takes nothing, nobody can be told."""
     try:
         print(printable.fit(f"{os.path.basename(CALLED)}: {message}"), file=sys.stderr, flush=True)
@@ -27,15 +28,16 @@ def tell(message: str) -> None:
 
 
 class Parser(argparse.ArgumentParser):
-    """A parser that raises WrongWords, in one line."""
+    """A parser that raises UsageError, in one line."""
 
     is_mixed = False  # whether options may stand between words that belong together
     typed: Sequence[str] = ()  # the words that it was given
     likely: Callable[[Sequence[str]], str] | None = None  # what words that aren't taken lack, or nothing
 
     def error(self, message: str) -> NoReturn:
-        told = self.unknown_option(message) or self.plan_behind() or self.likely and self.likely(self.typed) or message
-        raise WrongWords(f"{told}; {self.prog} --help says more")
+        why = self.unknown_option(message) or self.without_option(message) or self.plan_behind() or \
+            self.likely and self.likely(self.typed) or message.replace("unrecognized arguments", "one word too many")
+        raise UsageError(f"{why}; {self.prog} --help says more")
 
     def unknown_option(self, message: str) -> str:
         """That the words have an option which isn't known, or nothing. What `argparse` misses it says first."""
@@ -60,6 +62,13 @@ class Parser(argparse.ArgumentParser):
         rest = list(self.typed)
         rest.remove(behind)
         return f"PLAN.db is the first word: {shlex.join([*self.prog.split(), behind, *rest])}"
+
+    def without_option(self, message: str) -> str:
+        """Which words lack the option that takes them, or nothing where another thing is wrong with the words."""
+        line = bare_words.Line(self._actions, self.typed, is_database)
+        if "--" in self.typed or message.startswith("argument -") and not any(one.nargs == "+" for one in line.given):
+            return ""
+        return bare_words.problem(self.prog, line, message.startswith("unrecognized"))
 
     def words_in_place(self) -> list[str]:
         """The words that are neither options nor their values."""
@@ -110,7 +119,7 @@ def day(text: str) -> int:
     """A day, for `type=`."""
     found = moments.day_of(text)
     if found is None:
-        raise argparse.ArgumentTypeError(f"{text!r} is no day like 2026-11-25{told(hints.of_day(text))}")
+        raise argparse.ArgumentTypeError(f"{text!r} is no day like 2026-11-25{hint_text(hints.of_day(text))}")
     return found
 
 
@@ -118,7 +127,8 @@ def moment(text: str) -> int:
     """A moment, for `type=`."""
     found = moments.typed_moment(text)
     if found is None:
-        raise argparse.ArgumentTypeError(f"{text!r} is no moment like 2026-11-25/06.00{told(hints.of_moment(text))}")
+        raise argparse.ArgumentTypeError(f"{text!r} is no moment like "
+                                         f"2026-11-25/06.00{hint_text(hints.of_moment(text))}")
     return found
 
 
@@ -128,7 +138,7 @@ def now(text: str) -> int:
     return moment(text) if minute is None else moments.now() // moments.DAY * moments.DAY + minute
 
 
-def told(slip: str) -> str:
+def hint_text(slip: str) -> str:
     """What is said behind a word that is not taken, where more than its form can be said."""
     return f": {slip}" if slip else ""
 
@@ -140,16 +150,37 @@ def name(text: str) -> str:
     return text.upper()
 
 
+def span(text: str) -> int:
+    """A span of time in seconds, for `type=`."""
+    found = amounts.seconds_of(text)
+    if found is None:
+        raise argparse.ArgumentTypeError(f"{text!r} is no span of time like 90d, 12h or 4w")
+    return found
+
+
+def size(text: str) -> int:
+    """A size in bytes, 0 too, for `type=`."""
+    found = 0 if text == "0" else amounts.bytes_of(text)
+    if found is None:
+        raise argparse.ArgumentTypeError(f"{text!r} is no size like 64K, 500M or 2G")
+    return found
+
+
 def file(text: str) -> str:
     """The name of a file, for `type=`."""
     if not text:
         raise argparse.ArgumentTypeError("'' is no name of a file")
+    if text.startswith(("http://", "https://")):
+        raise argparse.ArgumentTypeError(f"{text!r} is the address of a desk, and no file")
     return text
 
 
-def add_plan(parser: argparse.ArgumentParser) -> None:
-    """The word that names the plan's file, as `words.plan`, and the option that has it checked anew."""
-    parser.add_argument("plan", metavar="PLAN.db", type=file, help="the file that opcplan --db keeps")
+def add_plan(parser: argparse.ArgumentParser, may_lack: str = "") -> None:
+    """The word that names the plan's file, as `words.plan`, and the option that has it checked anew. `may_lack` says
+    where the word may be lacking."""
+    more: dict[str, Any] = {"nargs": "?"} if may_lack else {}
+    parser.add_argument("plan", metavar="PLAN.db", type=file, help=f"the file that opcplan --db keeps{may_lack}",
+                        **more)
     parser.add_argument("--again", action=Again, nargs=0,
                         help="check PLAN.db anew, even if it was checked and hasn't changed since")
 

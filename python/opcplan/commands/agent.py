@@ -6,7 +6,7 @@ import math
 from opcplan.cli import words
 
 SUMMARY = "runs the jobs of what is ready, and tells a desk how they end"
-USUAL_MOST, USUAL_EVERY = 4, 1.0
+USUAL_MOST, USUAL_EVERY, USUAL_TAIL = 4, 1.0, 1 << 16
 
 
 def add_words(parser: words.Parser) -> None:
@@ -18,7 +18,9 @@ def add_words(parser: words.Parser) -> None:
         "serial as its words; its exit status 0 is told as `cp-complete`, any other as `cp-fail`. What it prints goes "
         "to a log by serial. A job is never begun twice: where this agent, or one before it, was ended, jobs go on, "
         "and the next agent tells how they ended; of one of which nothing is known that is said, and nothing is "
-        "touched. SIGTERM and SIGINT end it, with status 0; status 1 where it can't begin, 2 where the words are wrong."
+        "touched. The file JOBS.toml beside the folder says how the job of an application is run, how often it is "
+        "tried, on which agents, and how many of a class run at once. "
+        "SIGTERM and SIGINT end it, with status 0; status 1 where it can't begin, 2 where the words are wrong."
     )
     parser.add_argument("--desk", metavar="DESK",
                         help="http://HOST:PORT, or the path of a desk's socket (else what OPCPLAN_DESK has)")
@@ -29,6 +31,11 @@ def add_words(parser: words.Parser) -> None:
                         help=f"how many jobs run at once (else {USUAL_MOST})")
     parser.add_argument("--limit", type=seconds, metavar="SECONDS",
                         help="how long a job may run; then it is ended, and that is a failure (else without end)")
+    parser.add_argument("--name", type=name, metavar="NAME",
+                        help="what this agent is called, for `where` in JOBS.toml (else the name of the machine)")
+    parser.add_argument("--tail", type=tail, default=USUAL_TAIL, metavar="SIZE",
+                        help="how much of the end of each log the desk gets, for those who may operate (else 64K; 0 "
+                        "for nothing)")
     parser.add_argument("--every", type=seconds, default=USUAL_EVERY, metavar="SECONDS",
                         help=f"how long it rests between two looks (else {USUAL_EVERY:g})")
     words.add_now(parser)
@@ -39,6 +46,25 @@ def count(text: str) -> int:
     if not text.isascii() or not text.isdigit() or not 1 <= int(text) <= 1000:
         raise argparse.ArgumentTypeError(f"{text!r} is no number from 1 to 1000")
     return int(text)
+
+
+def tail(text: str) -> int:
+    """How much of a log a desk gets, for `type=`."""
+    from opcplan.plans import job_logs
+
+    found = words.size(text)
+    if found > job_logs.MOST_OF_A_TRY:
+        raise argparse.ArgumentTypeError(f"{text!r} is more than the {job_logs.MOST_OF_A_TRY >> 10}K that a desk takes")
+    return found
+
+
+def name(text: str) -> str:
+    """The name of an agent, for `type=`."""
+    from opcplan.agent import executor
+
+    if not executor.NAME.fullmatch(text):
+        raise argparse.ArgumentTypeError(f"{text!r} is no name of letters, digits, `.`, `_` and `-`")
+    return text
 
 
 def seconds(text: str) -> float:
@@ -54,7 +80,8 @@ def seconds(text: str) -> float:
 
 def run(given: argparse.Namespace) -> int:
     """Does what the words ask for; the exit status."""
-    from opcplan.agent import service, work
+    from opcplan.agent import executor, service
 
-    settings = work.Settings(given.jobs, given.logs or "", given.most, given.limit, given.every, given.now)
+    settings = executor.Settings(given.jobs, given.logs or "", given.most, given.limit, given.every, given.now,
+                                 given.name or "", given.tail)
     return service.run(given.desk, settings)

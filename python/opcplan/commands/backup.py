@@ -6,14 +6,14 @@ import os
 import sqlite3
 
 from opcplan.cli import output, words
-from opcplan.errors import Error, Unwritable, WrongWords
-from opcplan.plans import checked_copy, locks, placing, plan_file, tempfiles
+from opcplan.errors import Error, Unwritable, UsageError
+from opcplan.plans import atomic_files, checked_copy, locks, plan_file, tempfiles
 from opcplan.rules import moments, printable
 
 SUMMARY = "a copy of a plan in one file, checked; a run may go on meanwhile"
 
 
-class Refused(Error):
+class CopyRefused(Error):
     """Why a copy doesn't take its place."""
 
 
@@ -35,22 +35,22 @@ def run(given: argparse.Namespace) -> int:
     """Does what the words ask for; the exit status."""
     target = os.path.realpath(given.file)
     if target in {os.path.realpath(given.plan) + tail for tail in (*plan_file.TAILS, "-shm")}:
-        raise WrongWords(f"{given.file}: that is the plan, or stands beside it; name another file")
+        raise UsageError(f"{given.file}: that is the plan, or stands beside it; name another file")
     try:
         check_link(given.file)
         check_place(target, given.force)
         with tempfiles.folder("backup-") as folder:
             copy, meta = checked_copy.made(given.plan, folder, given.program)
             put(copy, target, os.path.realpath(given.plan), given.force)
-    except (Refused, locks.Held) as why:
+    except (CopyRefused, locks.FileLocked) as why:
         raise Unwritable(f"{given.file}: {why}") from None
     except OSError as error:
         raise Unwritable(f"{given.file}: it can't be written: {error.strerror}") from None
-    print(printable.fit(f"{given.file} is a copy of {given.plan}, checked: {told(meta)}."))
+    print(printable.fit(f"{given.file} is a copy of {given.plan}, checked: {extent_text(meta)}."))
     return 0
 
 
-def told(meta: sqlite3.Row) -> str:
+def extent_text(meta: sqlite3.Row) -> str:
     """How far the plans of a file reach."""
     if not meta["created"]:
         return "it has no long-term plan yet"
@@ -58,41 +58,42 @@ def told(meta: sqlite3.Row) -> str:
 
 
 def check_link(path: str) -> None:
-    """Asks that a link at a path is one's own: that of another user could lead anywhere. Raises Refused."""
+    """Asks that a link at a path is one's own: that of another user could lead anywhere. Raises CopyRefused."""
     if os.path.islink(path) and os.lstat(path).st_uid != os.geteuid():
-        raise Refused("it is a link that another user made; name the file itself")
+        raise CopyRefused("it is a link that another user made; name the file itself")
 
 
 def check_place(target: str, is_forced: bool) -> None:
     """Asks that a copy may stand at a place: no file is there, or may be taken away, and no log that would be read with
-    it. Raises Refused."""
+    it. Raises CopyRefused."""
     if os.path.lexists(target) and not os.path.isfile(target):
-        raise Refused("it is no file")
+        raise CopyRefused("it is no file")
     if os.path.exists(target) and not is_forced:
-        raise Refused("there is such a file; --force takes its place")
+        raise CopyRefused("there is such a file; --force takes its place")
     for tail in plan_file.TAILS[1:]:
         if checked_copy.holds_something(target + tail):
-            raise Refused(f"{os.path.basename(target)}{tail} stands beside it, and would be read with the copy; name "
-                          "another file, or take that one away")
+            raise CopyRefused(f"{os.path.basename(target)}{tail} stands beside it, and would be read with the copy; "
+                              "name "
+                              "another file, or take that one away")
 
 
 def put(copy: str, target: str, plan: str, is_forced: bool) -> None:
-    """Puts a copy in its place, whole. Raises Refused and Held."""
-    with placing.part(target, "backup") as part:
+    """Puts a copy in its place, whole. Raises CopyRefused and FileLocked."""
+    with atomic_files.part(target, "backup") as part:
         checked_copy.write(copy, part, plan)
         if is_forced and os.path.lexists(target):
             replace(part, target)
         else:
             clear_place(target)
             try:
-                placing.rename_new(part, target)
+                atomic_files.rename_new(part, target)
             except FileExistsError:
-                raise Refused("there is such a file by now; --force takes its place") from None
+                raise CopyRefused("there is such a file by now; --force takes its place") from None
     output.sync_folder(target)
 
 
 def replace(part: str, target: str) -> None:
-    """Puts a file in the place of another one that no program has open. Raises Refused and Held."""
+    """Puts a file in the place of another one that no program has open. Raises CopyRefused and FileLocked."""
     number = os.open(target, os.O_RDWR)
     try:
         with locks.of_a_run(number, target):
@@ -103,7 +104,7 @@ def replace(part: str, target: str) -> None:
 
 
 def clear_place(target: str) -> None:
-    """Takes away the logs beside a place, in which there is nothing. Raises Refused where there is something."""
+    """Takes away the logs beside a place, in which there is nothing. Raises CopyRefused where there is something."""
     check_place(target, True)
     for tail in plan_file.TAILS[1:]:
         with contextlib.suppress(FileNotFoundError):

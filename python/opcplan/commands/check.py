@@ -42,26 +42,26 @@ def run(given: argparse.Namespace) -> int:
     """Does what the words ask for; the exit status."""
     with trial.tried(given.plan, given.stream, checked, given.program) as tried:
         print(colours.text("\n".join(lines_of(tried.found)), given.color))
-    trial_words.tell_end(tried)
+    trial_words.print_end(tried)
     return 0 if tried.status == 0 and not tried.found.findings else 1
 
 
 def checked(items: Iterator[Item], output: Source, now: Known) -> Checked:
     """A Checked of a stream and its output, from what is known before it on."""
-    walk, told = lint.Walk(now), Checked([])
+    walk, found = lint.Walk(now), Checked([])
     for item, reply in explanations.answered(items, output, now.see):
         if item is None or reply is None or explanations.is_end(reply):
-            told.end = tuple(explanations.end_lines(item, reply))
+            found.end = tuple(explanations.end_lines(item, reply))
             break
-        told.answered += 1
-        told.kept += is_answered_again(now, item)
+        found.answered += 1
+        found.kept += is_answered_again(now, item)
         if reply.startswith("refused"):
-            told.refused += 1
+            found.refused += 1
             text = "; ".join(explanations.refusal_sentences(item, reply, now))
-            told.findings.append(lint_checks.Finding("refused", (), item.line, f"{reply}: {text}"))
+            found.findings.append(lint_checks.Finding("refused", (), item.line, f"{reply}: {text}"))
         walk.take(item, reply)
-    told.findings = sorted([*walk.ended(), *told.findings], key=lambda finding: finding.line or 0)
-    return told
+    found.findings = sorted([*walk.ended(), *found.findings], key=lambda finding: finding.line or 0)
+    return found
 
 
 def is_answered_again(now: Known, item: Item) -> bool:
@@ -70,12 +70,12 @@ def is_answered_again(now: Known, item: Item) -> bool:
     return kept is not None and (item.is_whole or not item.has_data) and kept[0] == stream.text_of_job(item)
 
 
-def lines_of(told: Checked) -> list[str]:
+def lines_of(found: Checked) -> list[str]:
     """A Checked in lines fit for a terminal: its findings, how many statements were accepted, refused and kept, and how
     the output ended where it ended early."""
-    lines = [line for finding in told.findings for line in lint.finding_lines(finding)]
-    count = f"{told.answered - told.refused} accepted, {told.refused} refused"
-    if told.kept:
-        jobs = "is a job" if told.kept == 1 else "are jobs"
-        count += f"; {told.kept} of them {jobs} that the plan keeps, answered as then"
-    return [*lines, *([""] if lines else []), count, *map(printable.fit, told.end)]
+    lines = [line for finding in found.findings for line in lint.finding_lines(finding)]
+    count = f"{found.answered - found.refused} accepted, {found.refused} refused"
+    if found.kept:
+        jobs = "is a job" if found.kept == 1 else "are jobs"
+        count += f"; {found.kept} of them {jobs} that the plan keeps, answered as then"
+    return [*lines, *([""] if lines else []), count, *map(printable.fit, found.end)]

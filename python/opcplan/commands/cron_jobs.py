@@ -7,7 +7,7 @@ import shlex
 
 from opcplan.cli import output
 from opcplan.commands.crontab import Line
-from opcplan.commands.edit_change import Unmade
+from opcplan.commands.edit_change import ChangeRefused
 from opcplan.errors import Unwritable
 
 NOT_SET = ("MAILTO", "MAILFROM", "CRON_TZ", "TZ", "RANDOM_DELAY", "SHELL", "CONTENT_TYPE", "CONTENT_TRANSFER_ENCODING")
@@ -15,19 +15,20 @@ USUAL_SHELL, USUAL_PATH = "/bin/sh", "/usr/bin:/bin"
 
 
 def ask_folder(folder: str, apps: list[str]) -> None:
-    """Asks that a folder is there, or can be made, and has none of some files yet. Raises Unmade."""
+    """Asks that a folder is there, or can be made, and has none of some files yet. Raises ChangeRefused."""
     if os.path.lexists(folder) and not os.path.isdir(folder):
-        raise Unmade(f"{folder}: it is no folder", 2)
+        raise ChangeRefused(f"{folder}: it is no folder", 2)
     there = [app for app in apps if os.path.lexists(os.path.join(folder, app))]
     if there:
-        raise Unmade(f"{folder}: there is a file {there[0]} in it already; no job file is written over, and nothing "
-                     "was written")
+        raise ChangeRefused(f"{folder}: there is a file {there[0]} in it already; no job file is written over, and "
+                            "nothing "
+                            "was written")
 
 
 def write(folder: str, lines: dict[str, Line]) -> list[str]:
     """Writes the file of each application, which only its owner may change, and says what there is to say. Raises
     Unwritable."""
-    told = []
+    notes = []
     try:
         os.makedirs(folder, 0o755, exist_ok=True)
         for app, line in lines.items():
@@ -43,9 +44,10 @@ def write(folder: str, lines: dict[str, Line]) -> list[str]:
         raise Unwritable(f"{error.filename or folder}: it can't be written: {error.strerror}") from None
     users = sorted({line.user for line in lines.values() if line.user})
     if users:
-        told.append(f"Of the job files each with a user ({', '.join(users)}) runs its command by `runuser`, which root "
-                    "alone may; an agent of that user runs it itself.")
-    return told
+        notes.append(f"Of the job files each with a user ({', '.join(users)}) runs its command by `runuser`, which "
+                     "root "
+                     "alone may; an agent of that user runs it itself.")
+    return notes
 
 
 def text_of(line: Line) -> str:

@@ -7,8 +7,8 @@ from typing import NamedTuple
 
 from opcplan.cli import words
 from opcplan.commands import edit_run_cycle, edit_words
-from opcplan.commands.edit_change import Unmade
-from opcplan.errors import WrongWords
+from opcplan.commands.edit_change import ChangeRefused
+from opcplan.errors import UsageError
 from opcplan.plans import plan_definitions, plan_file
 from opcplan.plans.plan_file import Plan
 from opcplan.rules import moments, naming, naming_words, printable
@@ -27,6 +27,16 @@ class Named(NamedTuple):
     app: str
     cycle: str
     deadline: int
+
+
+@dataclasses.dataclass(frozen=True)
+class Settings:
+    """Whose days are shown, of an application or of a run cycle that is tried, and from when to when."""
+
+    app: str | None
+    tried: list[tuple[str, str]] | None
+    first: int | None
+    last: int | None
 
 
 def add_words(parser: words.Parser) -> None:
@@ -51,34 +61,36 @@ def add_words(parser: words.Parser) -> None:
 
 def run(given: argparse.Namespace) -> int:
     """Does what the words ask for; the exit status."""
+    settings = Settings(given.app, given.tried, given.first, given.last)
     with plan_file.opened(given.plan) as plan:
-        found, (first, last) = plan_definitions.of_plan(plan), span_of(plan, given)
+        found, (first, last) = plan_definitions.of_plan(plan), span_of(plan, settings)
     if last < first or last - first >= MOST:
-        raise WrongWords("--to is before --from" if last < first else
+        raise UsageError("--to is before --from" if last < first else
                          f"at most {MOST:,} days are shown; --to names an earlier day")
-    lines = tried_lines(found, given, first, last) if given.tried else named_lines(found, given, first, last)
+    lines = tried_lines(found, settings.tried, settings.app, first, last) if settings.tried else \
+        named_lines(found, settings.app, first, last)
     span = f"from {moments.day_text(first)} to {moments.day_text(last)}"
     print(printable.text(lines) if lines else f"No day is named {span}.")
     return 0 if lines else 1
 
 
-def span_of(plan: Plan, given: argparse.Namespace) -> tuple[int, int]:
+def span_of(plan: Plan, given: Settings) -> tuple[int, int]:
     """The first and the last day that are shown."""
     usual = plan.meta["plan_end"] // moments.DAY if plan.is_created else moments.now() // moments.DAY
     first = usual if given.first is None else given.first
     return first, min(LAST_DAY, first + USUAL - 1) if given.last is None else given.last
 
 
-def named_lines(found: Definitions, given: argparse.Namespace, first: int, last: int) -> list[str]:
-    """A line for each occurrence that is named."""
-    if given.app is not None and given.app not in found.applications:
-        raise Unmade(f"there is no application {given.app}{meant_text(given.app, found.applications)}")
-    for app in [given.app] if given.app else sorted(found.applications):
-        obstacle = naming.obstacle_of(found, app)
-        if obstacle is not None and (obstacle != "pending" or given.app):
-            words.tell(OBSTACLES[obstacle].format(app=app))
-    return [f"{one.app:16} {moments.moment_text(one.ia)} {one.cycle:8} {moments.moment_text(one.deadline)}"
-            for one in sorted(named(found, [given.app] if given.app else list(found.applications), first, last))]
+def named_lines(found: Definitions, app: str | None, first: int, last: int) -> list[str]:
+    """A line for each occurrence that is named, of an application or of all."""
+    if app is not None and app not in found.applications:
+        raise ChangeRefused(f"there is no application {app}{meant_text(app, found.applications)}")
+    for one in [app] if app else sorted(found.applications):
+        obstacle = naming.obstacle_of(found, one)
+        if obstacle is not None and (obstacle != "pending" or app):
+            words.print_message(OBSTACLES[obstacle].format(app=one))
+    return [f"{it.app:16} {moments.moment_text(it.ia)} {it.cycle:8} {moments.moment_text(it.deadline)}"
+            for it in sorted(named(found, [app] if app else list(found.applications), first, last))]
 
 
 OBSTACLES = {
@@ -99,28 +111,30 @@ def named(found: Definitions, apps: list[str], first: int, last: int) -> Iterato
                     yield Named(day * moments.DAY + one.time, app, one.cycle.name, one.deadline)
 
 
-def tried_lines(found: Definitions, given: argparse.Namespace, first: int, last: int) -> list[str]:
+def tried_lines(
+    found: Definitions, fields_given: list[tuple[str, str]], app: str | None, first: int, last: int
+) -> list[str]:
     """A line for each day that a run cycle names which isn't defined."""
-    pairs = dict(given.tried)
-    if given.app or len(pairs) < len(given.tried):
-        raise Unmade("--try takes no APP: it goes by calendar=" if given.app else "a field is given twice", 2)
+    pairs = dict(fields_given)
+    if app or len(pairs) < len(fields_given):
+        raise ChangeRefused("--try takes no APP: it goes by calendar=" if app else "a field is given twice", 2)
     name = pairs.pop("calendar", "").upper() or None
     if name is not None and name not in found.calendars:
-        raise Unmade(edit_words.lack("calendar", name, found.calendars))
+        raise ChangeRefused(edit_words.lack("calendar", name, found.calendars))
     fields = edit_run_cycle.wanted_fields(pairs.items())
     if not fields.get("period"):
-        raise Unmade(f"period= is wanted too; the plan has {few(found.periods) or 'none'}", 2)
+        raise ChangeRefused(f"period= is wanted too; the plan has {few(found.periods) or 'none'}", 2)
     usual = {"type": "N", "rule": "E", "offsets": "1", "in effect": "1972-01-01", "out of effect": "",
              "input arrival": "00.00", "deadline day": "0", "deadline time": "23.59"}
     cycle = edit_run_cycle.cycle_of({"application": TRIED, "name": TRIED, **usual, **fields})
     if cycle.period not in found.periods:
-        raise Unmade(edit_words.lack("period", cycle.period, found.periods))
+        raise ChangeRefused(edit_words.lack("period", cycle.period, found.periods))
     applications, run_cycles = {TRIED: Application(True, name)}, {TRIED: {TRIED: cycle}}
     tried = dataclasses.replace(found, applications=applications, run_cycles=run_cycles)
     lines = []
     for day in range(first, last + 1):
         (answer,) = naming.names(tried, TRIED, day).answers
         if answer.names:
-            told = "; ".join(naming_words.told(tried, TRIED, day, answer))
-            lines.append(f"{naming_words.weekday_text(day):20}  {told}")
+            reasons = "; ".join(naming_words.reasons(tried, TRIED, day, answer))
+            lines.append(f"{naming_words.weekday_text(day):20}  {reasons}")
     return lines

@@ -14,7 +14,7 @@ from typing import NoReturn
 from opcplan.cli import interpreter, words
 from opcplan.desk import log_words
 from opcplan.desk.settings import Address, Settings
-from opcplan.errors import Error, Unreadable, WrongWords
+from opcplan.errors import Error, Unreadable, UsageError
 from opcplan.plans.program import built_program
 
 SUMMARY = "serves one plan to many callers at once, by HTTP, with a journal"
@@ -89,7 +89,7 @@ def run(given: argparse.Namespace) -> int:
 
     settings = settings_of(given)
     if wrong := wrong_words(settings):
-        raise WrongWords(wrong)
+        raise UsageError(wrong)
     try:
         program = os.path.abspath(given.program or built_program())
         if settings.source and not os.path.exists(settings.plan):

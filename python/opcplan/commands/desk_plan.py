@@ -12,17 +12,23 @@ from opcplan.plans import tempfiles
 from opcplan.rules import statement_words, statements, stream
 
 
+class CopyUnavailable(Unreadable):
+    """Why a desk gives no copy for now."""
+
+
 @contextlib.contextmanager
 def copied(desk: client.Client) -> Iterator[str]:
-    """The path of a copy of a desk's plan. Raises Unreadable."""
+    """The path of a copy of a desk's plan. Raises Unreadable, and CopyUnavailable of it where the desk
+    may give one later."""
     with tempfiles.folder("desk-") as folder:
         path = os.path.join(folder, "plan.db")
         try:
             with open(path, "wb") as file:
                 desk.download("/snapshot", file)
-        except (client.Away, client.Refused) as why:
-            told = str(why) if str(why).startswith(desk.name) else f"{desk.name}: {why}"
-            raise Unreadable(told) from None
+        except (client.DeskUnreachable, client.RequestRefused) as why:
+            message = str(why) if str(why).startswith(desk.name) else f"{desk.name}: {why}"
+            is_later = isinstance(why, client.DeskUnreachable) or why.status == 503
+            raise (CopyUnavailable if is_later else Unreadable)(message) from None
         yield path
 
 
@@ -47,21 +53,21 @@ def answer(desk: client.Client, text: bytes, used: str) -> bytes:
     try:
         found: bytes = desk.statements(text, used, time.monotonic())
         return found
-    except client.Refused as why:
+    except client.RequestRefused as why:
         raise Unreadable(f"{desk.name}: {why}") from None
-    except client.Away as why:
-        told = "nothing was sent"
+    except client.DeskUnreachable as why:
+        advice = "nothing was sent"
         if why.may_be_done:
-            told = f"it may be done all the same: `./plan send --desk {desk.name} --key {used} < STREAM` sends it "
-            told += "again, and nothing is done twice"
-        raise Unreadable(f"{why}; {told}") from None
+            advice = f"it may be done all the same: `./plan send --desk {desk.name} --key {used} < STREAM` sends it "
+            advice += "again, and nothing is done twice"
+        raise Unreadable(f"{why}; {advice}") from None
 
 
 def of_words(name: str) -> client.Client:
     """The desk that words name. Raises Unreadable."""
     try:
         return client.Client(name, client.token())
-    except client.Wrong as why:
+    except client.InvalidAddress as why:
         raise Unreadable(str(why)) from None
     except OSError as error:
         raise Unreadable(f"{error.filename}: the token can't be read: {error.strerror}") from None

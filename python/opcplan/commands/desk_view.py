@@ -36,7 +36,7 @@ class Done(NamedTuple):
 
 
 class View:
-    """A desk that is asked about its plan. Each method raises client.Away and client.Refused."""
+    """A desk that is asked about its plan. Each method raises client.DeskUnreachable and client.RequestRefused."""
 
     def __init__(self, desk: client.Client) -> None:
         self.desk = desk

@@ -26,7 +26,7 @@ class Kind(NamedTuple):
     blocks: list[str]
 
 
-class NoRoom(Error):
+class Unprintable(Error):
     """Its text says what can't be written as statements."""
 
 
@@ -52,8 +52,8 @@ def run(given: argparse.Namespace) -> int:
     with plan_file.opened(given.plan) as plan:
         try:
             text = stream_of(plan, given.job)
-        except NoRoom as lacks:
-            raise NoRoom(f"{given.plan}: {lacks}") from None
+        except Unprintable as lacks:
+            raise Unprintable(f"{given.plan}: {lacks}") from None
     sys.stdout.write(text)
     return 0
 
@@ -67,7 +67,7 @@ def stream_of(plan: Plan, first_job: int | None = None) -> str:
         text.append(f"\n* {title}\n")
         for block in blocks:
             if number > GREATEST_JOB:
-                raise NoRoom(f"no job numbers are left after {GREATEST_JOB}; name a smaller one by --job")
+                raise Unprintable(f"no job numbers are left after {GREATEST_JOB}; name a smaller one by --job")
             text.append(f"define {kind} --job {number}\n{block}/*\n")
             number = job_numbers.following(number)
     return "".join(text)
@@ -101,7 +101,7 @@ def blocks_of(kind: str, records: dict[str, list[str]]) -> list[str]:
     for name, lines in records.items():
         text = "".join(line + "\n" for line in lines)
         if len(text) > MOST_BYTES:
-            raise NoRoom(f"the {kind} of {name} take {len(text)} bytes, and a block holds at most {MOST_BYTES}")
+            raise Unprintable(f"the {kind} of {name} take {len(text)} bytes, and a block holds at most {MOST_BYTES}")
         if size + len(text) > MOST_BYTES:
             blocks.append([])
             size = 0

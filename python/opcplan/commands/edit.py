@@ -5,7 +5,7 @@ import contextlib
 import functools
 import sys
 from collections.abc import Sequence
-from typing import Protocol
+from typing import Any, Protocol, TypeVar
 
 from opcplan.cli import words
 from opcplan.commands import (
@@ -20,7 +20,10 @@ from opcplan.rules.definitions import Definitions
 SUMMARY = "the job stream that makes one change of a plan's definitions"
 
 
-class Kind(Protocol):
+SettingsT = TypeVar("SettingsT")
+
+
+class Kind(Protocol[SettingsT]):
     """A kind of change: the module of its words."""
 
     SUMMARY: str
@@ -28,8 +31,11 @@ class Kind(Protocol):
     def add_words(self, parser: words.Parser) -> None:
         """Adds its words to a parser."""
 
-    def change(self, plan: Plan, found: Definitions, given: argparse.Namespace) -> edit_change.Change:
-        """The change that is asked for. Raises Unmade."""
+    def settings_of(self, given: argparse.Namespace) -> SettingsT:
+        """Its words as settings."""
+
+    def change(self, plan: Plan, found: Definitions, given: SettingsT) -> edit_change.Change:
+        """The change that is asked for. Raises ChangeRefused."""
 
 
 # what somebody may call a change, by its first word without an s
@@ -45,7 +51,7 @@ MEANT = {
     "option": "options KEY=VALUE ..` changes an option",
     "month": "period NAME months ..2027-12` lists more months",
 }
-KINDS: dict[str, Kind] = {
+KINDS: dict[str, Kind[Any]] = {
     "calendar": edit_calendar,
     "period": edit_period,
     "application": edit_application,
@@ -84,7 +90,7 @@ def kind_meant(typed: Sequence[str]) -> str:
     return f"there is no WHAT {what!r}: `./plan edit PLAN.db {other}" if other else ""
 
 
-def name_lacked(parser: words.Parser, module: Kind, typed: Sequence[str]) -> str:
+def name_lacked(parser: words.Parser, module: Kind[SettingsT], typed: Sequence[str]) -> str:
     """That a name is missing before what was typed, and which names the plan has; or nothing."""
     plan = next(iter(parser.typed), "")
     lacks = getattr(module, "name_lacked", None)
@@ -97,11 +103,18 @@ def name_lacked(parser: words.Parser, module: Kind, typed: Sequence[str]) -> str
 
 def run(given: argparse.Namespace) -> int:
     """Does what the words ask for; the exit status."""
-    with plan_file.opened(given.plan) as plan:
-        change = KINDS[given.what].change(plan, plan_definitions.of_plan(plan), given)
+    kind = KINDS[given.what]
+    return edited(given.plan, kind, kind.settings_of(given), given.job)
+
+
+def edited(path: str, kind: Kind[SettingsT], settings: SettingsT, first_job: int | None) -> int:
+    """Prints the job stream of a change; the exit status."""
+    with plan_file.opened(path) as plan:
+        change = kind.change(plan, plan_definitions.of_plan(plan), settings)
         changes = [change, *change.also]
-        text, job = edit_change.stream_of(plan, changes, given.job)
-        told = [*(sentence for one in changes for sentence in one.told), *edit_change.way_into(plan, changes, job)]
-    edit_words.tell(told)
+        text, job = edit_change.stream_of(plan, changes, first_job)
+        sentences = [*(sentence for one in changes for sentence in one.sentences),
+                     *edit_change.way_into(plan, changes, job)]
+    edit_words.print_sentences(sentences)
     sys.stdout.write(text)
     return 0

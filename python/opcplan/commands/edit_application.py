@@ -6,12 +6,20 @@ from typing import Any
 
 from opcplan.cli.words import Parser
 from opcplan.commands import edit_run_cycle, edit_words
-from opcplan.commands.edit_change import Change, Unmade
+from opcplan.commands.edit_change import Change, ChangeRefused
 from opcplan.plans.plan_file import Plan
 from opcplan.rules.definitions import Application, Definitions
 from opcplan.rules.naming_words import count_text, few, meant_text
 
 SUMMARY = "makes an application active or pending, gives it another calendar, or makes a new one"
+
+
+@dataclasses.dataclass(frozen=True)
+class Settings:
+    """The application and its changes, each a field and what it is then."""
+
+    name: str
+    changes: list[tuple[str, Any]]
 
 
 def add_words(parser: Parser) -> None:
@@ -39,48 +47,54 @@ def change_of(text: str) -> tuple[str, bool | str | None]:
     return key.lower(), value
 
 
-def change(plan: Plan, found: Definitions, given: argparse.Namespace) -> Change:
+def settings_of(given: argparse.Namespace) -> Settings:
+    """The words as Settings."""
+    return Settings(given.name, given.changes)
+
+
+def change(plan: Plan, found: Definitions, given: Settings) -> Change:
     """The change that is asked for."""
     app, wanted = given.name, dict(given.changes)
     if len(wanted) < len(given.changes):
-        raise Unmade("one thing is given twice", 2)
+        raise ChangeRefused("one thing is given twice", 2)
     if wanted.pop("new", False):
         return new_application(plan, found, app, wanted)
     if app not in found.applications:
-        raise Unmade(f"there is no application {app}{meant_text(app, found.applications)}; `./plan edit PLAN.db "
-                     f"application {app} new period=DAY ia=20.00 deadline=0/23.00` makes one")
+        raise ChangeRefused(f"there is no application {app}{meant_text(app, found.applications)}; `./plan edit PLAN.db "
+                            f"application {app} new period=DAY ia=20.00 deadline=0/23.00` makes one")
     if fields := wanted.keys() - {"status", "calendar"}:
-        raise Unmade(f"{app} is there already: `./plan edit PLAN.db run-cycle {app} NAME {min(fields)}=..` changes a "
-                     "run cycle of it", 2)
+        raise ChangeRefused(f"{app} is there already: `./plan edit PLAN.db run-cycle {app} NAME {min(fields)}=..` "
+                            "changes a "
+                            "run cycle of it", 2)
     before = found.applications[app]
     after = Application(wanted.get("status", before.is_active), wanted.get("calendar", before.calendar))
     if after == before:
         is_so = f"{status_text(before)}, {calendar_text(found, before)}"
-        raise Unmade(f"{app} is so already ({is_so}): nothing would change")
+        raise ChangeRefused(f"{app} is so already ({is_so}): nothing would change")
     if after.calendar is not None and after.calendar not in (before.calendar, *found.calendars):
-        raise Unmade(edit_words.lack("calendar", after.calendar, found.calendars))
+        raise ChangeRefused(edit_words.lack("calendar", after.calendar, found.calendars))
     ask_plannable(found, app, after)
-    told = [*differences(found, app, before, after), *others_told(plan, found, app, before, after)]
+    sentences = [*differences(found, app, before, after), *others_sentences(plan, found, app, before, after)]
     is_modified = before.is_active or after.is_active
-    return Change("applications", {app: after}, told, app if after.is_active else None, is_modified)
+    return Change("applications", {app: after}, sentences, app if after.is_active else None, is_modified)
 
 
 def new_application(plan: Plan, found: Definitions, app: str, wanted: dict[str, Any]) -> Change:
     """The change that makes an application, with a run cycle where fields of one are given."""
     if app in found.applications:
-        raise Unmade(f"{app} is there already; without `new` it changes")
+        raise ChangeRefused(f"{app} is there already; without `new` it changes")
     after = Application(wanted.pop("status", True), wanted.pop("calendar", None))
     if after.calendar is not None and after.calendar not in found.calendars:
-        raise Unmade(edit_words.lack("calendar", after.calendar, found.calendars))
+        raise ChangeRefused(edit_words.lack("calendar", after.calendar, found.calendars))
     then = dataclasses.replace(found, applications={**found.applications, app: after})
-    told = [f"{app} is new: {status_text(after)}, {calendar_text(found, after)}."]
-    made = Change("applications", {app: after}, told, app, after.is_active)
+    sentences = [f"{app} is new: {status_text(after)}, {calendar_text(found, after)}."]
+    made = Change("applications", {app: after}, sentences, app, after.is_active)
     cycle = wanted.pop("cycle", None)
     if wanted or cycle:
         name = cycle or edit_words.short_name(wanted.get("period") or "DAY")
         made.also.append(edit_run_cycle.new_cycle(plan, then, app, name, wanted.items(), True))
     elif not found.run_cycles.get(app):
-        made.told.append("It has no run cycles, so no day is named: `run-cycle` gives it one.")
+        made.sentences.append("It has no run cycles, so no day is named: `run-cycle` gives it one.")
     ask_plannable(then, app, after)
     return made
 
@@ -91,12 +105,12 @@ def ask_plannable(found: Definitions, app: str, after: Application) -> None:
         return
     name = after.calendar or found.default_calendar
     if name != found.default_calendar and name not in found.calendars:
-        raise Unmade(f"{app} goes by the calendar {name}, which isn't defined: while {app} is active, planning "
-                     "statements would be refused (22)")
+        raise ChangeRefused(f"{app} goes by the calendar {name}, which isn't defined: while {app} is active, planning "
+                            "statements would be refused (22)")
     lacking = found.lacking_periods(app)
     if lacking:
-        raise Unmade(f"run cycles of {app} name {few(lacking)}, which no period is: while {app} is active, "
-                     "planning statements would be refused (23)")
+        raise ChangeRefused(f"run cycles of {app} name {few(lacking)}, which no period is: while {app} is active, "
+                            "planning statements would be refused (23)")
 
 
 def status_text(application: Application) -> str:
@@ -111,26 +125,26 @@ def calendar_text(found: Definitions, application: Application) -> str:
 
 def differences(found: Definitions, app: str, before: Application, after: Application) -> list[str]:
     """What changes, in sentences."""
-    told = []
+    sentences = []
     if before.is_active != after.is_active:
-        told.append(f"{app}: {status_text(before)} -> {status_text(after)}.")
+        sentences.append(f"{app}: {status_text(before)} -> {status_text(after)}.")
     if before.calendar != after.calendar:
-        told.append(f"{app}: {calendar_text(found, before)} -> {calendar_text(found, after)}.")
-    return told
+        sentences.append(f"{app}: {calendar_text(found, before)} -> {calendar_text(found, after)}.")
+    return sentences
 
 
-def others_told(plan: Plan, found: Definitions, app: str, before: Application, after: Application) -> list[str]:
+def others_sentences(plan: Plan, found: Definitions, app: str, before: Application, after: Application) -> list[str]:
     """What it means, and what stays, in sentences."""
     query = "SELECT count(*) FROM ltp_row WHERE app = ? AND run_cycle IS NOT NULL"
     (planned,) = plan.db.execute(query, (app,)).fetchone()
-    told = []
+    sentences = []
     if before.is_active and not after.is_active:
-        told.append(f"While it is pending nothing of it is planned or can be added; {planned:,} that "
-                    f"{'is' if planned == 1 else 'are'} planned by its run cycles would be withdrawn.")
+        sentences.append(f"While it is pending nothing of it is planned or can be added; {planned:,} that "
+                         f"{'is' if planned == 1 else 'are'} planned by its run cycles would be withdrawn.")
     if after.is_active and not found.run_cycles.get(app):
-        told.append("It has no run cycles, so no day is named.")
+        sentences.append("It has no run cycles, so no day is named.")
     waiting = [name for name, listed in found.predecessors.items() if app in listed and name != app]
     cycles, listed = found.run_cycles.get(app, {}), found.predecessors.get(app, {})
     own = f"{count_text(len(cycles), 'run cycle')} and its {count_text(len(listed), 'predecessor')}"
     lists = f", and so do the lists that have it ({few(waiting)})" if waiting else ""
-    return [*told, f"Its {own} stay{lists}."]
+    return [*sentences, f"Its {own} stay{lists}."]

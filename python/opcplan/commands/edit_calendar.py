@@ -1,12 +1,13 @@
 """./plan edit PLAN.db calendar: what a calendar lists of days or of a weekday."""
 
 import argparse
+import dataclasses
 import re
 from typing import NamedTuple
 
 from opcplan.cli.words import Parser
 from opcplan.commands import edit_words
-from opcplan.commands.edit_change import Change, Unmade
+from opcplan.commands.edit_change import Change, ChangeRefused
 from opcplan.plans.plan_file import Plan
 from opcplan.rules.definitions import Calendar, Definitions, WEEKDAYS, weekday_of
 from opcplan.rules.moments import DAY, day_text, moment_text
@@ -24,6 +25,15 @@ class Entry(NamedTuple):
 
 
 Wanted = dict[Entry, bool | None]  # whether its days are work days; None where it is unlisted
+
+
+@dataclasses.dataclass(frozen=True)
+class Settings:
+    """The calendar, its entries that change, and what they are listed as."""
+
+    name: str
+    entries: list[Entry]
+    status: str
 
 
 def add_words(parser: Parser) -> None:
@@ -64,10 +74,15 @@ def status(text: str) -> str:
     return text.lower()
 
 
-def change(plan: Plan, found: Definitions, given: argparse.Namespace) -> Change:
+def settings_of(given: argparse.Namespace) -> Settings:
+    """The words as Settings."""
+    return Settings(given.name, given.entries, given.status)
+
+
+def change(plan: Plan, found: Definitions, given: Settings) -> Change:
     """The change that is asked for."""
     if given.name not in found.calendars:
-        raise Unmade(edit_words.lack("calendar", given.name, found.calendars))
+        raise ChangeRefused(edit_words.lack("calendar", given.name, found.calendars))
     return of_entries(plan, found, given.name, {entry: STATUSES[given.status] for entry in given.entries})
 
 
@@ -77,22 +92,23 @@ def of_entries(plan: Plan, found: Definitions, name: str, wanted: Wanted) -> Cha
     changed = {entry: is_work for entry, is_work in wanted.items() if listed(before, entry) != is_work}
     if not changed:
         what = "lists nothing of this" if set(wanted.values()) == {None} else "lists all of this so already"
-        raise Unmade(f"{name} {what}: nothing would change")
+        raise ChangeRefused(f"{name} {what}: nothing would change")
     after = with_entries(before, changed)
     is_gone = not after.weekdays and not after.dates
     users = [app for app in found.applications if found.calendar_name(app) == name]
     if is_gone and users and name != found.default_calendar:
-        raise Unmade(f"nothing would be left that {name} lists, and it would have to go; but {few(users)} "
-                     f"{'goes' if len(users) == 1 else 'go'} by it. With MON listed as work each day is a work day")
-    told = [
+        raise ChangeRefused(f"nothing would be left that {name} lists, and it would have to go; but {few(users)} "
+                            f"{'goes' if len(users) == 1 else 'go'} by it. With MON listed as work each day is a work "
+                            "day")
+    sentences = [
         f"{name} changes in {count_text(len(changed), 'entry', 'entries')}: "
         + "; ".join(few_changes(before, after, changed)) + ".",
         staying(before, wanted, changed),
         *(["It lists nothing then and is undefined: each day is a work day by it."] if is_gone else []),
-        *users_told(found, name, users),
-        *early_told(plan, changed),
+        *users_sentences(found, name, users),
+        *early_sentences(plan, changed),
     ]
-    return Change("calendars", {name: None if is_gone else after}, told)
+    return Change("calendars", {name: None if is_gone else after}, sentences)
 
 
 def listed(calendar: Calendar, entry: Entry) -> bool | None:
@@ -145,7 +161,7 @@ def staying(before: Calendar, wanted: Wanted, changed: Wanted) -> str:
     return f"{f'Its {stay}' if others else 'It had no others'}{so}."
 
 
-def users_told(found: Definitions, name: str, users: list[str]) -> list[str]:
+def users_sentences(found: Definitions, name: str, users: list[str]) -> list[str]:
     """Who goes by a calendar, in sentences."""
     is_default = name == found.default_calendar
     counted = ["`dp-extend --count W` counts by it at once."] if is_default else []
@@ -154,7 +170,7 @@ def users_told(found: Definitions, name: str, users: list[str]) -> list[str]:
     return [f"By {name} {'go' if len(users) > 1 else 'goes'} {few(users)}.", *counted]
 
 
-def early_told(plan: Plan, changed: Wanted) -> list[str]:
+def early_sentences(plan: Plan, changed: Wanted) -> list[str]:
     """That days are before the plan end, where all are, in sentences."""
     days = [day for kind, day in changed if kind == "date"]
     if not plan.is_created or len(days) < len(changed) or (max(days) + 1) * DAY > plan.meta["plan_end"]:

@@ -12,7 +12,7 @@ from opcplan.rules import blocks
 from opcplan.rules.moments import moment_text
 
 
-class Unmade(Error):
+class ChangeRefused(Error):
     """Why a change isn't made; the exit status is 2 where the words are wrong."""
 
     def __init__(self, text: str, exit_status: int = 1) -> None:
@@ -28,7 +28,7 @@ class Change:
 
     kind: str
     after: dict[str, Any]
-    told: list[str]
+    sentences: list[str]
     one: str | None = None
     is_modified: bool = True
     also: list["Change"] = dataclasses.field(default_factory=list)
@@ -53,8 +53,8 @@ def statements_of(plan: Plan, change: Change) -> list[tuple[str, str]]:
     if kept:
         try:
             found += [(f"define {change.kind}", f"{data}/*\n") for data in data_of(plan, change.kind, kept)]
-        except dump.NoRoom as lacks:
-            raise Unmade(str(lacks)) from None
+        except dump.Unprintable as lacks:
+            raise ChangeRefused(str(lacks)) from None
     return found
 
 
@@ -95,14 +95,14 @@ def numbers_of(plan: Plan, count: int, first: int) -> list[int]:
     kept = job_numbers.kept_from(plan.db, first)
     found: list[int] = []
     if first in kept:
-        raise Unmade(f"job {first} is kept already; name one that is free, or leave --job away", 2)
+        raise ChangeRefused(f"job {first} is kept already; name one that is free, or leave --job away", 2)
     number = first
     while len(found) < count and number <= job_numbers.GREATEST:
         if number not in kept:
             found.append(number)
         number = job_numbers.following(number)
     if len(found) < count:
-        raise Unmade("no job numbers are left behind it; name a smaller one that is free by --job")
+        raise ChangeRefused("no job numbers are left behind it; name a smaller one that is free by --job")
     return found
 
 
@@ -123,7 +123,7 @@ def way_into(plan: Plan, changes: Sequence[Change], job: int) -> list[str]:
         return ["There is no long-term plan yet: `ltp-create` will go by it."]
     try:
         number = str(numbers_of(plan, 1, following_free(plan, job))[0])
-    except Unmade:
+    except ChangeRefused:
         number = "N"
     ones = {change.one for change in changes}
     one = ones.pop() if len(ones) == 1 else None

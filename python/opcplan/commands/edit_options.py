@@ -1,10 +1,11 @@
 """./plan edit PLAN.db options: the default calendar, and how far one daily plan goes."""
 
 import argparse
+import dataclasses
 
 from opcplan.cli.words import Parser
 from opcplan.commands import edit_words
-from opcplan.commands.edit_change import Change, Unmade
+from opcplan.commands.edit_change import Change, ChangeRefused
 from opcplan.plans.plan_file import Plan
 from opcplan.rules import blocks, record_fields
 from opcplan.rules.definitions import Definitions
@@ -13,34 +14,46 @@ from opcplan.rules.naming_words import few
 SUMMARY = "changes default_calendar or max_extension_hours"
 
 
+@dataclasses.dataclass(frozen=True)
+class Settings:
+    """The options that change, each with its value."""
+
+    pairs: list[tuple[str, str]]
+
+
 def add_words(parser: Parser) -> None:
     """Adds its words to a parser."""
     parser.add_argument("pairs", metavar="KEY=VALUE", type=edit_words.pair, nargs="+",
                         help="default_calendar=NAME or max_extension_hours=1 to 504")
 
 
-def change(plan: Plan, found: Definitions, given: argparse.Namespace) -> Change:
+def settings_of(given: argparse.Namespace) -> Settings:
+    """The words as Settings."""
+    return Settings(given.pairs)
+
+
+def change(plan: Plan, found: Definitions, given: Settings) -> Change:
     """The change that is asked for."""
     before: dict[str, str | int] = {"default_calendar": found.default_calendar, "max_extension_hours": found.max_hours}
     if len(dict(given.pairs)) < len(given.pairs):
-        raise Unmade("an option is given twice", 2)
+        raise ChangeRefused("an option is given twice", 2)
     after = {**before, **{key: value_of(key, value) for key, value in given.pairs}}
     if after == before:
-        raise Unmade("the options are so already: nothing would change")
+        raise ChangeRefused("the options are so already: nothing would change")
     name = str(after["default_calendar"])
     if name != found.default_calendar and name not in found.calendars:
-        raise Unmade(edit_words.lack("calendar", name, found.calendars))
-    told = [f"{key}: {before[key]} -> {after[key]}." for key in after if after[key] != before[key]]
-    told += [f"{key} stays {after[key]}." for key in after if after[key] == before[key]]
+        raise ChangeRefused(edit_words.lack("calendar", name, found.calendars))
+    sentences = [f"{key}: {before[key]} -> {after[key]}." for key in after if after[key] != before[key]]
+    sentences += [f"{key} stays {after[key]}." for key in after if after[key] == before[key]]
     is_modified = name != found.default_calendar
     if is_modified:
         users = [app for app, application in found.applications.items() if application.calendar is None]
         going = f"By the default calendar {'goes' if len(users) == 1 else 'go'} {few(users)}" if users \
             else "No application goes by the default calendar"
-        told.append(f"{going}; `dp-extend --count W` counts by it at once.")
+        sentences.append(f"{going}; `dp-extend --count W` counts by it at once.")
     if after["max_extension_hours"] != before["max_extension_hours"]:
-        told.append("`dp-extend` asks for max_extension_hours at once.")
-    return Change("options", after, told, None, is_modified)
+        sentences.append("`dp-extend` asks for max_extension_hours at once.")
+    return Change("options", after, sentences, None, is_modified)
 
 
 def value_of(key: str, text: str) -> str | int:
@@ -51,5 +64,5 @@ def value_of(key: str, text: str) -> str | int:
         value = edit_words.texts_of(value=text.upper()).text("value")
         blocks.check_option(key, value)
         return value
-    except record_fields.Wrong as wrong:
-        raise Unmade(f"{key}={text}: {wrong}", 2) from None
+    except record_fields.InvalidField as wrong:
+        raise ChangeRefused(f"{key}={text}: {wrong}", 2) from None

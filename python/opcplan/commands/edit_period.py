@@ -6,15 +6,23 @@ from collections.abc import Callable
 
 from opcplan.cli.words import Parser
 from opcplan.commands import edit_words
-from opcplan.commands.edit_change import Change, Unmade
+from opcplan.commands.edit_change import Change, ChangeRefused
 from opcplan.plans.plan_file import Plan
-from opcplan.rules import reaches, record_fields
+from opcplan.rules import horizons, record_fields
 from opcplan.rules.definitions import Definitions, Entry, Interval, Period
 from opcplan.rules.moments import day_text
 from opcplan.rules.naming_words import count_text, few
 
 SUMMARY = "adds or removes an origin or an interval's end, or changes type, origin or interval"
 KEYS = ("type", "origin", "interval")
+
+
+@dataclasses.dataclass(frozen=True)
+class Settings:
+    """The period, and the words of its change."""
+
+    name: str
+    changes: list[str]
 
 
 def add_words(parser: Parser) -> None:
@@ -34,31 +42,37 @@ def add_words(parser: Parser) -> None:
                         "[FIRST]..LAST, or KEY=VALUE ..")
 
 
-def change(plan: Plan, found: Definitions, given: argparse.Namespace) -> Change:
+def settings_of(given: argparse.Namespace) -> Settings:
+    """The words as Settings."""
+    return Settings(given.name, given.changes)
+
+
+def change(plan: Plan, found: Definitions, given: Settings) -> Change:
     """The change that is asked for."""
     name, (verb, *more) = given.name, given.changes
     if verb == "new":
         return new_period(found, name, more)
     if name not in found.periods:
-        raise Unmade(f"{edit_words.lack('period', name, found.periods)}; `period {name} new ..` makes one")
+        raise ChangeRefused(f"{edit_words.lack('period', name, found.periods)}; `period {name} new ..` makes one")
     before = found.periods[name]
-    if verb in LISTED or verb in reaches.NEXT:
+    if verb in LISTED or verb in horizons.NEXT:
         if before.kind != "N":
-            raise Unmade(f"{name} is of type {before.kind}, which lists no intervals; it has type=, origin=, interval=")
-        entries = with_span(before, verb, more) if verb in reaches.NEXT else \
+            raise ChangeRefused(f"{name} is of type {before.kind}, which lists no intervals; it has type=, origin=, "
+                                "interval=")
+        entries = with_span(before, verb, more) if verb in horizons.NEXT else \
             LISTED[verb](name, before.entries, *days_of(verb, more))
         after = dataclasses.replace(before, entries=entries)
     else:
         after = with_fields(name, before, given.changes)
     if after == before:
-        raise Unmade(f"{name} is so already: nothing would change")
+        raise ChangeRefused(f"{name} is so already: nothing would change")
     users = [(app, cycle.name) for app, cycles in found.run_cycles.items() for cycle in cycles.values()
              if cycle.period == name]
     shown = few(f"{cycle} of {app}" for app, cycle in users)
     is_gone = after.kind == "N" and not after.entries
     if is_gone and users:
-        raise Unmade(f"no interval of {name} would be left, and it would have to go; but {shown} "
-                     f"{'counts' if len(users) == 1 else 'count'} in it")
+        raise ChangeRefused(f"no interval of {name} would be left, and it would have to go; but {shown} "
+                            f"{'counts' if len(users) == 1 else 'count'} in it")
     counting = f"Run cycles that count in it: {shown or 'none'}; they stay as they are."
     return Change("periods", {name: None if is_gone else after}, [*differences(name, before, after), counting])
 
@@ -66,13 +80,13 @@ def change(plan: Plan, found: Definitions, given: argparse.Namespace) -> Change:
 def new_period(found: Definitions, name: str, words: list[str]) -> Change:
     """The change that makes a period, of intervals that are listed, or of type A or W."""
     if name in found.periods:
-        raise Unmade(f"{name} is there already; without `new` it changes")
+        raise ChangeRefused(f"{name} is there already; without `new` it changes")
     if not words:
-        raise Unmade("`new` wants months, quarters or weeks FIRST..LAST, or type=, origin= and interval=", 2)
+        raise ChangeRefused("`new` wants months, quarters or weeks FIRST..LAST, or type=, origin= and interval=", 2)
     verb, *more = words
-    if verb in reaches.NEXT:
+    if verb in horizons.NEXT:
         if more and more[0].startswith(".."):
-            raise Unmade(f"a new period has no last interval to go on from: `{verb}` wants FIRST..LAST", 2)
+            raise ChangeRefused(f"a new period has no last interval to go on from: `{verb}` wants FIRST..LAST", 2)
         after = Period("N", entries=with_span(Period("N"), verb, more))
     elif verb == "add":
         after = Period("N", entries=added(name, [], *days_of(verb, more)))
@@ -85,11 +99,11 @@ def new_period(found: Definitions, name: str, words: list[str]) -> Change:
 def days_of(verb: str, words: list[str]) -> tuple[int, int | None]:
     """The days that are given with a verb: an origin, and an end or None."""
     if len(words) not in ((1,) if verb == "remove" else (1, 2)):
-        raise Unmade(f"`{verb}` wants an origin{'' if verb == 'remove' else ', and an end where it has one'}", 2)
+        raise ChangeRefused(f"`{verb}` wants an origin{'' if verb == 'remove' else ', and an end where it has one'}", 2)
     try:
         origin, *ends = map(edit_words.day, words)
     except argparse.ArgumentTypeError as wrong:
-        raise Unmade(str(wrong), 2) from None
+        raise ChangeRefused(str(wrong), 2) from None
     return origin, ends[0] if ends else None
 
 
@@ -99,7 +113,7 @@ def days_of(verb: str, words: list[str]) -> tuple[int, int | None]:
 def added(name: str, entries: list[Entry], origin: int, end: int | None) -> list[Entry]:
     """The entries with a further one."""
     if origin in dict(entries):
-        raise Unmade(f"{name} has an interval from {day_text(origin)} on already; `end` changes its end")
+        raise ChangeRefused(f"{name} has an interval from {day_text(origin)} on already; `end` changes its end")
     return sorted([*entries, Entry(origin, asked_end(origin, end))])
 
 
@@ -119,14 +133,14 @@ def ask_listed(name: str, entries: list[Entry], origin: int) -> None:
     """Asks that a period lists an interval from a day on."""
     if origin not in dict(entries):
         near = sorted(dict(entries), key=lambda other: abs(other - origin))[:3]
-        raise Unmade(f"{name} has no interval from {day_text(origin)} on; the nearest are from "
-                     f"{', '.join(map(day_text, sorted(near)))} on")
+        raise ChangeRefused(f"{name} has no interval from {day_text(origin)} on; the nearest are from "
+                            f"{', '.join(map(day_text, sorted(near)))} on")
 
 
 def asked_end(origin: int, end: int | None) -> int | None:
     """An end that isn't before its origin."""
     if end is not None and end < origin:
-        raise Unmade(f"the end {day_text(end)} is before its own origin, {day_text(origin)}", 2)
+        raise ChangeRefused(f"the end {day_text(end)} is before its own origin, {day_text(origin)}", 2)
     return end
 
 
@@ -136,15 +150,15 @@ LISTED: dict[str, Callable[[str, list[Entry], int, int | None], list[Entry]]] = 
 
 def with_span(before: Period, verb: str, words: list[str]) -> list[Entry]:
     """The entries of a period with each month, quarter or week of a span that it doesn't list yet."""
-    after = reaches.NEXT[verb]
+    after = horizons.NEXT[verb]
     first, dots, last = words[0].partition("..") if len(words) == 1 else ("", "", "")
     form = "FIRST..LAST, as 2027-01-04..2027-12-31" if verb == "weeks" else "FIRST..LAST, as 2027-01..2027-12"
     if not dots or not last:
-        raise Unmade(f"`{verb}` wants {form}; without FIRST it goes on after the last interval", 2)
+        raise ChangeRefused(f"`{verb}` wants {form}; without FIRST it goes on after the last interval", 2)
     begin = after(before.entries[-1].origin) if not first else begin_of(verb, first)
     end = begin_of(verb, last)
     if end < begin:
-        raise Unmade(f"{words[0]} lists nothing: it would begin on {day_text(begin)}", 2)
+        raise ChangeRefused(f"{words[0]} lists nothing: it would begin on {day_text(begin)}", 2)
     listed = {entry.origin for entry in before.entries}
     found = list(before.entries)
     while begin <= end:
@@ -161,7 +175,7 @@ def begin_of(verb: str, text: str) -> int:
         return day
     except argparse.ArgumentTypeError as wrong:
         why = str(wrong) if verb == "weeks" else f"{text!r} is no month like 2027-01"
-        raise Unmade(why, 2) from None
+        raise ChangeRefused(why, 2) from None
 
 
 def with_fields(name: str, before: Period, words: list[str]) -> Period:
@@ -169,25 +183,25 @@ def with_fields(name: str, before: Period, words: list[str]) -> Period:
     try:
         pairs = [edit_words.pair(word) for word in words]
     except argparse.ArgumentTypeError as wrong:
-        raise Unmade(f"{wrong}, nor one of {', '.join([*LISTED, *reaches.NEXT])}", 2) from None
+        raise ChangeRefused(f"{wrong}, nor one of {', '.join([*LISTED, *horizons.NEXT])}", 2) from None
     wanted = {key.lower(): value for key, value in pairs}
     strange = [key for key in wanted if key not in KEYS]
     if strange or len(wanted) < len(pairs):
-        raise Unmade(f"{strange[0]!r} is none of {', '.join(KEYS)}" if strange
-                     else "a field is given twice", 2)
+        raise ChangeRefused(f"{strange[0]!r} is none of {', '.join(KEYS)}" if strange
+                            else "a field is given twice", 2)
     held = {"type": before.kind} if before.kind else {}
     if before.kind not in ("", "N"):
         held |= {"origin": day_text(before.origin), "interval": str(before.interval)}
     fields = {**held, **wanted}
     if "type" not in fields:
-        raise Unmade("type= is wanted too", 2)
+        raise ChangeRefused("type= is wanted too", 2)
     kind = fields["type"] = fields["type"].upper()
     if before.kind == kind == "N":
-        raise Unmade(f"{name} is of type N, whose intervals `add`, `remove` and `end` change", 2)
+        raise ChangeRefused(f"{name} is of type N, whose intervals `add`, `remove` and `end` change", 2)
     lacking = [key for key in KEYS if key not in fields and (key, kind) != ("interval", "N")]
     if lacking or kind == "N" and "interval" in wanted:
-        raise Unmade(f"for type {kind} {lacking[0]}= is wanted too" if lacking
-                     else "type N has no interval=", 2)
+        raise ChangeRefused(f"for type {kind} {lacking[0]}= is wanted too" if lacking
+                            else "type N has no interval=", 2)
     return period_of(name, fields)
 
 
@@ -198,9 +212,9 @@ def period_of(name: str, fields: dict[str, str]) -> Period:
     found: dict[str, Period] = {}
     try:
         record_fields.take_period(found, texts, {})
-    except record_fields.Wrong as wrong:
+    except record_fields.InvalidField as wrong:
         key = "interval" if wrong.field == "second" else wrong.field
-        raise Unmade(f"{key}={fields[key]}: {wrong}", 2) from None
+        raise ChangeRefused(f"{key}={fields[key]}: {wrong}", 2) from None
     return found[name]
 
 

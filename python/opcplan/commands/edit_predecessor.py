@@ -5,7 +5,7 @@ import dataclasses
 
 from opcplan.cli.words import Parser
 from opcplan.commands import edit_words
-from opcplan.commands.edit_change import Change, Unmade
+from opcplan.commands.edit_change import Change, ChangeRefused
 from opcplan.plans import stream_state
 from opcplan.plans.plan_file import Plan
 from opcplan.rules import lint_checks, loops
@@ -14,6 +14,16 @@ from opcplan.rules.naming_words import count_text, few, meant_text
 
 Limits = dict[str, int | None]  # by predecessor: the hours of its limit, or None
 SUMMARY = "adds a predecessor to an application's list, with a limit or none, or removes one"
+
+
+@dataclasses.dataclass(frozen=True)
+class Settings:
+    """Two applications, of which one waits for the other, what is done with that, and a limit."""
+
+    app: str
+    verb: str
+    other: str
+    hours: int | None
 
 
 def add_words(parser: Parser) -> None:
@@ -32,46 +42,53 @@ def verb(text: str) -> str:
     return text
 
 
-def change(plan: Plan, found: Definitions, given: argparse.Namespace) -> Change:
+def settings_of(given: argparse.Namespace) -> Settings:
+    """The words as Settings."""
+    return Settings(given.app, given.verb, given.other, given.hours)
+
+
+def change(plan: Plan, found: Definitions, given: Settings) -> Change:
     """The change that is asked for."""
     before = found.predecessors.get(given.app, {})
     if given.verb == "add":
-        after, told = added(found, given.app, given.other, given.hours, before)
+        after, sentences = added(found, given.app, given.other, given.hours, before)
     else:
-        after, told = removed(given.app, given.other, given.hours, before)
+        after, sentences = removed(given.app, given.other, given.hours, before)
     others = [name for name in before if name != given.other]
-    told.append(f"What else {given.app} waits for stays: {few(others)}." if others
-                else f"{given.app} {'waited' if given.other in before else 'waits'} for no other.")
-    told.append("What is started by then keeps what it waited for.")
+    sentences.append(f"What else {given.app} waits for stays: {few(others)}." if others
+                     else f"{given.app} waited for no other." if given.other in before
+                     else f"{given.app} waits for nothing else.")
+    sentences.append("What is started by then keeps what it waited for.")
     is_active = given.app in found.applications and found.applications[given.app].is_active
-    return Change("predecessors", {given.app: after or None}, told, given.app if is_active else None)
+    return Change("predecessors", {given.app: after or None}, sentences, given.app if is_active else None)
 
 
 def added(found: Definitions, app: str, other: str, hours: int | None, before: Limits) -> tuple[Limits, list[str]]:
     """The list with a further name or another limit, and what changes."""
     for name in (app, other):
         if name not in found.applications:
-            raise Unmade(f"there is no application {name}{meant_text(name, found.applications)}")
+            raise ChangeRefused(f"there is no application {name}{meant_text(name, found.applications)}")
     if before.get(other, 0) == hours:
-        raise Unmade(f"{app} waits for {other} already, {limit_text(hours)}: nothing would change")
+        raise ChangeRefused(f"{app} waits for {other} already, {limit_text(hours)}: nothing would change")
     ring = loops.ring_of({**found.predecessors, app: {other: hours}}, app)
     if other not in before and ring:
-        raise Unmade(f"that makes a loop, {' waits for '.join(ring)}, and planning statements would be refused (25)")
+        raise ChangeRefused(f"that makes a loop, {' waits for '.join(ring)}, and planning statements would be refused "
+                            "(25)")
     if other in before:
-        told = [f"{app} waits for {other}: {limit_text(before[other])} -> {limit_text(hours)}."]
+        sentences = [f"{app} waits for {other}: {limit_text(before[other])} -> {limit_text(hours)}."]
     else:
-        told = [f"{app} waits for {other} too, {limit_text(hours)}."]
+        sentences = [f"{app} waits for {other}{' too' if before else ''}, {limit_text(hours)}."]
     after = dict(sorted({**before, other: hours}.items()))
-    return after, told + slips(found, app, {other: hours})
+    return after, sentences + slips(found, app, {other: hours})
 
 
 def removed(app: str, other: str, hours: int | None, before: Limits) -> tuple[Limits, list[str]]:
     """The list without a name, and what changes."""
     if hours is not None:
-        raise Unmade("hours are for add alone", 2)
+        raise ChangeRefused("hours are for add alone", 2)
     if other not in before:
-        raise Unmade(f"{app} doesn't wait for {other}{meant_text(other, before)}: its list has "
-                     f"{few(before) or 'nothing'}")
+        raise ChangeRefused(f"{app} doesn't wait for {other}{meant_text(other, before)}: its list has "
+                            f"{few(before) or 'nothing'}")
     after = {name: within for name, within in before.items() if name != other}
     return after, [f"{app} waits no more for {other} ({limit_text(before[other])})."]
 

@@ -6,7 +6,7 @@ from collections.abc import Iterable
 
 from opcplan.cli.words import Parser
 from opcplan.commands import dump, edit_words
-from opcplan.commands.edit_change import Change, Unmade
+from opcplan.commands.edit_change import Change, ChangeRefused
 from opcplan.errors import Unreadable
 from opcplan.plans import stream_state
 from opcplan.plans.plan_file import Plan
@@ -21,6 +21,15 @@ FIELDS = {field.replace(" ", "-"): field for field in NAMES[2:]}
 # what a new run cycle has where nothing else is given, and what has to be
 USUAL, WANTED = {"type": "N", "rule": "E", "offsets": "1"}, ("period", "input arrival")
 OTHER_WORDS = {"offset": "offsets", "ia": "input arrival"}
+
+
+@dataclasses.dataclass(frozen=True)
+class Settings:
+    """The run cycle and its fields that change."""
+
+    app: str
+    name: str
+    pairs: list[tuple[str, str]]
 
 
 def add_words(parser: Parser) -> None:
@@ -45,28 +54,34 @@ def name_lacked(found: Definitions, typed: list[str]) -> str:
         f"{few(found.run_cycles.get(app, {})) or 'no run cycle'}"
 
 
-def change(plan: Plan, found: Definitions, given: argparse.Namespace) -> Change:
+def settings_of(given: argparse.Namespace) -> Settings:
+    """The words as Settings."""
+    return Settings(given.app, given.name, given.pairs)
+
+
+def change(plan: Plan, found: Definitions, given: Settings) -> Change:
     """The change that is asked for."""
     cycles = found.run_cycles.get(given.app, {})
     if given.pairs[0] == (NEW, ""):
         return new_cycle(plan, found, given.app, given.name, given.pairs[1:])
     if given.name not in cycles:
-        raise Unmade(f"there is no run cycle {given.name} of {given.app}{meant_text(given.name, cycles)}; it has "
-                     f"{few(cycles) or 'none'}, and `run-cycle {given.app} {given.name} new ..` gives it one")
+        raise ChangeRefused(f"there is no run cycle {given.name} of {given.app}{meant_text(given.name, cycles)}; it "
+                            "has "
+                            f"{few(cycles) or 'none'}, and `run-cycle {given.app} {given.name} new ..` gives it one")
     before = cycles[given.name]
     wanted = wanted_fields(given.pairs)
     after = cycle_of({**fields_of(plan, given.app, before), **wanted})
     if after == before:
-        raise Unmade(f"{given.name} of {given.app} is so already: nothing would change")
+        raise ChangeRefused(f"{given.name} of {given.app} is so already: nothing would change")
     if after.period not in found.periods:
-        raise Unmade(edit_words.lack("period", after.period, found.periods))
+        raise ChangeRefused(edit_words.lack("period", after.period, found.periods))
     then = {name: after if name == given.name else cycle for name, cycle in cycles.items()}
-    told = [*differences(plan, given.app, before, after), staying(given.app, cycles, before, after),
-            *slips(plan, found, given.app, then, after)]
+    sentences = [*differences(plan, given.app, before, after), staying(given.app, cycles, before, after),
+                 *slips(plan, found, given.app, then, after)]
     is_active = given.app in found.applications and found.applications[given.app].is_active
     if not is_active:
-        told.append(f"{given.app} isn't an active application, so nothing of it is planned.")
-    return Change("run-cycles", {given.app: then}, told, given.app if is_active else None, is_active)
+        sentences.append(f"{given.app} isn't an active application, so nothing of it is planned.")
+    return Change("run-cycles", {given.app: then}, sentences, given.app if is_active else None, is_active)
 
 
 def field_of(text: str) -> tuple[str, str]:
@@ -80,18 +95,19 @@ def new_cycle(
     """The change that gives an application one more run cycle."""
     cycles = found.run_cycles.get(app, {})
     if name in cycles:
-        raise Unmade(f"{app} has a run cycle {name} already; without `new` its fields change")
+        raise ChangeRefused(f"{app} has a run cycle {name} already; without `new` its fields change")
     if app not in found.applications:
-        raise Unmade(f"there is no application {app}{meant_text(app, found.applications)}; "
-                     f"`application {app} new` makes one")
+        raise ChangeRefused(f"there is no application {app}{meant_text(app, found.applications)}; "
+                            f"`application {app} new` makes one")
     given = wanted_fields(pairs)
     lacking = [field for field in WANTED if not given.get(field)]
     if not given.get("deadline time") and given.get("type", "N") == "N":
         lacking.append("deadline")
     if lacking:
         short = {field: word for word, field in OTHER_WORDS.items()}
-        raise Unmade(f"{short.get(lacking[0], lacking[0])}= is wanted too: a new run cycle has a period=, an ia= and a "
-                     "deadline=", 2)
+        raise ChangeRefused(f"{short.get(lacking[0], lacking[0])}= is wanted too: a new run cycle has a period=, an "
+                            "ia= and a "
+                            "deadline=", 2)
     begin = plan.meta["first_day"] if plan.is_created else first_day(found.periods.get(given["period"]))
     usual = {**USUAL, **dict.fromkeys(("out of effect", "deadline day", "deadline time"), ""),
              "in effect": moments.day_text(begin)}
@@ -99,15 +115,15 @@ def new_cycle(
         usual["deadline day"] = "0"
     after = cycle_of({"application": app, "name": name, **usual, **given})
     if after.period not in found.periods:
-        raise Unmade(edit_words.lack("period", after.period, found.periods))
+        raise ChangeRefused(edit_words.lack("period", after.period, found.periods))
     then = {**cycles, name: after}
     fields = dump.run_cycle_record(app, after).split(",")
     shown = ", ".join(f"{key} {value}" for key, value in zip(NAMES[2:], fields[2:]) if value)
-    told = [f"{name} of {app} is new: {shown}."]
-    told += [f"Its other run cycles stay: {few(cycles)}."] if cycles else []
+    sentences = [f"{name} of {app} is new: {shown}."]
+    sentences += [f"Its other run cycles stay: {few(cycles)}."] if cycles else []
     is_active = found.applications[app].is_active
-    told += [] if is_active or is_new_app else [f"{app} isn't an active application, so nothing of it is planned."]
-    return Change("run-cycles", {app: then}, [*told, *slips(plan, found, app, then, after)], app, is_active)
+    sentences += [] if is_active or is_new_app else [f"{app} isn't an active application, so nothing of it is planned."]
+    return Change("run-cycles", {app: then}, [*sentences, *slips(plan, found, app, then, after)], app, is_active)
 
 
 def first_day(period: Period | None) -> int:
@@ -123,7 +139,7 @@ def wanted_fields(pairs: Iterable[tuple[str, str]]) -> dict[str, str]:
     for key, value in pairs:
         parts = parts_of(key, value)
         if wanted.keys() & parts.keys():
-            raise Unmade(f"the field {key} is given twice", 2)
+            raise ChangeRefused(f"the field {key} is given twice", 2)
         wanted.update(parts)
     return wanted
 
@@ -143,7 +159,7 @@ def parts_of(key: str, value: str) -> dict[str, str]:
         return {"deadline day": days, "deadline time": time}
     field = OTHER_WORDS.get(key, FIELDS.get(key))
     if field is None:
-        raise Unmade(f"a run cycle has no field {key!r}; it has {', '.join(FIELDS)}, and deadline", 2)
+        raise ChangeRefused(f"a run cycle has no field {key!r}; it has {', '.join(FIELDS)}, and deadline", 2)
     if field == "offsets":
         value = value.replace(",", " ")
     return {field: value.upper() if field in ("type", "period", "rule") else value}
@@ -163,8 +179,8 @@ def cycle_of(fields: dict[str, str]) -> RunCycle:
     found: dict[str, dict[str, RunCycle]] = {}
     try:
         app, name = map(str, TAKE(found, edit_words.texts_of(**fields), {}))
-    except record_fields.Wrong as wrong:
-        raise Unmade(f"{wrong.field}={fields[wrong.field]}: {wrong}", 2) from None
+    except record_fields.InvalidField as wrong:
+        raise ChangeRefused(f"{wrong.field}={fields[wrong.field]}: {wrong}", 2) from None
     return found[app][name]
 
 
@@ -178,8 +194,8 @@ def differences(plan: Plan, app: str, before: RunCycle, after: RunCycle) -> list
 def staying(app: str, cycles: dict[str, RunCycle], before: RunCycle, after: RunCycle) -> str:
     """What stays, in a sentence."""
     others = [name for name in cycles if name != before.name]
-    told = f", and so do its other run cycles: {few(others)}" if others else f"; {app} has no other one"
-    return f"All else of {before.name} stays{told}."
+    others_text = f", and so do its other run cycles: {few(others)}" if others else f"; {app} has no other one"
+    return f"All else of {before.name} stays{others_text}."
 
 
 def slips(plan: Plan, found: Definitions, app: str, cycles: dict[str, RunCycle], cycle: RunCycle) -> list[str]:

@@ -16,7 +16,7 @@ def checked(read: Callable[[str], Read], text: str) -> Read:
     """What a reader of record_fields answers, for `type=`."""
     try:
         return read(text)
-    except record_fields.Wrong as wrong:
+    except record_fields.InvalidField as wrong:
         raise argparse.ArgumentTypeError(f"{text!r}: {wrong}") from None
 
 
@@ -65,10 +65,10 @@ def lack(what: str, name: str, known: Iterable[str]) -> str:
         f"{naming_words.few(known) or 'none'}"
 
 
-def tell(sentences: Iterable[str]) -> None:
+def print_sentences(sentences: Iterable[str]) -> None:
     """Says sentences on standard error."""
     for sentence in sentences:
-        words.tell(sentence)
+        words.print_message(sentence)
 
 
 def weekday(text: str) -> int | None:

@@ -41,9 +41,9 @@ def known_at_first(path: str | None) -> Iterator[stream_state.Known]:
         yield stream_state.of_plan(plan)
 
 
-def exchanged_text(given: argparse.Namespace) -> str:
+def exchanged_text(stream_path: str, output_path: str) -> str:
     """That stream and output may be exchanged, where the one looks like the other; else nothing."""
-    if is_answers(given.stream) and not is_answers(given.output):
+    if is_answers(stream_path) and not is_answers(output_path):
         return "; the output comes after the stream: are they exchanged?"
     return ""
 
@@ -59,15 +59,20 @@ def is_answers(path: str) -> bool:
 
 def run(given: argparse.Namespace) -> int:
     """Does what the words ask for; the exit status."""
+    return printed(given.stream, given.output, given.plan)
+
+
+def printed(stream_path: str, output_path: str, plan_path: str | None) -> int:
+    """Prints what the refusals of a stream's output mean; the exit status."""
     try:
-        with known_at_first(given.plan) as now, stream_file.opened(given.stream) as text:
-            with stream_file.opened(given.output, explanations.OF_OUTPUT) as output:
+        with known_at_first(plan_path) as now, stream_file.opened(stream_path) as text:
+            with stream_file.opened(output_path, explanations.OF_OUTPUT) as output:
                 lines, refused, answered = explanations.explained(stream.items(text), output, now)
-    except explanations.Unlike as why:
-        raise explanations.Unlike(
-            f"{given.output} is no output of {given.stream}: {why}{exchanged_text(given)}") from None
-    if not answered and (told := exchanged_text(given)):
-        raise explanations.Unlike(f"{given.output} is no output of {given.stream}: it answers nothing{told}")
+    except explanations.OutputMismatch as why:
+        raise explanations.OutputMismatch(
+            f"{output_path} is no output of {stream_path}: {why}{exchanged_text(stream_path, output_path)}") from None
+    if not answered and (guess := exchanged_text(stream_path, output_path)):
+        raise explanations.OutputMismatch(f"{output_path} is no output of {stream_path}: it answers nothing{guess}")
     count = f"{answered} statement{'' if answered == 1 else 's'}"
     were = "was" if refused == 1 else "were"
     print("\n".join([*lines, f"{refused} of {count} {were} refused." if refused else f"{count}, none refused."]))

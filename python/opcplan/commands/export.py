@@ -17,7 +17,7 @@ from typing import NamedTuple
 from opcplan.cli import words
 from opcplan.commands import export_actual
 from opcplan.commands.export_actual import Ran
-from opcplan.errors import Error, WrongWords
+from opcplan.errors import Error, UsageError
 from opcplan.plans import plan_file, progress
 from opcplan.plans.plan_file import Plan
 from opcplan.rules import moments, printable
@@ -86,9 +86,9 @@ def add_words(parser: words.Parser) -> None:
 def run(given: argparse.Namespace) -> int:
     """Does what the words ask for; the exit status."""
     if given.raw and given.form is not csv_texts:
-        raise WrongWords("--raw goes with --csv alone")
+        raise UsageError("--raw goes with --csv alone")
     if given.now is not None and given.journal is None:
-        raise WrongWords("--now says as of when ends are expected, so it goes with --journal")
+        raise UsageError("--now says as of when ends are expected, so it goes with --journal")
     form = raw_csv_texts if given.raw else given.form
     begin = None if given.first is None else given.first * moments.DAY
     end = None if given.last is None else (given.last + 1) * moments.DAY - 1

@@ -5,10 +5,9 @@ from __future__ import annotations
 import datetime
 from typing import TYPE_CHECKING, NamedTuple
 
-from opcplan.commands import late
-from opcplan.plans import actual, outlook
+from opcplan.plans import actual, forecast, waits
 from opcplan.plans.actual import Actual
-from opcplan.plans.outlook import Expected
+from opcplan.plans.forecast import Expected
 from opcplan.plans.plan_file import Plan
 from opcplan.rules import moments
 
@@ -16,7 +15,7 @@ if TYPE_CHECKING:
     from opcplan.commands.export import Occurrence
 
 
-class Shown(NamedTuple):
+class ActualColumns(NamedTuple):
     """What the columns show of an occurrence, None where there is nothing to show."""
 
     started: str | None
@@ -28,7 +27,7 @@ class Shown(NamedTuple):
     expected_or_later: bool | None
 
 
-COLUMNS = list(Shown._fields)
+COLUMNS = list(ActualColumns._fields)
 
 
 class Ran:
@@ -43,22 +42,23 @@ class Ran:
         return {app: {"middle_seconds": usual.middle, "worst_seconds": usual.worst, "runs": usual.count}
                 for app, usual in sorted(self.known.usual.items())}
 
-    def values(self, one: Occurrence, between: str) -> Shown:
+    def values(self, one: Occurrence, between: str) -> ActualColumns:
         """What the columns show of an occurrence."""
         runs = self.known.runs.get(one.serial, [])
         started, ended = self.known.started(one.serial), self.known.ended(one.serial)
         past = None if ended is None else max(0, round(actual.local(ended) - one.deadline * 60))
         expected = self.found.get(one.serial)
-        return Shown(iso(started, between), iso(ended, between), runs[-1].seconds if runs else None, past, len(runs),
-                     expected and iso_minute(expected.end_moment, between), expected and expected.is_least)
+        return ActualColumns(iso(started, between), iso(ended, between), runs[-1].seconds if runs else None, past,
+                             len(runs),
+                             expected and iso_minute(expected.end_moment, between), expected and expected.is_least)
 
     def text(self, one: Occurrence) -> str:
         """The same in words, each on a line of its own."""
         started, ended, _, past, _, expected, is_least = self.values(one, " ")
         late_by = f", late by {actual.length_text(past)}" if past else ""
-        told = [started and f"started {started}", ended and f"ended {ended}{late_by}",
-                expected and f"expected to end {'not before ' if is_least else ''}{expected}"]
-        return "".join(f"\n{text}" for text in told if text)
+        parts = [started and f"started {started}", ended and f"ended {ended}{late_by}",
+                 expected and f"expected to end {'not before ' if is_least else ''}{expected}"]
+        return "".join(f"\n{text}" for text in parts if text)
 
 
 def iso(seconds: float | None, between: str) -> str | None:
@@ -75,5 +75,5 @@ def of_journal(path: str, plan: Plan, now: int | None) -> Ran:
     """What a journal has of a plan, and what is expected at a moment (else now). Raises Unreadable."""
     known = actual.of_journal(path, plan)
     assert known is not None, "a journal is named"
-    rows, pairs = late.unfinished(plan)
-    return Ran(known, outlook.of_rows(rows, pairs, known, moments.now() if now is None else now))
+    rows, pairs = waits.unfinished(plan)
+    return Ran(known, forecast.of_rows(rows, pairs, known, moments.now() if now is None else now))

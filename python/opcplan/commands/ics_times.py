@@ -10,7 +10,7 @@ LAST_SECOND = datetime.time(23, 59, 59)
 UTC = datetime.timezone.utc
 
 
-class Unfit(Error):
+class UnsupportedEvent(Error):
     """Why an event's days aren't taken."""
 
 
@@ -29,8 +29,8 @@ class Clock:
         self.is_unknown, self.calendar_zone = is_unknown, calendar_zone
 
     def local(self, at: datetime.date, name: str) -> datetime.datetime:
-        """What the clock of the event shows at a date (its midnight) or a moment. Raises Unfit, which has the name of
-        the property, where no zone says it."""
+        """What the clock of the event shows at a date (its midnight) or a moment. Raises UnsupportedEvent, which has
+        the name of the property, where no zone says it."""
         if not isinstance(at, datetime.datetime):
             return datetime.datetime.combine(at, MIDNIGHT)
         shown = at if at.tzinfo is None else self._local_of_aware(at, name)
@@ -46,7 +46,7 @@ class Clock:
             return utc
         if self.is_unknown or self.calendar_zone is None:
             why = "in a zone that isn't known" if self.is_unknown else "in no time zone"
-            raise Unfit(f"its {name} is a moment in UTC, and it begins {why}, so the day isn't known")
+            raise UnsupportedEvent(f"its {name} is a moment in UTC, and it begins {why}, so the day isn't known")
         return at.astimezone(self.calendar_zone).replace(tzinfo=None)
 
     def moment(self, at: datetime.date, name: str) -> datetime.datetime:

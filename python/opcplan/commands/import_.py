@@ -1,6 +1,7 @@
 """./plan import: holidays or a crontab, as the job stream that gives them to a plan."""
 
 import argparse
+import dataclasses
 import datetime
 import sys
 
@@ -9,8 +10,8 @@ from opcplan.commands import (
     cron_jobs, edit_calendar, edit_change, edit_words, import_cron, import_csv, import_forms, import_ics,
 )
 from opcplan.commands.edit_calendar import Entry
-from opcplan.commands.edit_change import Unmade
-from opcplan.commands.imported import Changes
+from opcplan.commands.edit_change import ChangeRefused
+from opcplan.commands.import_result import Changes
 from opcplan.plans import plan_definitions, plan_file, stream_file
 from opcplan.plans.plan_file import Plan
 from opcplan.rules import stream
@@ -21,6 +22,21 @@ from opcplan.rules.naming_words import count_text, few
 SUMMARY = "the job stream that gives a plan holidays (iCalendar, CSV), or a crontab's jobs"
 LONGEST = 1461  # days that a plan may reach on
 OF_FILE = stream.Bounds(16 << 20, 1_000_000)
+
+
+@dataclasses.dataclass(frozen=True)
+class Settings:
+    """The file and its form, the calendar, which days are taken, and what is made of a crontab."""
+
+    path: str
+    form: str
+    calendar: str | None
+    is_new: bool  # whether the calendar may be a new one
+    first: int | None
+    last: int | None
+    is_system: bool  # whether the lines of the crontab name a user
+    jobs: str | None
+    job: int | None
 
 
 def add_words(parser: words.Parser) -> None:
@@ -57,64 +73,72 @@ def add_words(parser: words.Parser) -> None:
 
 def run(given: argparse.Namespace) -> int:
     """Does what the words ask for; the exit status."""
-    if given.ics:
+    form = "ics" if given.ics else "csv" if given.csv else "cron"
+    return printed(Settings(given.ics or given.csv or given.cron, form, given.calendar, given.new, given.first,
+                            given.last, given.system, given.jobs, given.job), given.plan)
+
+
+def printed(given: Settings, plan_path: str) -> int:
+    """Prints the job stream that takes a file into a plan; the exit status."""
+    if given.form == "ics":
         import_ics.ask_library()
-    with plan_file.opened(given.plan) as plan:
+    with plan_file.opened(plan_path) as plan:
         ask_words(given)
         found = plan_definitions.of_plan(plan)
         ask_calendar(found, given)
-        changes, told, left, lines = taken(plan, found, given)
+        changes, sentences, left, lines = taken(plan, found, given)
         if given.jobs:
             cron_jobs.ask_folder(given.jobs, list(lines))
         text, job = edit_change.stream_of(plan, changes, given.job) if changes else ("", 0)
         if given.jobs:
-            told += [f"{given.jobs}: {count_text(len(lines), 'job file')}, {few(lines)}.",
-                     *cron_jobs.write(given.jobs, lines)]
-        told += edit_change.way_into(plan, changes, job)
-    edit_words.tell([*left, *told])
+            sentences += [f"{given.jobs}: {count_text(len(lines), 'job file')}, {few(lines)}.",
+                          *cron_jobs.write(given.jobs, lines)]
+        sentences += edit_change.way_into(plan, changes, job)
+    edit_words.print_sentences([*left, *sentences])
     sys.stdout.write(text)
     return 1 if left or not changes else 0
 
 
-def ask_words(given: argparse.Namespace) -> None:
+def ask_words(given: Settings) -> None:
     """Asks that the words fit together."""
-    if given.calendar is None and not given.cron:
-        raise Unmade("--calendar NAME is wanted: the calendar that gets the days", 2)
-    if given.new and given.cron or (given.system or given.jobs) and not given.cron:
-        raise Unmade("--new is for holidays, and --system and --jobs are for a crontab", 2)
+    is_cron = given.form == "cron"
+    if given.calendar is None and not is_cron:
+        raise ChangeRefused("--calendar NAME is wanted: the calendar that gets the days", 2)
+    if given.is_new and is_cron or (given.is_system or given.jobs) and not is_cron:
+        raise ChangeRefused("--new is for holidays, and --system and --jobs are for a crontab", 2)
     if given.first is not None and given.last is not None and given.last < given.first:
-        raise Unmade("--to is before --from", 2)
+        raise ChangeRefused("--to is before --from", 2)
 
 
-def ask_calendar(found: Definitions, given: argparse.Namespace) -> None:
+def ask_calendar(found: Definitions, given: Settings) -> None:
     """Asks that the calendar is defined."""
-    if given.calendar is None or given.calendar in found.calendars or given.new:
+    if given.calendar is None or given.calendar in found.calendars or given.is_new:
         return
-    new = "" if given.cron else "; with --new it is made"
-    raise Unmade(edit_words.lack("calendar", given.calendar, found.calendars) + new)
+    new = "" if given.form == "cron" else "; with --new it is made"
+    raise ChangeRefused(edit_words.lack("calendar", given.calendar, found.calendars) + new)
 
 
-def taken(plan: Plan, found: Definitions, given: argparse.Namespace) -> Changes:
+def taken(plan: Plan, found: Definitions, given: Settings) -> Changes:
     """The changes, what is told of them, and what is left out, in sentences."""
-    path = given.ics or given.csv or given.cron
+    path, name = given.path, given.calendar
     data = bytes_of(path)
-    form = "ics" if given.ics else "csv" if given.csv else "cron"
-    if other := import_forms.other_form(data, form):
-        raise Unmade(f"{path}: {other}", 2)
-    if given.cron:
-        return import_cron.changes(found, data, path, given.calendar, given.system, *window(plan, given))
-    if given.csv:
+    if other := import_forms.other_form(data, given.form):
+        raise ChangeRefused(f"{path}: {other}", 2)
+    if given.form == "cron":
+        return import_cron.changes(found, data, path, name, given.is_system, cron_window(plan, given))
+    assert name is not None, "ask_words asks for it"
+    if given.form == "csv":
         first, last = given.first or FIRST_DAY, LAST_DAY if given.last is None else given.last
-        days, told, left = import_csv.days(data, path, first, last)
+        days, sentences, left = import_csv.days(data, path, first, last)
     else:
-        days, told, left = import_ics.days(data, path, *window(plan, given))
+        days, sentences, left = import_ics.days(data, path, *window(plan, given))
     if not days:
-        raise Unmade(" ".join([f"{path}: it has no day that is taken.", *left, *told]))
+        raise ChangeRefused(" ".join([f"{path}: it has no day that is taken.", *left, *sentences]))
     wanted: edit_calendar.Wanted = {Entry("date", day): days[day] for day in sorted(days)}
-    change = edit_calendar.of_entries(plan, found, given.calendar, wanted)
-    if given.calendar not in found.calendars:
-        told.append(f"{given.calendar} is new: it lists no weekday, so Saturdays and Sundays are work days by it.")
-    return Changes([change], [*told, *change.told], left)
+    change = edit_calendar.of_entries(plan, found, name, wanted)
+    if name not in found.calendars:
+        sentences.append(f"{name} is new: it lists no weekday, so Saturdays and Sundays are work days by it.")
+    return Changes([change], [*sentences, *change.sentences], left)
 
 
 def bytes_of(path: str) -> bytes:
@@ -123,12 +147,20 @@ def bytes_of(path: str) -> bytes:
         return b"".join(source.pieces())
 
 
-def window(plan: Plan, given: argparse.Namespace) -> tuple[int, int]:
+def window(plan: Plan, given: Settings) -> tuple[int, int]:
     """The first and the last day that are taken."""
     new_year = (datetime.datetime(datetime.date.today().year, 1, 1) - EPOCH).days
     begin, end = (plan.meta["first_day"], plan.meta["plan_end"] // DAY) if plan.is_created else (new_year, new_year)
     first = begin if given.first is None else given.first
     last = min(LAST_PLANNING_DAY, max(end, first) + LONGEST) if given.last is None else given.last
     if last < first:
-        raise Unmade(f"--to {day_text(last)} is before {day_text(first)}, the first day that is taken", 2)
+        raise ChangeRefused(f"--to {day_text(last)} is before {day_text(first)}, the first day that is taken", 2)
     return first, last
+
+
+def cron_window(plan: Plan, given: Settings) -> import_cron.Window:
+    """The days of a crontab's periods: those that nobody named may be fewer, down to those of the long-term plan."""
+    first, last = window(plan, given)
+    begin_by = last if given.first is None and not plan.is_created else first
+    reach = last if given.last is not None else plan.meta["last_day"] if plan.is_created else first
+    return import_cron.Window(first, last, begin_by, reach)

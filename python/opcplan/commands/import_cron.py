@@ -6,9 +6,9 @@ from collections.abc import Callable, Container
 from typing import Any, NamedTuple
 
 from opcplan.commands import crontab
-from opcplan.commands.crontab import Line, Unfit
-from opcplan.commands.edit_change import Change, Unmade
-from opcplan.commands.imported import Changes
+from opcplan.commands.crontab import Line, UnsupportedLine
+from opcplan.commands.edit_change import Change, ChangeRefused
+from opcplan.commands.import_result import Changes
 from opcplan.rules.definitions import FIRST_DAY, Application, Definitions, Due, Entry, Period, RunCycle, weekday_of
 from opcplan.rules.moments import EPOCH, day_text, minute_text
 from opcplan.rules.naming_words import count_text, few
@@ -37,41 +37,57 @@ class Way(NamedTuple):
     numbers: set[int]
 
 
+class Window(NamedTuple):
+    """The days that periods are made for, and those that a period of the usual name has to have to be taken.
+
+    A period of the plan that is called DAY, WEEK, MONTH and so on is taken where it begins by `begin_by`, and lists
+    each wanted month that has a day from `begin_by` to `reach`. Where the caller named both days, these are the
+    window's own.
+    """
+
+    first: int
+    last: int
+    begin_by: int
+    reach: int
+
+
 def changes(
-    found: Definitions, data: bytes, path: str, calendar_name: str | None, has_user: bool, first: int, last: int
+    found: Definitions, data: bytes, path: str, calendar_name: str | None, has_user: bool, window: Window
 ) -> Changes:
     """The changes that a crontab's lines make, what is told of them, and what is left out, in sentences."""
-    text, made = data.decode("utf-8-sig", "replace"), Made(found, calendar_name, first, last)
+    text, made = data.decode("utf-8-sig", "replace"), CronDefinitions(found, calendar_name, window)
     variables = crontab.variables_of(text)
-    told, left = [], [f"line {number}: a time zone is set, and a plan has none." for number in crontab.zones_of(text)]
+    sentences, left = [], [f"line {number}: a time zone is set, and a plan has "
+                           "none." for number in crontab.zones_of(text)]
     for number, line in crontab.lines_of(text):
         try:
             read = crontab.read(number, line, has_user)
             read.variables = variables.get(number, ())
-            told.append(f"line {number}: {made.take(read)}: {line[:60]}")
-        except Unfit as why:
+            sentences.append(f"line {number}: {made.take(read)}: {line[:60]}")
+        except UnsupportedLine as why:
             left.append(f"line {number} is left out: {why}: {line[:60]}")
-    if not told:
+    if not sentences:
         more = [f"and {len(left) - MOST_LEFT:,} more lines"] if len(left) > MOST_LEFT else []
-        raise Unmade(" ".join([f"{path}: it has no line that fits.", *left[:MOST_LEFT], *more]))
-    names = few(f"{name} of type {period.kind}" for name, period in made.periods.items())
-    told += [
-        f"{count_text(len(made.applications), 'application')}; periods made: {names or 'none'}; months are "
-        f"listed from {day_text(first)} to {day_text(last)} (--from and --to name others).",
+        raise ChangeRefused(" ".join([f"{path}: it has no line that fits.", *left[:MOST_LEFT], *more]))
+    sentences += [
+        f"{count_text(len(made.applications), 'application')}; periods made: {made.period_text()}.",
+        *made.short.values(),
         "Each is due a day after it arrives, since a crontab knows no deadline, and runs on free days too, as by cron "
         "(rule 3): `./plan edit PLAN.db run-cycle APP NAME deadline=0/HH.MM rule=1` changes that.",
     ]
     kinds: tuple[tuple[str, dict[str, Any]], ...] = (
         ("periods", made.periods), ("applications", made.applications), ("run-cycles", made.cycles))
-    return Changes([Change(kind, names, []) for kind, names in kinds if names], told, left, made.lines)
+    return Changes([Change(kind, names, []) for kind, names in kinds if names], sentences, left, made.lines)
 
 
-class Made:
+class CronDefinitions:
     """What the lines taken so far make, beside the definitions of a plan."""
 
-    def __init__(self, found: Definitions, calendar_name: str | None, first: int, last: int) -> None:
-        self.found, self.calendar, self.first, self.last = found, calendar_name, first, last
+    def __init__(self, found: Definitions, calendar_name: str | None, window: Window) -> None:
+        self.found, self.calendar, self.window = found, calendar_name, window
+        self.first, self.last = window.first, window.last
         self.periods: dict[str, Period] = {}
+        self.short: dict[str, str] = {}  # of each period that is taken and has fewer days a sentence
         self.applications: dict[str, Application] = {}
         self.cycles: dict[str, dict[str, RunCycle]] = {}
         self.by_command: dict[tuple[object, ...], str] = {}
@@ -82,7 +98,7 @@ class Made:
     def take(self, line: Line) -> str:
         """Takes a line, and says in words what it makes."""
         if len(line.times) > MOST_TIMES:
-            raise Unfit(f"it runs {len(line.times):,} times a day, and at most {MOST_TIMES} are taken")
+            raise UnsupportedLine(f"it runs {len(line.times):,} times a day, and at most {MOST_TIMES} are taken")
         ways = days_of(line)
         counted = [(way.kind, *self.period_of(*way)) for way in ways]
         runs = (line.command, line.user, line.variables)
@@ -120,7 +136,8 @@ class Made:
             name = "MONTH" if months == EVERY_MONTH else MONTHS[min(months) - 1] if len(months) == 1 else "MONTHS"
             wanted = Period("N", entries=self.month_spans(months))
             if not wanted.entries:
-                raise Unfit(f"none of its months lies between {day_text(self.first)} and {day_text(self.last)}")
+                raise UnsupportedLine(f"none of its months lies between {day_text(self.first)} and "
+                                      f"{day_text(self.last)}")
             return self.period_like(name, wanted, lambda other: self.has_spans(other, wanted.entries)), sorted(numbers)
         monday = self.first - weekday_of(self.first)
         name = self.period_like("WEEK", Period("A", max(FIRST_DAY, monday), 7), self.is_weekly)
@@ -136,6 +153,9 @@ class Made:
         for known, period in [*self.found.periods.items(), *self.periods.items()]:
             if is_alike(period):
                 return known
+        if name in self.found.periods and (short := self.short_text(self.found.periods[name], wanted)):
+            self.short[name] = f"{name} of the plan is taken; {short}"
+            return name
         made = free_name(name, 8, {*self.found.periods, *self.periods})
         self.periods[made] = wanted
         return made
@@ -150,10 +170,40 @@ class Made:
 
     def has_spans(self, period: Period, spans: list[Entry]) -> bool:
         """Whether a period lists these intervals and no others within the days that are asked for."""
-        return period.kind == "N" and spans == [
-            Entry(*span) for span in period.listed()
-            if span.first <= self.last and (span.last is None or self.first <= span.last)
-        ]
+        return period.kind == "N" and spans == self.within(period)
+
+    def short_text(self, period: Period, wanted: Period) -> str:
+        """What a period lacks that has enough of a wanted one's intervals; nothing where it hasn't."""
+        if (period.kind, period.interval) != (wanted.kind, wanted.interval):
+            return ""
+        if period.kind == "A":
+            return f"it begins {day_text(period.origin)}." if period.origin <= self.window.begin_by else ""
+        spans, listed = wanted.entries, self.within(period)
+        begin_by, reach = self.window.begin_by, self.window.reach
+        needed = [span for span in spans if span.origin <= reach and (span.end or self.last) >= begin_by]
+        if not listed or listed[0] not in spans or not set(needed) <= set(listed):
+            return ""
+        start = spans.index(listed[0])
+        if spans[start:start + len(listed)] != listed:
+            return ""
+        begin, end = day_text(listed[0].origin), day_text(listed[-1].end or self.last)
+        return (f"its months go from {begin} to {end}: add later ones before the plan gets there, by `./plan edit "
+                "PLAN.db period`.")
+
+    def period_text(self) -> str:
+        """Which periods are made, and the days for which they list months."""
+        if not self.periods:
+            return "none"
+        names = few(f"{name} of type {period.kind}" for name, period in self.periods.items())
+        if all(period.kind == "A" for period in self.periods.values()):
+            return names
+        return (f"{names}; months are listed from {day_text(self.first)} to {day_text(self.last)} (--from and --to "
+                "name others)")
+
+    def within(self, period: Period) -> list[Entry]:
+        """What a period lists within the days that are asked for."""
+        return [Entry(*span) for span in period.listed()
+                if span.first <= self.last and (span.last is None or self.first <= span.last)]
 
     def month_spans(self, months: set[int]) -> list[Entry]:
         """The first and the last day of each month that is meant and has a day within the days that are asked for."""
@@ -175,12 +225,13 @@ def days_of(line: Line) -> list[Way]:
     if not days and not weekdays or either and not (days and weekdays):
         return [Way("day", EVERY_MONTH, {1}) if line.months == EVERY_MONTH else Way("month", line.months, EVERY_DAY)]
     if days and weekdays and not either:
-        raise Unfit("it means days of the week that are certain days of the month too, and no run cycle names these")
+        raise UnsupportedLine("it means days of the week that are certain days of the month too, and no run cycle "
+                              "names these")
     if weekdays and line.months != EVERY_MONTH:
-        raise Unfit("it means days of the week in some months alone, and no period has these")
+        raise UnsupportedLine("it means days of the week in some months alone, and no period has these")
     ways = [Way("week", EVERY_MONTH, line.weekdays)] if weekdays else []
     if days and min(line.days) > max(LONGEST_MONTHS[month] for month in line.months):
-        raise Unfit("no such day is in its months")
+        raise UnsupportedLine("no such day is in its months")
     return [*ways, Way("month", line.months, line.days)] if days else ways
 
 

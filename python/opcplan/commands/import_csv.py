@@ -5,14 +5,14 @@ import io
 from collections.abc import Iterator
 
 from opcplan.commands import edit_words
-from opcplan.commands.edit_change import Unmade
-from opcplan.commands.imported import Days
+from opcplan.commands.edit_change import ChangeRefused
+from opcplan.commands.import_result import Days
 from opcplan.rules import record_fields
 from opcplan.rules.moments import day_text
 from opcplan.rules.naming_words import count_text
 
 STATUSES = {"": False, "free": False, "work": True}
-MOST_TOLD = 5
+MOST_LEFT = 5
 
 
 def days(data: bytes, path: str, first: int, last: int) -> Days:
@@ -23,26 +23,26 @@ def days(data: bytes, path: str, first: int, last: int) -> Days:
         for number, fields in records(text_of(data, path)):
             try:
                 day, is_work = read(fields)
-            except record_fields.Wrong as why:
+            except record_fields.InvalidField as why:
                 wrong.append(f"line {number}: {why}")
                 continue
             if found.setdefault(day, is_work) != is_work:
                 wrong.append(f"line {number}: {day_text(day)} is free and a work day in one file")
     except csv.Error as error:
-        raise Unmade(f"{path}: it is no CSV: {error}", 2) from None
+        raise ChangeRefused(f"{path}: it is no CSV: {error}", 2) from None
     if wrong:
-        raise Unmade(f"{path}: " + "; ".join(wrong[:MOST_TOLD])
-                     + (f"; and {len(wrong) - MOST_TOLD:,} more lines" if len(wrong) > MOST_TOLD else ""), 2)
+        raise ChangeRefused(f"{path}: " + "; ".join(wrong[:MOST_LEFT])
+                            + (f"; and {len(wrong) - MOST_LEFT:,} more lines" if len(wrong) > MOST_LEFT else ""), 2)
     inside = {day: is_work for day, is_work in found.items() if first <= day <= last}
     outside = len(found) - len(inside)
-    told = [f"{count_text(outside, 'day')} of {path} before --from or after --to."] if outside else []
-    return Days(inside, told, [])
+    sentences = [f"{count_text(outside, 'day')} of {path} before --from or after --to."] if outside else []
+    return Days(inside, sentences, [])
 
 
 def text_of(data: bytes, path: str) -> str:
     """The text of a file; what is no UTF-8 may stand in a comment."""
     if data[:2] in (b"\xff\xfe", b"\xfe\xff"):
-        raise Unmade(f"{path}: it is UTF-16 text; save it as UTF-8", 2)
+        raise ChangeRefused(f"{path}: it is UTF-16 text; save it as UTF-8", 2)
     return data.decode("utf-8-sig", "surrogateescape")
 
 
@@ -60,11 +60,11 @@ def records(text: str) -> Iterator[tuple[int, list[str]]]:
 def read(fields: list[str]) -> tuple[int, bool]:
     """The day of a record, and whether it is a work day."""
     if len(fields) > 3:
-        raise record_fields.Wrong("", f"it has {len(fields)} fields, and a record is date, status, comment")
+        raise record_fields.InvalidField("", f"it has {len(fields)} fields, and a record is date, status, comment")
     if ";" in fields[0]:
-        raise record_fields.Wrong("", "its fields are parted by semicolons, and commas are wanted")
+        raise record_fields.InvalidField("", "its fields are parted by semicolons, and commas are wanted")
     day = edit_words.texts_of(date=fields[0]).day("date")
     status = fields[1].lower() if len(fields) > 1 else ""
     if status not in STATUSES:
-        raise record_fields.Wrong("", f"{fields[1][:20]!r} is neither free nor work")
+        raise record_fields.InvalidField("", f"{fields[1][:20]!r} is neither free nor work")
     return day, STATUSES[status]

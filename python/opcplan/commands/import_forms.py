@@ -39,6 +39,6 @@ def is_cron(text: str) -> bool:
             try:
                 crontab.read(number, line, False)
                 return True
-            except crontab.Unfit:
+            except crontab.UnsupportedLine:
                 continue
     return False

@@ -10,9 +10,9 @@ from typing import Any, NamedTuple, Optional
 
 from opcplan.cli import interpreter
 from opcplan.commands import import_forms
-from opcplan.commands.edit_change import Unmade
-from opcplan.commands.ics_times import MIDNIGHT, Clock, Unfit, date_of
-from opcplan.commands.imported import Days
+from opcplan.commands.edit_change import ChangeRefused
+from opcplan.commands.ics_times import MIDNIGHT, Clock, UnsupportedEvent, date_of
+from opcplan.commands.import_result import Days
 from opcplan.errors import Unreadable
 from opcplan.rules.moments import EPOCH, day_text
 from opcplan.rules.naming_words import count_text, few
@@ -30,7 +30,7 @@ RULE, FOLD = re.compile(rb"(?mi)^RRULE(?:;[^:\n]*)?:(.*)$"), re.compile(rb"\r?\n
 MOST_TIMES = 200_000
 
 
-class Moved(NamedTuple):
+class MovedRepetition(NamedTuple):
     """A repetition that an event of its own stands for."""
 
     at: datetime.date
@@ -48,7 +48,7 @@ class Event(NamedTuple):
         name = self.fields.get("SUMMARY")
         return " ".join(str(name[0] if isinstance(name, list) else name or "").split()) or "an event without a name"
 
-    def date_told(self) -> str:
+    def date_text(self) -> str:
         """Its day in words, where it has one."""
         at = getattr(self.fields.get("DTSTART"), "dt", None)
         return f" on {at.isoformat()[:10]}" if isinstance(at, datetime.date) else ""
@@ -57,7 +57,7 @@ class Event(NamedTuple):
         """The value of a property that may stand once, or None."""
         value = self.fields.get(name)
         if isinstance(value, list):
-            raise Unfit(f"it has {name} more than once")
+            raise UnsupportedEvent(f"it has {name} more than once")
         return getattr(value, "dt", value)
 
     def values(self, name: str) -> list[datetime.date]:
@@ -65,7 +65,7 @@ class Event(NamedTuple):
         held = self.fields.get(name, [])
         found = [value.dt for lists in (held if isinstance(held, list) else [held]) for value in lists.dts]
         if not all(isinstance(date, datetime.date) for date in found):
-            raise Unfit(f"{name} of it has what is no day")
+            raise UnsupportedEvent(f"{name} of it has what is no day")
         return found
 
     def uid(self) -> str:
@@ -97,12 +97,12 @@ def days(data: bytes, path: str, first: int, last: int) -> Days:
         try:
             for at in event_days(event, moved, first, last):
                 found.setdefault(at, event.name())
-        except Unfit as why:
-            left.append(f"left out: {event.name()[:60]!r}{event.date_told()}: {why}.")
+        except UnsupportedEvent as why:
+            left.append(f"left out: {event.name()[:60]!r}{event.date_text()}: {why}.")
     shown = few(f"{day_text(at)} {found[at][:40]}" for at in sorted(found))
-    told = [f"{path}: {count_text(len(found), 'free day')} from {day_text(first)} to {day_text(last)} (--from "
-            f"and --to name others){f': {shown}' if found else ''}."]
-    return Days({at: False for at in found}, told, left)
+    sentences = [f"{path}: {count_text(len(found), 'free day')} from {day_text(first)} to {day_text(last)} (--from "
+                 f"and --to name others){f': {shown}' if found else ''}."]
+    return Days({at: False for at in found}, sentences, left)
 
 
 def events_of(data: bytes, path: str) -> list[Event]:
@@ -114,14 +114,15 @@ def events_of(data: bytes, path: str) -> list[Event]:
     except (ValueError, LookupError, TypeError, AttributeError, ArithmeticError) as error:
         why = str(error).partition("\n")[0][:100]
         if not import_forms.is_ics(data.decode("utf-8-sig", "replace")):
-            raise Unmade(f"{path}: it is no iCalendar file: such a file begins with BEGIN:VCALENDAR", 2) from None
-        raise Unmade(f"{path}: it can't be read as iCalendar: {why}", 2) from None
+            raise ChangeRefused(f"{path}: it is no iCalendar file: such a file begins with BEGIN:VCALENDAR",
+                                2) from None
+        raise ChangeRefused(f"{path}: it can't be read as iCalendar: {why}", 2) from None
     if not calendars:
-        raise Unmade(f"{path}: it holds no calendar, or ends in the midst of one", 2)
+        raise ChangeRefused(f"{path}: it holds no calendar, or ends in the midst of one", 2)
     # the library passes such a part over
     parts = [part for rule in RULE.findall(FOLD.sub(b"", data)) for part in rule.strip().split(b";")]
     if any(part and b"=" not in part for part in parts):
-        raise Unmade(f"{path}: a rule has a part without a sign =", 2)
+        raise ChangeRefused(f"{path}: a rule has a part without a sign =", 2)
     return [Event(fields, zone_of(calendar)) for calendar in calendars for fields in calendar.walk("VEVENT")]
 
 
@@ -133,14 +134,14 @@ def zone_of(calendar: Any) -> Optional[datetime.tzinfo]:
     return tz.gettz(str(name)) if name and not isinstance(name, list) else None
 
 
-def moved_times(events: list[Event]) -> dict[str, list[Moved]]:
+def moved_times(events: list[Event]) -> dict[str, list[MovedRepetition]]:
     """The times of repeated events that events of their own stand for, by UID."""
-    moved: dict[str, list[Moved]] = {}
+    moved: dict[str, list[MovedRepetition]] = {}
     for event in events:
         value = event.fields.get("RECURRENCE-ID")
         at = getattr(value, "dt", None)
         if isinstance(at, datetime.date):
-            moved.setdefault(event.uid(), []).append(Moved(at, stands_for_all_after(value)))
+            moved.setdefault(event.uid(), []).append(MovedRepetition(at, stands_for_all_after(value)))
     return moved
 
 
@@ -149,18 +150,18 @@ def stands_for_all_after(value: Any) -> bool:
     return "RANGE" in getattr(value, "params", {})
 
 
-def event_days(event: Event, moved: dict[str, list[Moved]], first: int, last: int) -> set[int]:
+def event_days(event: Event, moved: dict[str, list[MovedRepetition]], first: int, last: int) -> set[int]:
     """The days of an event, as numbers."""
     if str(event.fields.get("STATUS", "")).upper() == "CANCELLED":
         return set()
     faulty = [name for name, _ in event.fields.errors if name is None or name in DATES]
     if faulty:
-        raise Unfit(f"{faulty[0] or 'a line'} of it can't be read")
+        raise UnsupportedEvent(f"{faulty[0] or 'a line'} of it can't be read")
     event.single("RECURRENCE-ID")
     if stands_for_all_after(event.fields.get("RECURRENCE-ID")):
-        raise Unfit("it changes all later repetitions of an event too (RANGE), and none of these is taken")
+        raise UnsupportedEvent("it changes all later repetitions of an event too (RANGE), and none of these is taken")
     if event.fields.get("EXRULE") is not None:
-        raise Unfit("it has EXRULE")
+        raise UnsupportedEvent("it has EXRULE")
     clock, begin, length = span_of(event)
     found: set[int] = set()
     end = EPOCH.date() + datetime.timedelta(days=last)
@@ -174,7 +175,7 @@ def span_of(event: Event) -> tuple[Clock, datetime.date, int]:
     """The clock of an event, its first day, and how many days it has."""
     begin, end, length = (event.single(name) for name in ("DTSTART", "DTEND", "DURATION"))
     if not isinstance(begin, datetime.date):
-        raise Unfit("it has no day on which it begins")
+        raise UnsupportedEvent("it has no day on which it begins")
     has_no_zone = not isinstance(begin, datetime.datetime) or begin.tzinfo is None
     clock = Clock(begin, has_no_zone and "TZID" in event.fields["DTSTART"].params, event.zone)
     if end is None and isinstance(length, datetime.timedelta):
@@ -183,27 +184,27 @@ def span_of(event: Event) -> tuple[Clock, datetime.date, int]:
         is_whole = isinstance(end, datetime.datetime) and not any(
             shown.time() != MIDNIGHT for shown in (begin, clock.local(end, "DTEND")))
         if not is_whole or clock.local(end, "DTEND").date() <= begin.date():
-            raise Unfit("it begins at a time of day, and isn't an all-day event")
+            raise UnsupportedEvent("it begins at a time of day, and isn't an all-day event")
     if end is None:
         return clock, date_of(begin), 1
     if not isinstance(end, datetime.date):
-        raise Unfit("it ends before it begins")
+        raise UnsupportedEvent("it ends before it begins")
     whole = (clock.local(end, "DTEND") - clock.local(begin, "DTSTART")).days
     # some write the same day as its end, which is that day
     count = whole if whole or length is not None else 1
     if count < 1:
-        raise Unfit("it ends before it begins")
+        raise UnsupportedEvent("it ends before it begins")
     return clock, date_of(begin), count
 
 
 def times_of(event: Event, clock: Clock, begin: datetime.date, end: datetime.date,
-             moved: dict[str, list[Moved]]) -> set[datetime.date]:
+             moved: dict[str, list[MovedRepetition]]) -> set[datetime.date]:
     """The dates on which an event begins, up to a last one."""
     found = {begin}
     for at in event.values("RDATE"):
         date = clock.local(at, "RDATE").date()
         if clock.moment(date, "RDATE") != clock.moment(at, "RDATE") and not clock.is_date:
-            raise Unfit("RDATE of it has a time of day")
+            raise UnsupportedEvent("RDATE of it has a time of day")
         found.add(date)
     if event.fields.get("RRULE") is not None:
         found |= rule_times(event.fields["RRULE"], clock, begin, end)
@@ -232,24 +233,25 @@ def rule_times(rule: Any, clock: Clock, begin: datetime.date, end: datetime.date
                 break
             found.add(at.date())
             if len(found) > MOST_TIMES:
-                raise Unfit("its rule gives too many days")
+                raise UnsupportedEvent("its rule gives too many days")
     except (ValueError, TypeError, ArithmeticError, LookupError):
-        raise Unfit("its rule can't be read") from None
+        raise UnsupportedEvent("its rule can't be read") from None
     return found
 
 
 def rule_limits(rule: Any) -> tuple[list[datetime.date], str]:
-    """Where a yearly rule ends, if that is said, and the rest of its text. Raises Unfit for what isn't taken."""
+    """Where a yearly rule ends, if that is said, and the rest of its text. Raises UnsupportedEvent for what isn't
+    taken."""
     if isinstance(rule, list):
-        raise Unfit("it has RRULE more than once")
+        raise UnsupportedEvent("it has RRULE more than once")
     parts = {name.upper(): values for name, values in rule.items()}
     strange = sorted(parts.keys() - RULE_PARTS.keys())
     if strange or parts.get("FREQ") != ["YEARLY"]:
-        raise Unfit(f"its rule has {strange[0]}" if strange else "its rule isn't a yearly one")
+        raise UnsupportedEvent(f"its rule has {strange[0]}" if strange else "its rule isn't a yearly one")
     for name, limits in RULE_PARTS.items():
         if limits and not all(limits[0] <= number <= limits[1] and number for number in parts.get(name, [])):
-            raise Unfit(f"its rule has a {name} that can't be")
+            raise UnsupportedEvent(f"its rule has a {name} that can't be")
     ends = parts.get("UNTIL", [])
     if not all(isinstance(at, datetime.date) for at in ends):
-        raise Unfit("its rule has an UNTIL that can't be")
+        raise UnsupportedEvent("its rule has an UNTIL that can't be")
     return ends, ";".join(part for part in rule.to_ical().decode().split(";") if not part.startswith("UNTIL"))

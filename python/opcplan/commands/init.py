@@ -2,6 +2,7 @@
 
 import argparse
 import contextlib
+import dataclasses
 import os
 import re
 import sys
@@ -32,6 +33,20 @@ class Years(NamedTuple):
         first, last = moments.day_of(f"{self.first}-01-01"), moments.day_of(f"{self.last}-12-31")
         assert first is not None and last is not None, "years are those of a plan"
         return first, last
+
+
+@dataclasses.dataclass(frozen=True)
+class Settings:
+    """The plan, what its first definitions have (None where that isn't said), and how it is made."""
+
+    plan: str
+    years: Years | None
+    weekend: tuple[int, ...] | None
+    holidays: list[str] | None
+    is_stream: bool  # whether the job stream alone is printed
+    is_agreed: bool  # whether it is made without asking
+    program: str | None
+    color: str
 
 
 def add_words(parser: words.Parser) -> None:
@@ -76,17 +91,23 @@ def weekend(text: str) -> tuple[int, ...]:
 
 def run(given: argparse.Namespace) -> int:
     """Does what the words ask for; the exit status."""
-    if not given.stream and os.path.lexists(given.plan):
+    return made(Settings(given.plan, given.years, given.weekend, given.holidays, given.stream, given.yes,
+                         given.program, given.color))
+
+
+def made(given: Settings) -> int:
+    """Makes a plan, or prints the job stream that makes it; the exit status."""
+    if not given.is_stream and os.path.lexists(given.plan):
         raise Unreadable(f"{given.plan}: it is there already, and `init` makes new plans; `./plan edit` changes it")
-    is_asking = sys.stdin is not None and sys.stdin.isatty() and sys.stderr.isatty() and not given.yes
+    is_asking = sys.stdin is not None and sys.stdin.isatty() and sys.stderr.isatty() and not given.is_agreed
     if given.holidays or is_asking:
         with contextlib.suppress(Unreadable):
             import_ics.ask_library()
     if is_asking:
-        ask(given)
+        given = asked(given)
     span = given.years or Years(this_year(), this_year() + 1)
     text = stream_of(span, (5, 6) if given.weekend is None else given.weekend, given.holidays or [])
-    if given.stream:
+    if given.is_stream:
         sys.stdout.write(text)
         return 0
     with tempfiles.folder("init-") as folder:
@@ -94,11 +115,14 @@ def run(given: argparse.Namespace) -> int:
         with open(path, "w", encoding="ascii") as file:
             file.write(text)
         print(text)
-        status = run_command.run(argparse.Namespace(plan=given.plan, stream=path, program=given.program, yes=given.yes,
-                                                    new=True, desk=None, color=given.color))
+        status = run_command.run_stream(run_command.Settings(
+            given.plan, path, given.program, is_agreed=given.is_agreed, color=given.color, is_new=True))
     if status == 0:
-        words.tell(f"`./plan edit {given.plan} application NAME new period=DAY ia=20.00 deadline=0/23.00` makes the "
-                   "first application, and `ltp-create` the long-term plan")
+        plan = given.plan
+        words.print_message(
+            f"`./plan edit {plan} application NAME new period=DAY ia=20.00 deadline=0/23.00 | ./opcplan --db {plan}` "
+            f"makes the first application, `./plan send --db {plan} ltp-create --from DAY --to DAY` the long-term "
+            f"plan, and `./plan roll {plan}` the first daily plan")
     return status
 
 
@@ -107,8 +131,8 @@ def this_year() -> int:
     return int(moments.day_text(moments.now() // moments.DAY)[:4])
 
 
-def ask(given: argparse.Namespace) -> None:
-    """Asks on the terminal for what no option says."""
+def asked(given: Settings) -> Settings:
+    """The settings with what somebody answers on the terminal, who is asked for what no option says."""
     now = this_year()
     questions = (("years", f"Years [{now}..{now + 1}]: ", years),
                  ("weekend", "Free days of the week [SAT,SUN]: ", weekend),
@@ -120,13 +144,14 @@ def ask(given: argparse.Namespace) -> None:
             if not line.strip():
                 break
             try:
-                setattr(given, name, read(line.strip()))
+                given = dataclasses.replace(given, **{name: read(line.strip())})
             except argparse.ArgumentTypeError as wrong:
-                words.tell(str(wrong))
+                words.print_message(str(wrong))
+    return given
 
 
 def stream_of(span: Years, free: tuple[int, ...], files: list[str]) -> str:
-    """The job stream of the first definitions. Raises Unmade and Unreadable."""
+    """The job stream of the first definitions. Raises ChangeRefused and Unreadable."""
     first, last = span.days
     calendar = Calendar({day: False for day in free})
     for path in files:
@@ -150,7 +175,7 @@ def stream_of(span: Years, free: tuple[int, ...], files: list[str]) -> str:
 
 
 def days_of(path: str, first: int, last: int) -> dict[int, bool]:
-    """The days of a file of holidays. Raises Unmade and Unreadable."""
+    """The days of a file of holidays. Raises ChangeRefused and Unreadable."""
     with stream_file.opened(path, OF_FILE) as source:
         data = b"".join(source.pieces())
     if import_forms.is_ics(data.decode("utf-8-sig", "replace")):
@@ -158,5 +183,5 @@ def days_of(path: str, first: int, last: int) -> dict[int, bool]:
         found = import_ics.days(data, path, first, last)
     else:
         found = import_csv.days(data, path, first, last)
-    edit_words.tell([*found.left, *found.told])
+    edit_words.print_sentences([*found.left, *found.sentences])
     return found.days

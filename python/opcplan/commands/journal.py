@@ -7,7 +7,8 @@ import sys
 from typing import NamedTuple
 
 from opcplan.cli import words
-from opcplan.errors import Error
+from opcplan.commands import journal_prune
+from opcplan.errors import Error, UsageError
 from opcplan.plans import journal
 from opcplan.plans.entry import Entry
 from opcplan.rules import moments, printable
@@ -36,9 +37,10 @@ def add_words(parser: words.Parser) -> None:
         "Shows the journal of the desk that serves PLAN.db, also while it runs: a line for each change, with its "
         "number, when it was taken, who asked, the statement and the reply. Days and times are those of this machine. "
         "With --stream it prints the statements as they were done, which opcplan can run again over the plan as it "
-        "was. The exit status is 1 where there is none."
+        "was. With --prune it says what goes of an old journal and of old logs of jobs, and what stays, asks, and does "
+        "it; no desk may have the plan then. The exit status is 1 where there is none, and where nothing was done."
     )
-    words.add_plan(parser)
+    words.add_plan(parser, "; with --prune and --logs it may be lacking")
     add_journal(parser)
     parser.add_argument("--app", type=words.name, metavar="A", help="statements on this application alone")
     parser.add_argument("--from", dest="first", type=words.day, metavar="D", help="those of this day or later")
@@ -46,6 +48,8 @@ def add_words(parser: words.Parser) -> None:
     form = parser.add_mutually_exclusive_group()
     form.add_argument("--json", action="store_true", help="a line of JSON for each")
     form.add_argument("--stream", action="store_true", help="the statements alone, as a job stream")
+    form.add_argument("--prune", action="store_true", help="take what is old out of the journal, and old logs away")
+    journal_prune.add_words(parser)
 
 
 def add_journal(parser: words.Parser, usual: str = "PLAN.db.journal beside the plan") -> None:
@@ -55,6 +59,12 @@ def add_journal(parser: words.Parser, usual: str = "PLAN.db.journal beside the p
 
 def run(given: argparse.Namespace) -> int:
     """Does what the words ask for; the exit status."""
+    if given.prune:
+        return journal_prune.run(given)
+    if journal_prune.is_named(given):
+        raise UsageError("--keep, --logs, --size and --yes go with --prune; ./plan journal --help says more")
+    if given.plan is None:
+        raise UsageError("PLAN.db is wanted; ./plan journal --help says more")
     choice, found = Choice(given.app, given.first, given.last), 0
     with journal.opened(given.journal or journal.beside(given.plan)) as held:
         for one in filter(choice.has, held.every()):

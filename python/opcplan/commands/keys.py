@@ -1,11 +1,14 @@
 """An occurrence as somebody types or pastes it: its application and input arrival, or its serial."""
 
 import argparse
+import contextlib
 import re
+import shlex
 from collections.abc import Callable, Sequence
 from typing import Any, NamedTuple
 
 from opcplan.cli import words
+from opcplan.errors import UsageError
 from opcplan.plans import waits
 from opcplan.plans.plan_file import Plan
 from opcplan.plans.waits import Row
@@ -43,9 +46,9 @@ def add_key_of_day(parser: words.Parser) -> None:
     add(parser, key_of_day, f"the application and the day, APP D; or an occurrence on that day: {HELP}")
 
 
-def add(parser: words.Parser, read: Read, told: str) -> None:
+def add(parser: words.Parser, read: Read, help_text: str) -> None:
     """The words of a key, with how they are read and what the help says."""
-    parser.add_argument("key", metavar="KEY", nargs="+", action=Reading, read=read, help=told)
+    parser.add_argument("key", metavar="KEY", nargs="+", action=Reading, read=read, help=help_text)
     parser.is_mixed = True
 
 
@@ -95,7 +98,29 @@ def app_key(given: list[str], read: Callable[[str], int]) -> Key:
     app, *rest = " ".join(given).split() or [""]
     if not rest:
         raise argparse.ArgumentTypeError(f"{app!r} is neither a serial nor an application with its input arrival")
-    return Key(None, words.name(app), read(" ".join(rest)))
+    name = words.name(app)
+    try:
+        return Key(None, name, read(" ".join(rest)))
+    except argparse.ArgumentTypeError:
+        for count in range(len(rest) - 1, 0, -1):
+            with contextlib.suppress(argparse.ArgumentTypeError):
+                read(" ".join(rest[:count]))
+                raise TooManyWords(too_many_text(name, " ".join(rest[:count]), " ".join(rest[count:]))) from None
+        raise
+
+
+class TooManyWords(UsageError):
+    """What stands behind the words of a key."""
+
+
+def too_many_text(app: str, key: str, more: str) -> str:
+    """That words stand behind a key, and what is likely meant by them."""
+    text = f"{app} {key} is the whole key, and {more} is too much"
+    if moments.day_of(more) is not None:
+        return f"{text}; `./plan days PLAN.db {app} --from D --to D` lists the days"
+    if moments.minute_of(more.replace(":", ".")) is not None or moments.typed_moment(more) is not None:
+        return f"{text} (is --now {shlex.quote(more)} meant?)"
+    return text
 
 
 def rows_of(plan: Plan, key: Key) -> Found | None:
@@ -111,8 +136,8 @@ def rows_of(plan: Plan, key: Key) -> Found | None:
     return Found(row.app, row.ia, [row, *others])
 
 
-def unknown_text(plan: Plan, serial: int) -> str:
-    """That no occurrence has a serial."""
+def unknown_text(plan: Plan, key: Key) -> str:
+    """That no occurrence has the serial of a key."""
     issued = plan.meta["issued"]
     last = f"the last one is {issued}" if issued else "there is none yet"
-    return f"No occurrence has the serial {serial}: {last}."
+    return f"No occurrence has the serial {key.serial}: {last}."

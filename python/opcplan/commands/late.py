@@ -35,7 +35,7 @@ def run(given: argparse.Namespace) -> int:
     lines, notes, is_late = plan_file.answer(given.plan, lambda plan: found(plan, given.journal, now))
     print(colours.text(printable.text(lines), given.color))
     for note in notes:
-        words.tell(note)
+        words.print_message(note)
     return 0 if is_late else 1
 
 
@@ -43,7 +43,7 @@ def found(plan: Plan, journal: str | None, now: int) -> tuple[list[str], list[st
     """The lines on a plan at a moment, what is to be said of the moment, and whether something is late, ended late or
     is going to."""
     known = actual.of_journal(journal, plan)
-    rows, pairs = unfinished(plan) if known else waits.late_with_waits(plan, now)
+    rows, pairs = waits.unfinished(plan) if known else waits.late_with_waits(plan, now)
     model = page_model.of_waits(rows, pairs, now)
     ends = late_ends.of_plan(plan, rows, pairs, known, now) if known else None
     late, moment = in_order(rows, model), moments.moment_text(now)
@@ -56,17 +56,6 @@ def in_order(rows: list[Row], model: Model) -> list[int]:
     """The places of the late rows, the earliest deadline first."""
     late = [place for place, is_late in enumerate(model.is_late) if is_late]
     return sorted(late, key=lambda place: (rows[place].deadline, rows[place].ia, rows[place].app))
-
-
-def unfinished(plan: Plan) -> tuple[list[Row], list[tuple[int, int]]]:
-    """The rows of the current plan that are neither complete nor deleted, by input arrival, and pairs of these."""
-    rows = waits.rows_of_current(plan, statuses.UNFINISHED)
-    cursor = plan.db.cursor()
-    cursor.row_factory = None
-    asked = """SELECT successor, predecessor FROM dependency JOIN cp_row AS later ON later.serial = successor
-        JOIN cp_row AS earlier ON earlier.serial = predecessor
-        WHERE instr(?1, later.status) AND instr(?1, earlier.status)"""
-    return rows, cursor.execute(asked, (statuses.UNFINISHED,)).fetchall()
 
 
 def notes_on(plan: Plan, now: int) -> list[str]:

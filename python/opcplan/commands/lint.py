@@ -10,7 +10,7 @@ from opcplan.cli import words
 from opcplan.commands import explain
 from opcplan.plans import progress, stream_file, stream_state
 from opcplan.plans.stream_state import Known
-from opcplan.rules import blocks, changes, definitions, lint_checks, moments, printable, reaches, stream
+from opcplan.rules import blocks, changes, definitions, horizons, lint_checks, moments, printable, stream
 from opcplan.rules.lint_checks import Finding
 from opcplan.rules.stream import Item
 
@@ -29,7 +29,7 @@ def add_words(parser: words.Parser) -> None:
         "tells also what each block drops or changes of it, and " + "; ".join(lint_checks.KINDS_BY_PLAN.values())
         + ". What is refused `./plan check` and `./plan explain` tell. The exit status is 1 where it finds something. "
         + "Where stream or plan say how far the long-term plan goes, it tells "
-        + "; ".join(reaches.KINDS.values()) + ". "
+        + "; ".join(horizons.KINDS.values()) + ". "
         + stream.BOUND
     )
     words.add_stream(parser)
@@ -47,7 +47,7 @@ def run(given: argparse.Namespace) -> int:
     for finding in found:
         print("\n".join(finding_lines(finding)))
     if not found:
-        words.tell(f"{given.stream}: nothing that is likely a slip{unread_text(unread)}")
+        words.print_message(f"{given.stream}: nothing that is likely a slip{unread_text(unread)}")
     return 1 if found else 0
 
 
@@ -98,7 +98,7 @@ class Walk:
         self.names: dict[str, set[str]] = {kind: set() for kind in (*stream_state.HELD, "options")}
         self.first, self.bounds = now.definitions_alone(), now.bounds
         self.span = lint_checks.window(self.first)
-        self.held = lint_checks.Held()
+        self.held = lint_checks.LintCache()
 
     @functools.cached_property
     def before(self) -> set[tuple[str, About]]:
@@ -172,12 +172,12 @@ class Walk:
         return sorted(self.found.values(), key=lambda finding: (finding.line, finding.kind, finding.about))
 
 
-def shortfalls(now: Known, first: int | None = None, only: set[str] | None = None) -> list[reaches.Shortfall]:
+def shortfalls(now: Known, first: int | None = None, only: set[str] | None = None) -> list[horizons.Shortfall]:
     """What ends before the long-term plan, whose days from `first` on are new: all of them in a plan that is new."""
     if now.bounds is None:
         return []
     first = now.bounds.plan_end // moments.DAY if first is None else first
-    return reaches.shortfalls(now.defined, first, now.bounds.last_day, only)
+    return horizons.shortfalls(now.defined, first, now.bounds.last_day, only)
 
 
 def losses(now: Known, item: Item) -> Iterator[Finding]:
@@ -189,12 +189,12 @@ def losses(now: Known, item: Item) -> Iterator[Finding]:
         given = definitions.Definitions(
             default_calendar=block.defined["default_calendar"], max_hours=block.defined["max_extension_hours"]
         )
-        told = changes.of_options(now.defined, given) if now.is_whole else ()
+        differences = changes.of_options(now.defined, given) if now.is_whole else ()
     else:
         held = getattr(now.defined, stream_state.HELD[block.kind])
-        told = (change for name, new in block.defined.items() if name in held
-                for change in changes.of_name(block.kind, name, held[name], new))
-    for number, change in enumerate(told):
+        differences = (change for name, new in block.defined.items() if name in held
+                       for change in changes.of_name(block.kind, name, held[name], new))
+    for number, change in enumerate(differences):
         line = block.lines.get(change.about)
         line = item.line if line is None else item.data_line + line
         if change.is_loss:

@@ -8,7 +8,7 @@ import os
 from opcplan.cli import words
 from opcplan.commands.desk import by_debian
 from opcplan.desk import log_words
-from opcplan.errors import Unreadable, WrongWords
+from opcplan.errors import Unreadable, UsageError
 from opcplan.plans.program import built_program
 
 SUMMARY = "shows the log in etcd that several desks share, trims it, begins it, moves its version"
@@ -73,7 +73,7 @@ def run(given: argparse.Namespace) -> int:
         by_debian()
     settings = Settings(**vars(given))
     if wrong := log_words.wrong_etcd(settings):
-        raise WrongWords(wrong)
+        raise UsageError(wrong)
     import asyncio  # with log_tool the greater part of what an import of this module would take
 
     from opcplan.desk import log_tool

@@ -5,7 +5,7 @@ import gc
 import sys
 
 from opcplan.cli import output, words
-from opcplan.errors import WrongWords
+from opcplan.errors import UsageError
 from opcplan.webpage import page_data, page_html
 
 SUMMARY = "one HTML file: what is late and why, each day's order of work, the months"
@@ -26,10 +26,10 @@ def add_words(parser: words.Parser) -> None:
 def run(given: argparse.Namespace) -> int:
     """Does what the words ask for; the exit status."""
     if None not in (given.first, given.last) and given.last < given.first:
-        raise WrongWords("--to is before --from")
+        raise UsageError("--to is before --from")
     own = [given.plan, given.since or given.plan, given.journal or given.plan]
     if given.out and (why := output.objection(given.out, given.force, *own)):
-        raise WrongWords(why)
+        raise UsageError(why)
     gc.disable()  # it looks through 200,000 rows again and again, and finds nothing to throw away
     data = page_data.data_of(given.plan, given.now, given.first, given.last, given.since, given.journal)
     page = page_html.page_of(data)

@@ -57,7 +57,7 @@ def run(given: argparse.Namespace) -> int:
     else:
         sys.stdout.write("".join(map(line_text if given.form == USUAL else given.form, found)))
     for note in notes:
-        words.tell(note)
+        words.print_message(note)
     return 0 if found else 1
 
 
@@ -99,6 +99,6 @@ def null_text(row: Row) -> str:
 def json_text(row: Row) -> str:
     """An object on a line."""
     app, ia, _ = parts(row)
-    told = {"serial": row.serial, "application": app, "ia": ia, "arrives": export.iso(row.ia),
-            "due": export.iso(row.deadline), "run_cycle": row.cycle, "added": row.cycle is None}
-    return json.dumps(told) + "\n"
+    values = {"serial": row.serial, "application": app, "ia": ia, "arrives": export.iso(row.ia),
+              "due": export.iso(row.deadline), "run_cycle": row.cycle, "added": row.cycle is None}
+    return json.dumps(values) + "\n"

@@ -15,8 +15,8 @@ from collections.abc import Iterator
 
 from opcplan.cli import output, words
 from opcplan.commands import backup
-from opcplan.errors import Unwritable, WrongWords
-from opcplan.plans import checked_copy, locks, placing, plan_file, tempfiles
+from opcplan.errors import Unwritable, UsageError
+from opcplan.plans import atomic_files, checked_copy, locks, plan_file, tempfiles
 from opcplan.rules import printable
 
 SUMMARY = "puts a backup in the place of a plan, and sets aside what stood there"
@@ -41,21 +41,21 @@ def run(given: argparse.Namespace) -> int:
     """Does what the words ask for; the exit status."""
     path = os.path.realpath(given.plan)
     if path == os.path.realpath(given.backup):
-        raise WrongWords(f"{given.plan}: the backup and the plan are one file")
+        raise UsageError(f"{given.plan}: the backup and the plan are one file")
     if os.path.lexists(path) and not os.path.isfile(path):
         raise Unwritable(f"{given.plan}: it is no file")
     with tempfiles.folder("restore-") as folder:
         copy, meta = checked_copy.made(given.backup, folder, given.program)
         try:
             aside = put_back(copy, path, os.path.realpath(given.backup))
-        except locks.Held:
+        except locks.FileLocked:
             is_desk = locks.is_held(given.plan, locks.OF_A_DESK)
             who = "a desk has it, which has to end first" if is_desk else "another program has it open"
             raise Unwritable(f"{given.plan}: {who}; nothing is changed") from None
         except OSError as error:
             raise Unwritable(f"{given.plan}: the backup can't be put there: {error.strerror}; once that is mended, "
                              "the same words again") from None
-    lines = [f"{given.plan} is {given.backup} now: {backup.told(meta)}."]
+    lines = [f"{given.plan} is {given.backup} now: {backup.extent_text(meta)}."]
     lines += [f"What stood there is {' and '.join(aside)}, in the same folder."] if aside else []
     lines.append("What was answered since the backup isn't in it: run the streams since then again, in their order.")
     print(printable.text(lines))
@@ -63,8 +63,8 @@ def run(given: argparse.Namespace) -> int:
 
 
 def put_back(copy: str, path: str, like: str) -> list[str]:
-    """Puts a copy in the place of a plan. Answers the names of what stood there. Raises Held."""
-    with placing.part(path, "restore") as part:
+    """Puts a copy in the place of a plan. Answers the names of what stood there. Raises FileLocked."""
+    with atomic_files.part(path, "restore") as part:
         try:
             number = os.open(path, os.O_RDWR)
         except FileNotFoundError:
@@ -94,18 +94,18 @@ def put_in_place(part: str, path: str) -> list[str]:
 
 
 def put_new(part: str, path: str) -> list[str]:
-    """Puts a file in a place where there is none, and sets aside what stands beside that. Raises Held where another
-    program made one meanwhile: that keeps what it had."""
+    """Puts a file in a place where there is none, and sets aside what stands beside that. Raises FileLocked where
+    another program made one meanwhile: that keeps what it had."""
     with unstopped():
         name = free(f"{path}.{now()}")
         moved = set_aside(path, name)
         try:
-            placing.rename_new(part, path)
+            atomic_files.rename_new(part, path)
         except FileExistsError:
             for before, after in moved:
                 with contextlib.suppress(FileExistsError):
-                    placing.rename_new(after, before)
-            raise locks.Held from None
+                    atomic_files.rename_new(after, before)
+            raise locks.FileLocked from None
     return names_of(name)
 
 

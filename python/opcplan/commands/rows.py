@@ -1,17 +1,18 @@
 """./plan rows: the rows of a plan as `list` prints them, or those of them that are asked for."""
 
 import argparse
+import dataclasses
 import itertools
 import json
 import re
 import sys
-from collections.abc import Iterable, Iterator
+from collections.abc import Callable, Iterable, Iterator
 from typing import NamedTuple
 
 from opcplan.cli import colours, words
 from opcplan.commands import export, late
 from opcplan.commands.export import Occurrence
-from opcplan.errors import WrongWords
+from opcplan.errors import UsageError
 from opcplan.plans import plan_file, waits
 from opcplan.plans.plan_file import Plan
 from opcplan.rules import moments, printable
@@ -19,8 +20,8 @@ from opcplan.rules.naming_words import meant_text
 from opcplan.rules.statuses import UNFINISHED
 
 SUMMARY = "the rows of a list that meet a filter, as `list` prints them, as CSV or as JSON"
-STATUSES = {told: letter for letter, told in export.STATUSES.items()}
-BY_WORD = ", ".join(f"{told.replace(' ', '-')} ({letter})" for told, letter in STATUSES.items())
+STATUSES = {name: letter for letter, name in export.STATUSES.items()}
+BY_WORD = ", ".join(f"{name.replace(' ', '-')} ({letter})" for name, letter in STATUSES.items())
 # the sets whose rows have a status
 WITH_STATUS = ("cp", "history")
 MOST_HELD = 20_000  # rows that are held, so that a file is read as it is
@@ -32,6 +33,21 @@ class Found(NamedTuple):
     text: str
     number: int
     notes: list[str]
+
+
+@dataclasses.dataclass(frozen=True)
+class Settings:
+    """The list, the filters of its rows, the moment at which they are late, and how they are printed."""
+
+    what: str | None
+    app: str | None
+    first: int | None
+    last: int | None
+    status: set[str] | None
+    late: bool
+    now: int | None
+    form: Callable[[Plan, Iterable[Occurrence]], Iterator[str]]
+    color: str
 
 
 def add_words(parser: words.Parser) -> None:
@@ -99,25 +115,31 @@ def statuses(text: str) -> set[str]:
 
 def run(given: argparse.Namespace) -> int:
     """Does what the words ask for; the exit status."""
+    return printed(Settings(given.what, given.app, given.first, given.last, given.status, given.late, given.now,
+                            given.form, given.color), given.plan)
+
+
+def printed(given: Settings, path: str) -> int:
+    """Prints the rows of a plan that are asked for; the exit status."""
     wrong = fault_of(given)
     if wrong:
-        raise WrongWords(wrong)
+        raise UsageError(wrong)
     now = moments.now() if given.now is None else given.now
     color = given.color if given.form is list_texts else "never"
     is_filtered = given.late or any(one is not None for one in (given.app, given.first, given.last, given.status))
-    found = plan_file.answer(given.plan, lambda plan: few(plan, given, now)) if is_filtered else None
+    found = plan_file.answer(path, lambda plan: few(plan, given, now)) if is_filtered else None
     if found is not None:
         sys.stdout.write(colours.text(found.text, color, colours.of_row))
         count, notes = found.number, found.notes
     else:
-        with plan_file.opened(given.plan) as plan:
+        with plan_file.opened(path) as plan:
             seen = Counted(wanted(plan, given, now))
             with export.shown(plan, seen, sets_of(given)) as passing:
                 for text in given.form(plan, passing):
                     sys.stdout.write(colours.text(text, color, colours.of_row))
             count, notes = seen.count, notes_on(plan, given, now)
     for note in notes:
-        words.tell(note)
+        words.print_message(note)
     return 0 if count else 1
 
 
@@ -133,7 +155,7 @@ class Counted:
             yield one
 
 
-def few(plan: Plan, given: argparse.Namespace, now: int) -> Found | None:
+def few(plan: Plan, given: Settings, now: int) -> Found | None:
     """What is printed of rows that aren't many, or None."""
     rows = list(itertools.islice(wanted(plan, given, now), MOST_HELD + 1))
     if len(rows) > MOST_HELD:
@@ -141,9 +163,9 @@ def few(plan: Plan, given: argparse.Namespace, now: int) -> Found | None:
     return Found("".join(given.form(plan, rows)), len(rows), notes_on(plan, given, now))
 
 
-def fault_of(given: argparse.Namespace) -> str | None:
+def fault_of(given: Settings) -> str | None:
     """What is wrong with words that don't go together, or None."""
-    if None not in (given.first, given.last) and given.last < given.first:
+    if given.first is not None and given.last is not None and given.last < given.first:
         return "--to is before --from"
     if given.now is not None and not given.late:
         return "--now says as of when something is late, so it goes with --late"
@@ -154,18 +176,18 @@ def fault_of(given: argparse.Namespace) -> str | None:
     return None
 
 
-def sets_of(given: argparse.Namespace) -> list[str]:
+def sets_of(given: Settings) -> list[str]:
     """The sets whose rows are asked for."""
     return [given.what] if given.what else ["cp"] if given.late else export.USUAL
 
 
-def wanted(plan: Plan, given: argparse.Namespace, now: int) -> Iterator[Occurrence]:
+def wanted(plan: Plan, given: Settings, now: int) -> Iterator[Occurrence]:
     """The rows of the sets that meet all filters."""
     found = export.occurrences(plan.db, sets_of(given), given.app, given.first, given.last)
     return (one for one in found if is_wanted(one, given, now))
 
 
-def is_wanted(one: Occurrence, given: argparse.Namespace, now: int) -> bool:
+def is_wanted(one: Occurrence, given: Settings, now: int) -> bool:
     """Whether a row meets the filters by its status."""
     return bool(
         (not given.status or one.status in given.status)
@@ -173,7 +195,7 @@ def is_wanted(one: Occurrence, given: argparse.Namespace, now: int) -> bool:
     )
 
 
-def notes_on(plan: Plan, given: argparse.Namespace, now: int) -> list[str]:
+def notes_on(plan: Plan, given: Settings, now: int) -> list[str]:
     """What is to be said of the moment, and of a plan and an application of which there can be no rows."""
     notes = late.notes_on(plan, now) if given.late else []
     if not plan.is_created:

@@ -1,16 +1,18 @@
 """./plan run: checks a stream, shows what it would change, asks, and runs it by opcplan."""
 
 import argparse
+import contextlib
+import dataclasses
 import difflib
 import os
-import re
 import secrets
 import sys
+from collections.abc import Iterator, Sequence
 
 from opcplan.cli import colours, words
-from opcplan.commands import check, desk_plan, trial_words, what_if
+from opcplan.commands import check, desk_plan, desk_stream, trial_words, what_if
 from opcplan.desk import client
-from opcplan.errors import Error, Unreadable, Unwritable, WrongWords
+from opcplan.errors import Error, Unreadable, Unwritable, UsageError
 from opcplan.plans import job_numbers, locks, plan_file, stream_file, stream_state, tempfiles, trial
 from opcplan.plans.stream_state import Known
 from opcplan.plans.trial import Trial
@@ -19,6 +21,20 @@ from opcplan.rules.stream import Item
 
 SUMMARY = "checks a stream, shows what it would change, asks, and runs it"
 MOST_ROWS = 20  # of the table of occurrences
+TURNS = 9  # how often a stream is tried anew while others change the plan of a desk
+
+
+@dataclasses.dataclass(frozen=True)
+class Settings:
+    """The plan of a file or of a desk, the stream, the planner, and how it is run."""
+
+    plan: str | None
+    stream: str
+    program: str | None
+    desk: str | None = None
+    is_agreed: bool = False  # whether it is run without asking
+    color: str = "never"
+    is_new: bool = False
 
 
 def add_words(parser: words.Parser) -> None:
@@ -26,10 +42,10 @@ def add_words(parser: words.Parser) -> None:
     parser.description = (
         "Checks STREAM over PLAN.db as `./plan check` does, shows what it would change as `./plan what-if` does, asks, "
         "and then runs it by opcplan --db, each refusal explained below its answer. With --desk the plan is that of a "
-        "desk: the stream is tried on a copy that the desk gives, and sent to it; what others ask the desk meanwhile "
-        "isn't in the copy. The exit status is that of opcplan "
-        "(0 all accepted, 4 some refused, 8 a fault); 1 where nothing was run, 2 where the words are wrong. "
-        + stream.BOUND
+        "desk: the stream is tried on a copy that the desk gives, and sent to it on the condition that nobody changed "
+        "the plan since. Where somebody did, the rest is tried again, and you are asked again if it would change "
+        "something else. The exit status is that of opcplan (0 all accepted, 4 some refused, 8 a fault); 1 where "
+        "nothing was run, or a desk didn't do all of it; 2 where the words are wrong. " + stream.BOUND
     )
     parser.add_argument("plan", metavar="PLAN.db", nargs="?", type=words.file,
                         help="the file that opcplan --db keeps (not with --desk)")
@@ -45,69 +61,145 @@ def add_words(parser: words.Parser) -> None:
 
 def run(given: argparse.Namespace) -> int:
     """Does what the words ask for; the exit status."""
+    return run_stream(Settings(given.plan, given.stream, given.program, given.desk, given.yes, given.color, given.new))
+
+
+def run_stream(given: Settings) -> int:
+    """Runs a stream over a file, or has a desk do it; the exit status."""
     desk = given.desk or (client.usual() if given.plan is None else None)
-    if (desk is None) == (given.plan is None) or desk is not None and given.new:
-        raise WrongWords("PLAN.db or --desk DESK is wanted, one of them, and --new goes with PLAN.db; ./plan run "
+    if desk is None and given.plan is not None:
+        return run_over_file(given, given.plan)
+    if desk is None and plan_file.is_database(given.stream):
+        raise UsageError(f"{given.stream} is a database, and the stream is missing: ./plan run {given.stream} STREAM; "
+                         "./plan run --help says more")
+    if desk is None or given.plan is not None or given.is_new:
+        raise UsageError("PLAN.db or --desk DESK is wanted, one of them, and --new goes with PLAN.db; ./plan run "
                          "--help says more")
-    return run_by_desk(given, desk_plan.of_words(desk)) if desk else run_over_file(given)
+    return run_by_desk(given, desk_plan.of_words(desk))
 
 
-def run_over_file(given: argparse.Namespace) -> int:
+def run_over_file(given: Settings, plan: str) -> int:
     """Runs a stream over the plan of a file; the exit status."""
-    ask_file(given.plan, given.new)
-    path = os.path.realpath(given.plan)
+    ask_file(plan, given.is_new)
+    path = os.path.realpath(plan)
     before = plan_file.stamps(path)
-    with trial.tried(None if given.new else given.plan, given.stream, check.checked, given.program) as tried:
+    with trial.tried(None if given.is_new else plan, given.stream, check.checked, given.program) as tried:
         agree(tried, given)
         if plan_file.stamps(path) != before:
-            raise Error(f"{given.plan} was written to meanwhile; ask again: nothing was done")
+            raise Error(f"{plan} was written to meanwhile; ask again: nothing was done")
         answers = f"{tried.stream}.out"
-        status, said = trial.done(tried, os.path.abspath(given.plan), answers)
+        named = os.path.abspath(plan)
+        status, said = trial.done(tried, named, answers)
         for line in said.splitlines():
-            print(printable.fit(re.sub(r"\bFILE\b", lambda _: str(given.plan), line)), file=sys.stderr)
+            print(printable.fit(line.replace(named, plan)), file=sys.stderr)
         status = status if status >= 0 else 128 - status
         try:
             show_answers(tried, answers, given.color)
             sys.stdout.flush()
         except (OSError, Unwritable) as error:
-            words.tell(f"it was run, with status {status}; its answers can't be shown: {why_of(error)}")
+            words.print_message(f"it was run, with status {status}; its answers can't be shown: {why_of(error)}")
     return status
 
 
-def agree(tried: Trial[check.Checked], given: argparse.Namespace) -> None:
+def agree(tried: Trial[check.Checked], given: Settings) -> None:
     """Shows what a stream would change, and asks whether it shall be run. Raises Error where it isn't."""
     try:
         show(tried, given.color)
     except (OSError, Unwritable) as error:
         raise Error(f"what would change can't be shown: {why_of(error)}: nothing was done") from None
     if tried.found.end or tried.status not in trial.SOUND:
-        trial_words.tell_end(tried)
+        trial_words.print_end(tried)
         raise Error("the trial didn't come to its end: nothing was done")
-    if not given.yes:
+    if not given.is_agreed:
         ask()
 
 
-def run_by_desk(given: argparse.Namespace, desk: client.Client) -> int:
+def run_by_desk(given: Settings, desk: client.Client) -> int:
     """Has a desk do a stream, once it was tried on a copy of its plan and somebody said so; the exit status."""
-    used = secrets.token_hex(16)
-    with desk_plan.copied(desk) as path, tempfiles.folder("sent-") as folder:
+    used, refused, done = secrets.token_hex(16), False, 0
+    with tempfiles.folder("sent-") as folder:
         with stream_file.opened(given.stream) as source:
             sent = b"".join(source.pieces())
-        numbered = os.path.join(folder, "stream.in")
-        with plan_file.opened(path) as plan, open(numbered, "wb") as file:
-            file.write(desk_plan.numbered(sent, job_numbers.after_desk(plan.db)))
-        with trial.tried(path, numbered, check.checked, given.program) as tried:
-            agree(tried, given)
-            answers = os.path.join(folder, "answers")
-            with open(answers, "wb") as file:
-                file.write(desk_plan.answer(desk, sent, used))
-            try:
-                show_answers(tried, answers, given.color)
-                sys.stdout.flush()
-            except (OSError, Unwritable) as error:
-                words.tell(f"{desk.name} did it; its answers can't be shown: {why_of(error)}")
-            with open(answers, "rb") as file:
-                return 4 if any(line.startswith(b"refused") for line in file) else 0
+        whole = desk_stream.parts(sent)
+        earlier: Tried | None = None
+        for turn in range(TURNS):
+            now = Tried(desk_stream.copied(desk, os.path.join(folder, f"plan-{turn}.db")), whole, done)
+            with tried_rest(given, folder, now) as tried:
+                agree_again(given, folder, tried, earlier, now)
+                answers = desk_stream.answers(desk, sent, used, now.copy.tag)[done:]
+                show_part(given, desk, tried, desk_stream.written(os.path.join(folder, "answers"), answers),
+                          len(whole[done:]) - len(answers))
+            refused |= any(desk_stream.is_refusal(one) for one in answers)
+            done += len(answers)
+            if done == len(whole):
+                return 4 if refused else 0
+            words.print_message(f"somebody changed the plan of {desk.name} meanwhile: {done_text(done, whole)}; the "
+                                "rest is tried on the plan as it is now")
+            earlier = now
+    raise Error(f"others change the plan of {desk.name} all the while: {done_text(done, whole)}, and nothing else")
+
+
+@dataclasses.dataclass(frozen=True)
+class Tried:
+    """A copy of a desk's plan, and the statements of the stream, of which so many were done before it."""
+
+    copy: desk_stream.Copy
+    whole: list[bytes]
+    done: int
+
+
+@contextlib.contextmanager
+def tried_rest(given: Settings, folder: str, now: Tried, base: str | None = None) -> Iterator[Trial[check.Checked]]:
+    """A trial of what isn't done yet, over a copy, or over the plan of another file, with the numbers that a desk would
+    give now."""
+    path = base or now.copy.path
+    with plan_file.opened(path) as plan:
+        text = desk_plan.numbered(b"".join(now.whole[now.done:]), job_numbers.after_desk(plan.db))
+    name = desk_stream.written(os.path.join(folder, "rest.in"), [text])
+    with trial.tried(path, name, check.checked, given.program) as tried:
+        yield tried
+
+
+def agree_again(
+    given: Settings, folder: str, tried: Trial[check.Checked], earlier: Tried | None, now: Tried
+) -> None:
+    """Shows what the rest of a stream would change, and asks, unless it is what somebody agreed to before. Raises
+    Error."""
+    if earlier is not None and shown_text(tried) == agreed_text(given, folder, earlier, now):
+        return
+    try:
+        agree(tried, given)
+    except Error as why:
+        if not now.done:
+            raise
+        text = str(why).replace("nothing was done", "nothing else was done")
+        raise Error(f"{done_text(now.done, now.whole)}; {text}") from None
+
+
+def agreed_text(given: Settings, folder: str, earlier: Tried, now: Tried) -> str:
+    """What the rest would have changed behind what was done of an earlier trial, had nobody else changed the plan."""
+    part = Tried(earlier.copy, now.whole[:now.done], earlier.done)
+    if now.done == earlier.done:
+        with tried_rest(given, folder, earlier) as tried:
+            return shown_text(tried)
+    with tried_rest(given, folder, part) as before, tried_rest(given, folder, now, before.after.path) as tried:
+        return shown_text(tried)
+
+
+def done_text(done: int, whole: Sequence[bytes]) -> str:
+    """How many statements were done."""
+    return f"{done} of {len(whole)} statements {'is' if done == 1 else 'are'} done"
+
+
+def show_part(
+    given: Settings, desk: client.Client, tried: Trial[check.Checked], answers: str, left: int
+) -> None:
+    """Shows what a desk answered to a stream that was tried, up to its last statements, which it didn't do."""
+    try:
+        show_answers(tried, answers, given.color, left)
+        sys.stdout.flush()
+    except (OSError, Unwritable) as error:
+        words.print_message(f"{desk.name} did it; its answers can't be shown: {why_of(error)}")
 
 
 def ask_file(path: str, is_new: bool) -> None:
@@ -127,9 +219,13 @@ def ask_file(path: str, is_new: bool) -> None:
 
 def show(tried: Trial[check.Checked], color: str) -> None:
     """Prints what is found of a stream and what it would change."""
+    print(colours.text(shown_text(tried), color), flush=True)
+
+
+def shown_text(tried: Trial[check.Checked]) -> str:
+    """What is found of a stream and what it would change."""
     changed = what_if.difference(tried.plan, tried.after, MOST_ROWS)
-    text = "\n".join([*check.lines_of(tried.found), printable.text(changed), ""])
-    print(colours.text(text, color), flush=True)
+    return "\n".join([*check.lines_of(tried.found), printable.text(changed), ""])
 
 
 def ask() -> None:
@@ -146,8 +242,9 @@ def why_of(error: Exception) -> str:
     return error.strerror if isinstance(error, OSError) else str(error)
 
 
-def show_answers(tried: Trial[check.Checked], path: str, color: str) -> None:
-    """Prints what opcplan answered, each refusal with its explanation below it."""
+def show_answers(tried: Trial[check.Checked], path: str, color: str, left: int = 0) -> None:
+    """Prints what opcplan answered, each refusal with its explanation below it; the last statements, so many of them,
+    weren't done."""
     now = stream_state.of_plan(tried.plan)
     rows: list[str] = []
 
@@ -157,11 +254,13 @@ def show_answers(tried: Trial[check.Checked], path: str, color: str) -> None:
 
     with stream_file.opened(tried.stream) as text, stream_file.opened(path, trial.OF_ANSWERS) as answers:
         try:
-            for item, reply in explanations.answered(stream.items(text), answers, see):
+            items = [*stream.items(text)]
+            for item, reply in explanations.answered(iter(items[:len(items) - left]), answers, see):
                 print(colours.text(printable.text([*rows, *reply_lines(item, reply, now)]), color))
                 rows.clear()
-        except explanations.Unlike as why:
-            words.tell(f"{tried.program}: it doesn't answer as opcplan does: {why}; all that it answered follows")
+        except explanations.OutputMismatch as why:
+            words.print_message(f"{tried.program}: it doesn't answer as opcplan does: {why}; all that it answered "
+                                "follows")
             show_raw(path)
 
 
@@ -171,9 +270,9 @@ def reply_lines(item: Item | None, reply: str | None, now: Known) -> list[str]:
         return explanations.end_lines(item, reply)
     if item is None or reply.startswith("fault"):
         return [reply, f"    {explanations.fault_text(reply)}"]
-    told = explanations.refusal_lines(item, reply, now)[:-1] if reply.startswith("refused") else []
+    lines = explanations.refusal_lines(item, reply, now)[:-1] if reply.startswith("refused") else []
     now.take(item, reply)
-    return [reply, *(f"    {line.strip()}" for line in told if line.strip() != reply)]
+    return [reply, *(f"    {line.strip()}" for line in lines if line.strip() != reply)]
 
 
 def show_raw(path: str) -> None:

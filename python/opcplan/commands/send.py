@@ -13,6 +13,7 @@ import os
 import random
 import re
 import secrets
+import shlex
 import subprocess
 import sys
 import time
@@ -22,7 +23,7 @@ from typing import NamedTuple
 from opcplan.cli import words
 from opcplan.commands import desk_view, keys, rows
 from opcplan.desk import client
-from opcplan.errors import Error, Unreadable, Unwritable, WrongWords
+from opcplan.errors import Error, Unreadable, Unwritable, UsageError
 from opcplan.plans import entry, job_numbers, journal, locks, plan_definitions, plan_file, printed_numbers
 from opcplan.plans import stream_file, stream_state, waits
 from opcplan.plans.program import built_program
@@ -32,17 +33,17 @@ from opcplan.rules.naming_words import meant_text
 Ran = subprocess.CompletedProcess[bytes]
 SUMMARY = "sends a statement in words, or a job stream, to a desk or a plan, and waits for it"
 FAILED = 8
-HELD = b"another program has FILE open"
+HELD = b"another program has the file open"
 # how often a number that another stream took meanwhile is replaced
 TRIES = 9
 SHORT = (*statements.ACTS, "add")
 
 
-class Refused(WrongWords):
+class StatementNotSent(UsageError):
     """Why words are not sent."""
 
 
-class Unsent(Error):
+class StreamNotSent(Error):
     """Why a stream isn't sent, or what it was answered isn't known here."""
 
     exit_status = FAILED
@@ -53,6 +54,19 @@ class Line(NamedTuple):
 
     text: str
     lacks_job: bool
+
+
+@dataclasses.dataclass(frozen=True)
+class Settings:
+    """The desk, or the plan of a file; how long it is tried, the key of a desk, the planner, and the words of a
+    statement, or none where the stream is on standard input."""
+
+    desk: str | None
+    plan: str | None
+    wait: float
+    key: str | None
+    program: str | None
+    words: list[str]
 
 
 def add_words(parser: words.Parser) -> None:
@@ -106,40 +120,61 @@ def key(text: str) -> str:
 
 def run(given: argparse.Namespace) -> int:
     """Does what the words ask for; the exit status."""
+    return sent_to(Settings(given.desk, given.db, given.wait, given.key, given.program, given.words))
+
+
+def sent_to(given: Settings) -> int:
+    """Has a desk answer, or runs the stream over the plan of a file; the exit status."""
     until = time.monotonic() + given.wait
-    if given.db is None and given.desk is None:
-        raise WrongWords("one of --desk and --db is wanted; ./plan send --help says more")
+    if lack := option_lacked(given.words):
+        raise UsageError(f"{lack}; nothing was sent")
+    if given.plan is None and given.desk is None:
+        raise UsageError("one of --desk and --db is wanted; ./plan send --help says more")
     try:
-        desk = client.Client(given.desk, client.token()) if given.db is None else None
-        line = line_of(with_key(given.db, desk, parts(given.words))) if given.words else None
-    except WrongWords as why:
-        raise WrongWords(f"{why}; nothing was sent") from None
-    except (Unreadable, client.Away, client.Refused) as why:
-        raise Unsent(f"{why}; nothing was sent") from None
+        desk = client.Client(given.desk, client.token()) if given.plan is None and given.desk is not None else None
+        line = line_of(with_key(given.plan, desk, parts(given.words))) if given.words else None
+    except UsageError as why:
+        raise UsageError(f"{why}; nothing was sent") from None
+    except (Unreadable, client.DeskUnreachable, client.RequestRefused) as why:
+        raise StreamNotSent(f"{why}; nothing was sent") from None
     except OSError as error:
-        raise Unsent(f"{error.filename}: the token can't be read: {error.strerror}; nothing was sent") from None
+        raise StreamNotSent(f"{error.filename}: the token can't be read: {error.strerror}; nothing was sent") from None
     if desk is not None:
-        return run_by_desk(given, desk, line, until)
+        return run_by_desk(desk, given.key, line, until)
+    assert given.plan is not None, "without a desk there is a plan"
+    return run_over_file(given.plan, given.program, line, until)
+
+
+def option_lacked(given: list[str]) -> str:
+    """That a plan or a desk stands before the words of a statement without its option, and what to type; or nothing."""
+    first = given[0] if given else ""
+    option = "--db" if words.is_database(first) else "--desk" if first.startswith(("http://", "https://")) else ""
+    typed = shlex.join([*words.CALLED.split(), "send", option, *given])
+    return f"{first} needs its option: {typed}" if option else ""
+
+
+def run_over_file(path: str, planner: str | None, line: Line | None, until: float) -> int:
+    """Runs a stream or a statement over the plan of a file, and prints what is answered; the exit status."""
     try:
-        told: list[str] | None = None
-        check_file(given.db)
-        program = os.path.abspath(given.program or built_program())
+        explained: list[str] | None = None
+        check_file(path)
+        program = os.path.abspath(planner or built_program())
         if line is None:
             text = text_sent()
-            ran = sent(program, given.db, text, until)
+            ran = sent(program, path, text, until)
         else:
-            text, ran, told = sent_in_turn(program, given.db, line, until)
-    except Refused as why:
-        raise Refused(f"{why}; nothing was sent") from None
+            text, ran, explained = sent_in_turn(program, path, line, until)
+    except StatementNotSent as why:
+        raise StatementNotSent(f"{why}; nothing was sent") from None
     except Unreadable as why:
-        raise Unsent(str(why)) from None
-    except locks.Held:
-        raise Unsent(f"{given.db}: another program sends to it all the while; nothing was sent") from None
+        raise StreamNotSent(str(why)) from None
+    except locks.FileLocked:
+        raise StreamNotSent(f"{path}: another program sends to it all the while; nothing was sent") from None
     except OSError as error:
-        raise Unsent(f"{error.filename or 'standard input'}: {error.strerror}; nothing was sent") from None
-    status = shown(text, ran, told=told, path=given.db)
-    if is_held(ran) and locks.is_held(given.db, locks.OF_A_DESK):
-        words.tell(f"{given.db}: a desk has it; `./plan send --desk DESK ..` asks that desk")
+        raise StreamNotSent(f"{error.filename or 'standard input'}: {error.strerror}; nothing was sent") from None
+    status = shown(text, ran, explained=explained, path=path)
+    if is_held(ran) and locks.is_held(path, locks.OF_A_DESK):
+        words.print_message(f"{path}: a desk has it; `./plan send --desk DESK ..` asks that desk")
     return status
 
 
@@ -160,9 +195,9 @@ def text_sent() -> bytes:
 # By a desk.
 
 
-def run_by_desk(given: argparse.Namespace, desk: client.Client, line: Line | None, until: float) -> int:
+def run_by_desk(desk: client.Client, given_key: str | None, line: Line | None, until: float) -> int:
     """Has a desk answer, and prints that; the exit status."""
-    used = given.key or secrets.token_hex(16)
+    used = given_key or secrets.token_hex(16)
     view = desk_view.View(desk)
     try:
         if line is not None:
@@ -170,41 +205,41 @@ def run_by_desk(given: argparse.Namespace, desk: client.Client, line: Line | Non
         text = text_sent() if line is None else f"{line.text}\n".encode("ascii")
         answer = desk.statements(text, used, until)
     except Unreadable as why:
-        raise Unsent(str(why)) from None
-    except Refused as why:
-        raise Refused(f"{why}; nothing was sent") from None
-    except client.Refused as why:
-        raise Unsent(f"{desk.name}: {why}") from None
-    except client.Away as why:
-        told = f"send it again with `--key {used}`, and nothing is done twice"
+        raise StreamNotSent(str(why)) from None
+    except StatementNotSent as why:
+        raise StatementNotSent(f"{why}; nothing was sent") from None
+    except client.RequestRefused as why:
+        raise StreamNotSent(f"{desk.name}: {why}") from None
+    except client.DeskUnreachable as why:
+        advice = f"send it again with `--key {used}`, and nothing is done twice"
         if "may be done all the same" not in str(why):
-            told = f"it may be done all the same: {told}"
-        raise Unsent(f"{why}; {told if why.may_be_done else 'nothing was sent'}") from None
+            advice = f"it may be done all the same: {advice}"
+        raise StreamNotSent(f"{why}; {advice if why.may_be_done else 'nothing was sent'}") from None
     ran = subprocess.CompletedProcess([], 4 if has_refusals(answer) else 0, answer, b"")
-    return shown(text, ran, used, None if line is None else told_by_desk(view, text, answer))
+    return shown(text, ran, used, None if line is None else explained_by_desk(view, text, answer))
 
 
 def ask_of_desk(view: desk_view.View, line: Line) -> None:
     """Asks that a statement names an application that a desk's plan has, where the desk can be asked now. Raises
-    Refused."""
+    StatementNotSent."""
     statement = statement_of(line)
     if statement is None or not statements.KINDS[statement.name].is_on_key:
         return
-    with contextlib.suppress(client.Away, client.Refused):
+    with contextlib.suppress(client.DeskUnreachable, client.RequestRefused):
         if lack := view.lack_of(statement.values["app"]):
-            raise Refused(lack)
+            raise StatementNotSent(lack)
 
 
-def told_by_desk(view: desk_view.View, text: bytes, answer: bytes) -> list[str] | None:
+def explained_by_desk(view: desk_view.View, text: bytes, answer: bytes) -> list[str] | None:
     """What the refusal of one statement means by what a desk's plan has now; None where it isn't asked about that."""
     (item,) = items_of(stream.Source(io.BytesIO(text), "what was sent"))
     asked = item.statement
     if asked is None or not statements.KINDS[asked.name].is_on_key or not has_refusals(answer):
         return None
-    with contextlib.suppress(client.Away, client.Refused):
-        told = refusal_lines(text, answer, items_of, view.known(asked))
+    with contextlib.suppress(client.DeskUnreachable, client.RequestRefused):
+        lines = refusal_lines(text, answer, items_of, view.known(asked))
         done = view.since(asked) if answer == b"refused 29\n" else None
-        return [*told, f"    {done.text()}"] if done else told
+        return [*lines, f"    {done.text()}"] if done else lines
     return None
 
 
@@ -235,7 +270,7 @@ def parts(given: list[str]) -> list[str]:
 
 def with_key(path: str | None, desk: client.Client | None, given: list[str]) -> list[str]:
     """The words of a statement, in which the serial of `start 11` is replaced by what has it in a plan, of a file or of
-    a desk. Raises Refused, Unreadable, Away and client.Refused."""
+    a desk. Raises StatementNotSent, Unreadable, DeskUnreachable and client.RequestRefused."""
     if given[0] not in statements.ACTS or not re.fullmatch("[1-9][0-9]{0,8}", "".join(given[1:2])):
         return given
     if len(given) > 2 and not given[2].startswith("-"):
@@ -245,26 +280,28 @@ def with_key(path: str | None, desk: client.Client | None, given: list[str]) -> 
 
 
 def key_in_file(path: str | None, serial: int) -> tuple[str, str]:
-    """Application and input arrival of a serial in the plan of a file. Raises Refused and Unreadable."""
+    """Application and input arrival of a serial in the plan of a file. Raises StatementNotSent and Unreadable."""
     assert path is not None, "a statement goes to a file or to a desk"
     check_file(path)
     with plan_file.opened(path) as plan:
         found = keys.rows_of(plan, keys.Key(serial, None, None))
         if found is None:
-            raise Refused(keys.unknown_text(plan, serial).removesuffix("."))
+            raise StatementNotSent(keys.unknown_text(plan, keys.Key(serial, None, None)).removesuffix("."))
     return found.app, moments.moment_word(found.ia)
 
 
 def key_at_desk(desk: client.Client, serial: int) -> tuple[str, str]:
-    """Application and input arrival of a serial in the plan of a desk. Raises Refused, Away and client.Refused."""
+    """Application and input arrival of a serial in the plan of a desk. Raises StatementNotSent, DeskUnreachable and
+    client.RequestRefused."""
     found = desk_view.View(desk).key_of(serial)
     if found is None:
-        raise Refused(f"neither the current plan nor the long-term plan of {desk.name} has the serial {serial}")
+        raise StatementNotSent(f"neither the current plan nor the long-term plan of {desk.name} has the serial "
+                               f"{serial}")
     return found
 
 
 def line_of(given: list[str]) -> Line:
-    """The line of a statement in words. Raises Refused."""
+    """The line of a statement in words. Raises StatementNotSent."""
     spelled = in_full(list(map(as_word, given)))
     found, wrong = statement_words.read(spelled)
     if found is None:
@@ -272,7 +309,7 @@ def line_of(given: list[str]) -> Line:
         if found is None:
             gets_job = spelled[0] in statements.KINDS and statements.KINDS[spelled[0]].changes
             has_job = any(word.startswith("--job") for word in spelled)
-            raise Refused(wrong_with_job if gets_job and not has_job else wrong)
+            raise StatementNotSent(wrong_with_job if gets_job and not has_job else wrong)
         return Line(" ".join(spelled), True)
     return Line(" ".join(spelled), False)
 
@@ -287,7 +324,7 @@ def in_full(given: list[str]) -> list[str]:
     """The words of a statement, where `start APP D/HH.MM` stands for `cp-start --app APP --ia D/HH.MM`."""
     name, *rest = given
     if name == "define":
-        raise Refused("`define` has data: send it in a stream")
+        raise StatementNotSent("`define` has data: send it in a stream")
     if name in statements.KINDS and statements.KINDS[name].is_on_key and not any(
         word.startswith("-") for word in rest[:2]
     ) and len(rest) > 1:
@@ -296,15 +333,16 @@ def in_full(given: list[str]) -> list[str]:
         return given
     if len(rest) < 2 or rest[0].startswith("-") or rest[1].startswith("-"):
         serial = f", or a serial, as `{name} 11`" if name in statements.ACTS else ""
-        raise Refused(f"`{name}` takes an application and its input arrival, as `{name} PAY 2024-01-31/08.00`{serial}")
+        raise StatementNotSent(f"`{name}` takes an application and its input arrival, as `{name} PAY "
+                               f"2024-01-31/08.00`{serial}")
     app, ia, *others = rest
     return [f"cp-{name}", "--app", app.upper(), "--ia", ia, *others]
 
 
 def sent_in_turn(program: str, path: str, line: Line, until: float) -> tuple[bytes, Ran, list[str] | None]:
     """The text, what it was answered and the lines on a refusal (None: they aren't made here), for a line that may
-    lack its job number. Who sends such lines takes turns, so that two never get one number. Raises Held, Unreadable
-    and Refused."""
+    lack its job number. Who sends such lines takes turns, so that two never get one number. Raises FileLocked,
+    Unreadable and StatementNotSent."""
     if not line.lacks_job:
         text = f"{line.text}\n".encode("ascii")
         return text, sent(program, path, text, until), None
@@ -315,25 +353,25 @@ def sent_in_turn(program: str, path: str, line: Line, until: float) -> tuple[byt
                 with plan_file.opened(path) as plan:
                     whole = f"{line.text} --job {next_number(path, plan)}"
                     ask_application(plan, whole)
-                    words.tell(f"sends `{whole}`")
+                    words.print_message(f"sends `{whole}`")
                     text = f"{whole}\n".encode("ascii")
                     ran = sent(program, path, text, until)
-                    told = told_by_plan(plan, text, ran.stdout)
+                    explained = explained_by_plan(plan, text, ran.stdout)
                 if ran.stdout != b"refused 12\n":  # no stream took the number meanwhile
                     break
-        return text, ran, told
+        return text, ran, explained
     finally:
         os.close(number)
 
 
-def told_by_plan(plan: plan_file.Plan, text: bytes, answered: bytes) -> list[str]:
+def explained_by_plan(plan: plan_file.Plan, text: bytes, answered: bytes) -> list[str]:
     """What the refusal of one statement means, over a plan as it was before."""
-    told = refusal_lines(text, answered, stream.items, stream_state.of_plan(plan))
+    lines = refusal_lines(text, answered, stream.items, stream_state.of_plan(plan))
     (item,) = stream.items(stream.Source(io.BytesIO(text), "what was sent"))
     if answered != b"refused 29\n" or item.statement is None:
-        return told
+        return lines
     done = last_job(plan, item.statement)
-    return [*told, f"    {done.text()}"] if done else told
+    return [*lines, f"    {done.text()}"] if done else lines
 
 
 def last_job(plan: plan_file.Plan, statement: statement_words.Statement) -> desk_view.Done | None:
@@ -349,7 +387,8 @@ def last_job(plan: plan_file.Plan, statement: statement_words.Statement) -> desk
 
 
 def ask_application(plan: plan_file.Plan, line: str) -> None:
-    """Asks that an occurrence is named of an application that the plan defines, or has rows of. Raises Refused."""
+    """Asks that an occurrence is named of an application that the plan defines, or has rows of. Raises
+    StatementNotSent."""
     statement, _ = statement_words.read(line.split(" "))
     if statement is None or not statements.KINDS[statement.name].is_on_key:
         return
@@ -357,7 +396,7 @@ def ask_application(plan: plan_file.Plan, line: str) -> None:
     if rows.is_known(plan, app):
         return
     known = plan_definitions.of_plan(plan).applications
-    raise Refused(f"the application {app} isn't defined{meant_text(app, known)}")
+    raise StatementNotSent(f"the application {app} isn't defined{meant_text(app, known)}")
 
 
 def next_number(path: str, plan: plan_file.Plan) -> int:
@@ -387,7 +426,7 @@ def is_held(ran: Ran) -> bool:
 
 
 def shown(
-    text: bytes, ran: Ran, used: str | None = None, told: list[str] | None = None, path: str = "FILE"
+    text: bytes, ran: Ran, used: str | None = None, explained: list[str] | None = None, path: str = "FILE"
 ) -> int:
     """Prints what was answered, by a desk under a key that was used or over the file of a path, and what refusals mean,
     as is told or by the text alone; the exit status."""
@@ -396,12 +435,13 @@ def shown(
         sys.stdout.buffer.write(ran.stdout)
         sys.stdout.buffer.flush()
     except (OSError, Unwritable) as error:
-        raise Unsent(f"the replies can't be printed: {error}; what was sent was answered, so send it again with "
-                     f"{'`--key ' + used + '`' if used else 'its job numbers'}, and nothing is done twice") from None
+        raise StreamNotSent(f"the replies can't be printed: {error}; what was sent was answered, so send it again with "
+                            f"{'`--key ' + used + '`' if used else 'its job numbers'}, and nothing is done "
+                            "twice") from None
     with contextlib.suppress(OSError):
-        lines = ran.stderr.decode(errors="surrogateescape").splitlines()
-        said = [printable.fit(re.sub(r"\bFILE\b", lambda _: path, line)) for line in lines]
-        said += refusal_lines(text, ran.stdout, items_of if used else stream.items) if told is None else told
+        message = ran.stderr.decode(errors="surrogateescape").replace(os.path.abspath(path), path)
+        said = [printable.fit(line) for line in message.splitlines()]
+        said += refusal_lines(text, ran.stdout, items_of if used else stream.items) if explained is None else explained
         sys.stderr.writelines(f"{line}\n" for line in said)
         sys.stderr.flush()
     return ran.returncode if ran.returncode in (0, 4) else FAILED
@@ -424,6 +464,6 @@ def refusal_lines(
                       for data in (text, answered))
     try:
         lines, _, _ = explanations.explained(items(asked), answers, now or stream_state.Known())
-    except explanations.Unlike as why:
+    except explanations.OutputMismatch as why:
         return [printable.fit(f"plan: the planner doesn't answer as opcplan does: {why}")]
     return ["\n".join(lines).rstrip("\n")]

@@ -6,13 +6,13 @@ from typing import NamedTuple
 
 from opcplan.cli import colours, words
 from opcplan.cli.colours import Paint
-from opcplan.commands import desk_plan, late
+from opcplan.commands import desk_plan
 from opcplan.desk import client
-from opcplan.errors import WrongWords
+from opcplan.errors import UsageError
 from opcplan.plans import locks, plan_definitions, plan_file, waits
 from opcplan.plans.plan_file import Plan
 from opcplan.plans.waits import Row
-from opcplan.rules import moments, printable, reaches, statuses
+from opcplan.rules import horizons, moments, printable, statuses
 from opcplan.rules.naming_words import count_text
 from opcplan.webpage import page_model
 from opcplan.webpage.page_model import Model
@@ -48,7 +48,7 @@ def run(given: argparse.Namespace) -> int:
     """Does what the words ask for; the exit status."""
     desk = given.desk or (client.usual() if given.plan is None else None)
     if (given.plan is None) == (desk is None):
-        raise WrongWords("PLAN.db or --desk DESK is wanted, one of them; ./plan status --help says more")
+        raise UsageError("PLAN.db or --desk DESK is wanted, one of them; ./plan status --help says more")
     now = moments.now() if given.now is None else given.now
     if desk is None:
         with plan_file.opened(given.plan) as plan:
@@ -73,22 +73,32 @@ def holder_text(path: str) -> str:
 def lines_of(plan: Plan, now: int) -> list[Line]:
     """All lines on a plan at a moment."""
     if not plan.is_created:
-        return [Line("There is no long-term plan yet: `ltp-create` makes one.", "yellow")]
-    rows, pairs = late.unfinished(plan)
+        return [Line("There is no long-term plan yet: `ltp-create` makes one, as `./plan send --db PLAN.db ltp-create "
+                     "--from DAY --to DAY`.", "yellow")]
+    rows, pairs = waits.unfinished(plan)
     model = page_model.of_rows(rows, pairs, now)
     return [*end_lines(plan, now), *count_lines(plan, model), *row_lines(rows, model, now), *reach_lines(plan)]
+
+
+def is_never_extended(plan: Plan) -> bool:
+    """Whether a plan had no daily plan yet: what is in the current plan and in history arrives before the plan end."""
+    return bool(plan.meta["plan_end"] == plan.meta["first_day"] * moments.DAY)
 
 
 def end_lines(plan: Plan, now: int) -> list[Line]:
     """When the plans end, and when they have to be extended."""
     end, last = plan.meta["plan_end"], plan.meta["last_day"]
     left, day = end - now, moments.day_text(last)
-    if left <= 0:
+    colour = "red" if left <= 0 else "yellow" if left < SOON else None
+    if is_never_extended(plan):
+        first = Line(f"The current plan is empty: the first `dp-extend` fills it, from {moments.moment_text(end)} on.",
+                     colour)
+    elif left <= 0:
         first = Line(f"The current plan ended {moments.moment_text(end)}, {waits.length_text(-left)} ago: `dp-extend` "
-                     "makes it longer.", "red")
+                     "makes it longer.", colour)
     else:
         first = Line(f"The current plan ends {moments.moment_text(end)}, in {waits.length_text(left)}: `dp-extend` "
-                     "makes it longer.", "yellow" if left < SOON else None)
+                     "makes it longer.", colour)
     days = last + 1 - now // moments.DAY
     far = f"in {count_text(days, 'day')}" if days > 0 else f"{count_text(1 - days, 'day')} ago"
     near = "red" if days <= 0 else "yellow" if days <= 7 else None
@@ -96,14 +106,16 @@ def end_lines(plan: Plan, now: int) -> list[Line]:
 
 
 def count_lines(plan: Plan, model: Model) -> list[Line]:
-    """How many occurrences have which status."""
+    """How many occurrences have which status; nothing of a current plan that was never extended."""
+    if is_never_extended(plan):
+        return []
     known = dict(plan.db.execute("SELECT status, count(*) FROM cp_row GROUP BY status"))
     counts = Counter({"C": known.get("C", 0), "D": known.get("D", 0)})
     counts.update(model.states)
     names = {**statuses.STATES, "F": "to come"}
-    told = [f"{counts[state]:,} {names[state]}" for state in "ESRBFCD" if counts[state]]
+    parts = [f"{counts[state]:,} {names[state]}" for state in "ESRBFCD" if counts[state]]
     total = count_text(sum(counts.values()), "occurrence")
-    return [Line(f"The current plan has {total}{': ' if told else ''}{', '.join(told)}.")]
+    return [Line(f"The current plan has {total}{': ' if parts else ''}{', '.join(parts)}.")]
 
 
 def row_lines(rows: list[Row], model: Model, now: int) -> list[Line]:
@@ -139,7 +151,7 @@ def aligned(rows: list[Row], model: Model, places: list[int], held: dict[int, in
 def reach_lines(plan: Plan) -> list[Line]:
     """Which definitions end before the long-term plan does."""
     first = plan.meta["plan_end"] // moments.DAY
-    found = reaches.shortfalls(plan_definitions.of_plan(plan), first, plan.meta["last_day"])
+    found = horizons.shortfalls(plan_definitions.of_plan(plan), first, plan.meta["last_day"])
     if not found:
         return [Line(""), Line("Calendars, periods and run cycles reach to the end of the long-term plan.")]
     return [Line(""), Line("Definitions that end before the plan:", "bold"),

@@ -13,10 +13,10 @@ def add_words(parser: words.Parser, does: str) -> None:
                         help=f"the planner that {does} it (else the one that is built here)")
 
 
-def tell_end(trial: Trial[Any]) -> None:
+def print_end(trial: Trial[Any]) -> None:
     """Tells what the planner said, and how it ended where that was no sound end."""
     for line in trial.said.splitlines():
-        words.tell(f"the planner says: {line.removeprefix('opcplan: ')}")
+        words.print_message(f"the planner says: {line.removeprefix('opcplan: ')}")
     if trial.status not in SOUND:
         how = f"by signal {-trial.status}" if trial.status < 0 else f"with status {trial.status}"
-        words.tell(f"the planner ended {how}; what is shown is what it did before")
+        words.print_message(f"the planner ended {how}; what is shown is what it did before")

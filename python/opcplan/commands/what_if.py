@@ -47,7 +47,7 @@ def run(given: argparse.Namespace) -> int:
     with trial.tried(given.plan, given.stream, reply_lines, given.program) as tried:
         lines = [*tried.found, printable.text(difference(tried.plan, tried.after))]
     print("\n".join(lines))
-    trial_words.tell_end(tried)
+    trial_words.print_end(tried)
     return 0 if tried.status == 0 else 1
 
 
@@ -55,8 +55,8 @@ def reply_lines(items: Iterator[Item], output: Source, now: Known) -> list[str]:
     """How many statements were accepted and refused, and each that was refused, in the words of explain, fit for a
     terminal."""
     lines, refused, answered = explanations.explained(items, output, now)
-    told = ["", "\n".join(lines).rstrip("\n")] if lines else []
-    return [f"{answered - refused} accepted, {refused} refused", *told]
+    explained = ["", "\n".join(lines).rstrip("\n")] if lines else []
+    return [f"{answered - refused} accepted, {refused} refused", *explained]
 
 
 # What is different.
@@ -87,8 +87,8 @@ def definition_lines(before: Definitions, after: Definitions) -> list[str]:
             if names:
                 lines.append(f"  {kind.replace('_', ' ')} {said}: {', '.join(sorted(names))}")
             for name in changed if said == "changed" else ():
-                told = changes.of_name(kind.replace("_", "-"), name, held[name], now[name])
-                lines += [f"    {change.text}" for change in told]
+                found = changes.of_name(kind.replace("_", "-"), name, held[name], now[name])
+                lines += [f"    {change.text}" for change in found]
     if before.default_calendar != after.default_calendar:
         lines.append(f"  the default calendar: {before.default_calendar}, then {after.default_calendar}")
     if before.max_hours != after.max_hours:

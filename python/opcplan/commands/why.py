@@ -1,10 +1,11 @@
 """./plan why: why an occurrence isn't started, or why it stands where it stands."""
 
 import argparse
+import dataclasses
 
 from opcplan.cli import words
-from opcplan.commands import keys, late, why_day
-from opcplan.plans import actual, late_ends, outlook, plan_definitions, plan_file, waits
+from opcplan.commands import keys, why_day
+from opcplan.plans import actual, forecast, late_ends, plan_definitions, plan_file, waits
 from opcplan.plans.actual import Actual, Run
 from opcplan.plans.plan_file import Plan
 from opcplan.plans.waits import Row, Waits
@@ -25,6 +26,16 @@ SENTENCES = {
 }
 
 
+@dataclasses.dataclass(frozen=True)
+class Settings:
+    """The occurrence, the moment, the journal of the desk, and whether the whole tree is shown."""
+
+    key: keys.Key
+    now: int
+    journal: str | None
+    all_lines: bool
+
+
 def add_words(parser: words.Parser) -> None:
     """Adds its words to a parser."""
     parser.description = (
@@ -42,22 +53,22 @@ def add_words(parser: words.Parser) -> None:
 
 def run(given: argparse.Namespace) -> int:
     """Does what the words ask for; the exit status."""
-    now = moments.now() if given.now is None else given.now
-    lines, is_found = plan_file.answer(given.plan, lambda plan: lines_of(plan, given, now))
+    settings = Settings(given.key, moments.now() if given.now is None else given.now, given.journal, given.all)
+    lines, is_found = plan_file.answer(given.plan, lambda plan: lines_of(plan, settings))
     print(printable.text(lines))
     return 0 if is_found else 1
 
 
-def lines_of(plan: Plan, given: argparse.Namespace, now: int) -> tuple[list[str], bool]:
+def lines_of(plan: Plan, given: Settings) -> tuple[list[str], bool]:
     """What is printed of an occurrence at a moment, and whether it stands somewhere."""
     found = keys.rows_of(plan, given.key)
     if found is None:
-        return [keys.unknown_text(plan, given.key.serial)], False
+        return [keys.unknown_text(plan, given.key)], False
     app, ia, rows = found
-    lines = row_lines(plan, rows[0], now, given.all) if rows else nowhere_lines(plan, app, ia)
+    lines = row_lines(plan, rows[0], given.now, given.all_lines) if rows else nowhere_lines(plan, app, ia)
     known = actual.of_journal(given.journal, plan)
     if known and rows:
-        lines += run_lines(rows[0], known) + end_lines(plan, rows[0], known, now)
+        lines += run_lines(rows[0], known) + end_lines(plan, rows[0], known, given.now)
     return lines + earlier_lines(rows[1:]) + job_lines(plan, app, ia), bool(rows)
 
 
@@ -114,11 +125,11 @@ RUN_WORDS = {"S": "not ended yet", "C": "complete", "E": "in error"}
 def run_lines(row: Row, known: Actual) -> list[str]:
     """When a row ran, and how long its application takes."""
     runs = known.runs.get(row.serial, [])
-    told = [f"  {run_text(run)}" for run in runs]
-    if told and runs[-1].status == "C":
-        told[-1] += f": {late_ends.end_text(row, known).partition(', ')[2] or 'in time'}"
+    lines = [f"  {run_text(run)}" for run in runs]
+    if lines and runs[-1].status == "C":
+        lines[-1] += f": {late_ends.end_text(row, known).partition(', ')[2] or 'in time'}"
     usual = actual.usual_text(row.app, known.usual.get(row.app))
-    return ["", *(["Its runs:", *told] if told else ["No run of it is known."]), usual]
+    return ["", *(["Its runs:", *lines] if lines else ["No run of it is known."]), usual]
 
 
 def run_text(run: Run) -> str:
@@ -133,16 +144,16 @@ def end_lines(plan: Plan, row: Row, known: Actual, now: int) -> list[str]:
     """When a row of the current plan that isn't complete is likely to end, and by which chain."""
     if row.place not in statuses.UNFINISHED:
         return []
-    rows, pairs = late.unfinished(plan)
-    found = outlook.of_rows(rows, pairs, known, now)
+    rows, pairs = waits.unfinished(plan)
+    found = forecast.of_rows(rows, pairs, known, now)
     past = found[row.serial].end_moment - row.deadline
     late_by = f", late by {waits.length_text(past)}" if past > 0 else ""
-    chain = outlook.chain_of(found, row.serial)
-    lines = [f"It is expected to end {outlook.end_text(found[row.serial])}{late_by}."]
+    chain = forecast.chain_of(found, row.serial)
+    lines = [f"It is expected to end {forecast.end_text(found[row.serial])}{late_by}."]
     if len(chain) == 1:
         return lines
     names = {other.serial: other.key for other in rows}
-    return [*lines, "", "This chain decides it:", *outlook.chain_lines(chain, found, names)]
+    return [*lines, "", "This chain decides it:", *forecast.chain_lines(chain, found, names)]
 
 
 def tree_lines(waiting: Waits, row: Row, now: int, all_lines: bool) -> list[str]:
@@ -208,11 +219,11 @@ def named_lines(plan: Plan, app: str, ia: int) -> list[str]:
 
 def earlier_lines(rows: list[Row]) -> list[str]:
     """The other rows of the same key."""
-    told = [f"  serial {row.serial} {statuses.WHERE[row.place]}" for row in rows]
-    return ["", "Others of this application and arrival:", *told] if told else []
+    lines = [f"  serial {row.serial} {statuses.WHERE[row.place]}" for row in rows]
+    return ["", "Others of this application and arrival:", *lines] if lines else []
 
 
 def job_lines(plan: Plan, app: str, ia: int) -> list[str]:
     """What was asked of the key by its jobs."""
-    told = [f"  job {number}  {name}: {reply}" for number, name, reply in waits.jobs_of_key(plan, app, ia)]
-    return ["", "Jobs that asked something of it:", *told] if told else []
+    lines = [f"  job {number}  {name}: {reply}" for number, name, reply in waits.jobs_of_key(plan, app, ia)]
+    return ["", "Jobs that asked something of it:", *lines] if lines else []

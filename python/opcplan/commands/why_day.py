@@ -34,16 +34,17 @@ def add_words(parser: words.Parser) -> None:
 
 def run(given: argparse.Namespace) -> int:
     """Does what the words ask for; the exit status."""
-    lines, is_named = plan_file.answer(given.plan, lambda plan: lines_of(plan, given))
+    key: keys.Key = given.key
+    lines, is_named = plan_file.answer(given.plan, lambda plan: lines_of(plan, key))
     print(printable.text(lines))
     return 0 if is_named else 1
 
 
-def lines_of(plan: Plan, given: argparse.Namespace) -> tuple[list[str], bool]:
+def lines_of(plan: Plan, key: keys.Key) -> tuple[list[str], bool]:
     """What is printed of a day, and whether it is named."""
-    found = keys.rows_of(plan, given.key)
+    found = keys.rows_of(plan, key)
     if found is None:
-        return [keys.unknown_text(plan, given.key.serial)], False
+        return [keys.unknown_text(plan, key)], False
     app, day = found.app, found.ia // moments.DAY
     defined = plan_definitions.of_plan(plan)
     said = naming.names(defined, app, day)
@@ -117,8 +118,8 @@ def cycle_lines(defined: Definitions, app: str, day: int, answer: naming.Answer)
     """A run cycle's lines: its name and time, and what it says."""
     cycle = answer.cycle
     kind = ", excludes" if cycle.excludes else ""
-    told = "; ".join(naming_words.told(defined, app, day, answer))
-    text = textwrap.wrap(f"{told}.", WIDTH - 8, break_on_hyphens=False)
+    reasons = "; ".join(naming_words.reasons(defined, app, day, answer))
+    text = textwrap.wrap(f"{reasons}.", WIDTH - 8, break_on_hyphens=False)
     return [f"    {cycle.name} ({moments.minute_text(cycle.time)}{kind})"] + ["        " + line for line in text]
 
 

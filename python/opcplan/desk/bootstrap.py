@@ -7,11 +7,11 @@ import secrets
 from collections.abc import AsyncIterator, Set
 
 from opcplan.desk import log
-from opcplan.desk.etcd import Away, Etcd, Wrong
-from opcplan.desk.etcd_log import Shared
+from opcplan.desk.etcd import Etcd, EtcdError, EtcdUnreachable
+from opcplan.desk.etcd_log import EtcdLog
 from opcplan.desk.log_words import Access, Where
 from opcplan.desk.store import State, Store
-from opcplan.desk.versions import Unfit, different, first_line, version_at, version_of
+from opcplan.desk.versions import CannotJoin, different, first_line, version_at, version_of
 from opcplan.errors import LogUnwritable, Unreadable
 from opcplan.plans import entry, journal, journal_plan, sound_rows
 from opcplan.plans.plan_file import Plan
@@ -22,33 +22,34 @@ NEW_FILE = "Take the plan of another desk: move {0} away, and start with --from 
 
 @contextlib.asynccontextmanager
 async def opened(where: Where, access: Access) -> AsyncIterator[Store]:
-    """A Store of the log under a name. Raises Unfit where etcd doesn't answer, or refuses."""
+    """A Store of the log under a name. Raises CannotJoin where etcd doesn't answer, or refuses."""
     async with Etcd(where.endpoints, access) as etcd:
         try:
             yield Store(etcd, where)
-        except (Away, Wrong) as why:
-            raise Unfit(f"{where}: {'etcd refuses: ' if isinstance(why, Wrong) else ''}{why}") from None
+        except (EtcdUnreachable, EtcdError) as why:
+            raise CannotJoin(f"{where}: {'etcd refuses: ' if isinstance(why, EtcdError) else ''}{why}") from None
 
 
-async def joined(store: Store, plan: str, path: str, program: str) -> Shared:
-    """The Shared log of a desk over a plan, whose journal is at a path. Raises Unfit, Unreadable, Away and Wrong."""
+async def joined(store: Store, plan: str, path: str, program: str) -> EtcdLog:
+    """The log in etcd of a desk over a plan, whose journal is at a path. Raises CannotJoin, Unreadable,
+    EtcdUnreachable and EtcdError."""
     version = version_of(program)
     with contextlib.ExitStack() as files, contextlib.ExitStack() as left:
         try:
             held = files.enter_context(journal.at_rest(plan))
         except Unreadable as why:
-            raise Unfit(f"{why}. Where it can't be mended: " + NEW_FILE.format(plan)) from None
+            raise CannotJoin(f"{why}. Where it can't be mended: " + NEW_FILE.format(plan)) from None
         try:
             known = await store.state()
             record = journal_of(path, left)
             state = known or await made(store, held, record, version)
             given = await Joining(store, state, held, record).applied()
         except LogUnwritable as why:
-            raise Unfit(str(why)) from None
+            raise CannotJoin(str(why)) from None
         first = next((one.seq for one in record.unanswered() if one.seq <= given), given + 1)
         check_version(state, first, version, store.where, program)
         left.pop_all()
-    return Shared(record, store, state, given, version, plan)
+    return EtcdLog(record, store, state, given, version, plan)
 
 
 def journal_of(path: str, left: contextlib.ExitStack) -> journal.Journal:
@@ -61,17 +62,19 @@ def journal_of(path: str, left: contextlib.ExitStack) -> journal.Journal:
 
 
 async def made(store: Store, held: Plan, record: journal.Journal, version: str) -> State:
-    """The State of a new log, which a plan without a desk's numbers begins. Raises Unfit."""
+    """The State of a new log, which a plan without a desk's numbers begins. Raises CannotJoin."""
     position = journal.position_of(held)
     if position or record.position():
         what = f"{held.path} has numbers of one up to {entry.number_of(position)}" if position else (
             f"{record.path} is the journal of one")
-        raise Unfit(f"{store.where}: there is no such log in etcd, and {what}. Name the log that it had; where that is "
-                    "lost, or the plan had a desk of its own, end all its desks and begin a log behind the plan that "
-                    f"is the furthest: `./plan log {store.where} --begin {held.path}`")
+        raise CannotJoin(f"{store.where}: there is no such log in etcd, and {what}. Name the log that it had; where "
+                         "that is "
+                         "lost, or the plan had a desk of its own, end all its desks and begin a log behind the plan "
+                         "that "
+                         f"is the furthest: `./plan log {store.where} --begin {held.path}`")
     await begun(store, held, 0, version)
     if (state := await store.state()) is None:
-        raise Unfit(f"{store.where}: the log that was just made isn't in etcd any more; end what takes it away")
+        raise CannotJoin(f"{store.where}: the log that was just made isn't in etcd any more; end what takes it away")
     return state
 
 
@@ -89,7 +92,7 @@ class Joining:
         self.position = journal.position_of(held)
 
     async def applied(self) -> int:
-        """The entry that the plan has last. Raises Unfit."""
+        """The entry that the plan has last. Raises CannotJoin."""
         known, last = self.record.begun(), next(iter(self.record.last_kept()), None)
         own = known if known is not None and known.log == self.state.id else None
         has_last = last is None or journal_plan.written(self.job(last.job)) == last.text
@@ -98,12 +101,13 @@ class Joining:
         if self.state.first > found + 1:  # a journal may be older than its plan
             found = max(found, self.position)
         if own is None and not (has_last and self.record.position() <= found):
-            raise Unfit(f"{self.record.path}: {OTHER_JOURNAL}")
+            raise CannotJoin(f"{self.record.path}: {OTHER_JOURNAL}")
         self.check_end(found)
         # without a journal of the log the last entry has to be there, so that it can be compared
         if self.state.first > (found + 1 if is_level or found == self.state.base else found):
-            raise Unfit(f"{self.where}: the log is trimmed up to entry {self.state.first - 1}, and {self.held.path} "
-                        f"has entry {found} last. " + NEW_FILE.format(self.held.path))
+            raise CannotJoin(f"{self.where}: the log is trimmed up to entry {self.state.first - 1}, and "
+                             f"{self.held.path} "
+                             f"has entry {found} last. " + NEW_FILE.format(self.held.path))
         await self.check_text()
         if not is_level:
             self.record.begin(self.state.id, found, self.jobs)
@@ -112,14 +116,14 @@ class Joining:
 
     async def check_jobs(self, upto: int) -> None:
         """Asks that the plan has the jobs of its journal, as they were answered, and of others those alone that the log
-        has behind the journal. Raises Unfit."""
+        has behind the journal. Raises CannotJoin."""
         try:
             journal_plan.check(self.record, self.held, frozenset(), upto)
-        except journal_plan.Strange:
+        except journal_plan.JournalMismatch:
             try:
                 journal_plan.check(self.record, self.held, await self.jobs_behind(), upto)
-            except journal_plan.Strange as why:
-                raise Unfit(f"{why}. " + NEW_FILE.format(self.held.path)) from None
+            except journal_plan.JournalMismatch as why:
+                raise CannotJoin(f"{why}. " + NEW_FILE.format(self.held.path)) from None
 
     async def jobs_behind(self) -> Set[int]:
         """The job numbers of the entries that the journal doesn't have."""
@@ -131,31 +135,34 @@ class Joining:
         return found
 
     def by_file(self) -> int:
-        """The entry that the plan has last, by its file alone. Raises Unfit."""
+        """The entry that the plan has last, by its file alone. Raises CannotJoin."""
         if self.position > self.state.base:
             return self.position
         if content_sum(self.held) == self.state.base_sum:
             return self.state.base
-        raise Unfit(f"{self.where}: the log began behind another plan than {self.held.path} is, or that is older. "
-                    + NEW_FILE.format(self.held.path))
+        raise CannotJoin(f"{self.where}: the log began behind another plan than {self.held.path} is, or that is older. "
+                         + NEW_FILE.format(self.held.path))
 
     async def check_text(self) -> None:
         """Asks that the last job of a desk that the plan keeps is that of the log, where the log still has it. Raises
-        Unfit."""
+        CannotJoin."""
         seq, number = self.position, entry.number_of(self.position)
         batch = await self.store.holding(seq) if max(self.state.base + 1, self.state.first) <= seq else None
         text = journal_plan.written(self.job(number))
         if batch is not None and batch.entries[seq - batch.entries[0].seq].text != text:
-            raise Unfit(f"{self.where}: entry {seq} isn't job {number} of {self.held.path}: the log is another plan's, "
-                        "or etcd isn't as it was. Name the log of this plan; where it is to have the plan of the log: "
-                        + NEW_FILE.format(self.held.path))
+            raise CannotJoin(f"{self.where}: entry {seq} isn't job {number} of {self.held.path}: the log is another "
+                             "plan's, "
+                             "or etcd isn't as it was. Name the log of this plan; where it is to have the plan of the "
+                             "log: "
+                             + NEW_FILE.format(self.held.path))
 
     def check_end(self, found: int) -> None:
-        """Asks that the log has what the plan has. Raises Unfit."""
+        """Asks that the log has what the plan has. Raises CannotJoin."""
         if found > self.state.head.last:
-            raise Unfit(f"{self.where}: the log ends with entry {self.state.head.last}, and {self.held.path} has entry "
-                        f"{found}: etcd isn't as it was. End all desks of the plan and begin a log of a new name "
-                        "behind the plan that is the furthest, by `./plan log etcd://../NEWNAME --begin PLAN.db`")
+            raise CannotJoin(f"{self.where}: the log ends with entry {self.state.head.last}, and {self.held.path} has "
+                             "entry "
+                             f"{found}: etcd isn't as it was. End all desks of the plan and begin a log of a new name "
+                             "behind the plan that is the furthest, by `./plan log etcd://../NEWNAME --begin PLAN.db`")
 
     def job(self, number: int) -> bytes | None:
         """The text of a job that the plan keeps, or None."""
@@ -164,17 +171,19 @@ class Joining:
 
 
 def check_version(state: State, first: int, version: str, where: Where, program: str) -> None:
-    """Asks that the entries from one on are this opcplan's to answer. Raises Unfit."""
+    """Asks that the entries from one on are this opcplan's to answer. Raises CannotJoin."""
     theirs, newest = version_at(state.versions, first), state.versions[max(state.versions)]
     if theirs == version:
         return
-    told = f"{where}: from entry {first} on it is answered by {first_line(theirs)}, and {program} is " \
+    message = f"{where}: from entry {first} on it is answered by {first_line(theirs)}, and {program} is " \
            f"{first_line(version)}{different(theirs, version)}. "
     if newest == version:
-        raise Unfit(f"{told}Start the desk with the older program by --program, until it has all up to entry "
-                    f"{max(state.versions) - 1}, or take the plan of another desk by --from")
-    raise Unfit(f"{told}Start the desk with that program; or, once each machine has the new one, have it answer from "
-                f"now on by `./plan log {where} --version --program {program}`")
+        raise CannotJoin(f"{message}Start the desk with the older program by --program, until it has all up to entry "
+                         f"{max(state.versions) - 1}, or take the plan of another desk by --from")
+    raise CannotJoin(f"{message}Start the desk with that program; or, once each machine has the new one, have it "
+                     "answer "
+                     "from "
+                     f"now on by `./plan log {where} --version --program {program}`")
 
 
 def remove(path: str) -> None:

@@ -14,7 +14,7 @@ import urllib.parse
 from collections.abc import Iterator, Mapping
 from typing import IO, NamedTuple
 
-from opcplan.errors import Error, WrongWords
+from opcplan.errors import Error, UsageError
 
 # of one answer, in seconds; and where another desk can be asked
 PATIENCE, PATIENCE_OF_MANY = 300, 30
@@ -24,11 +24,11 @@ Heads = Mapping[str, str]
 NO_HEADS: Heads = {}
 
 
-class Wrong(WrongWords):
+class InvalidAddress(UsageError):
     """What is wrong with the name of a desk."""
 
 
-class Away(Error):
+class DeskUnreachable(Error):
     """Why there is no whole answer; `may_be_done` tells whether the stream may have been taken all the same."""
 
     def __init__(self, text: str, may_be_done: bool) -> None:
@@ -36,7 +36,7 @@ class Away(Error):
         self.may_be_done = may_be_done
 
 
-class Refused(Error):
+class RequestRefused(Error):
     """Why a desk does nothing of what it was asked, in its words, with HTTP's status."""
 
     def __init__(self, status: int, text: str) -> None:
@@ -75,19 +75,20 @@ class BySocket(http.client.HTTPConnection):
 
 
 def place_of(name: str) -> Place:
-    """Where a desk is reached. Raises Wrong."""
+    """Where a desk is reached. Raises InvalidAddress."""
     if "/" in name and "://" not in name:
         return Place("socket", name)
     found = urllib.parse.urlsplit(name if "://" in name else f"http://{name}")
     with contextlib.suppress(ValueError):
-        if found.scheme in ("http", "https") and found.hostname and found.path in ("", "/") and not found.query:
+        is_plain = found.path in ("", "/") and not found.query and re.fullmatch("[!-~]+", name)
+        if found.scheme in ("http", "https") and found.hostname and is_plain:
             return Place(found.scheme, found.hostname, found.port)
-    raise Wrong(f"{name!r} is no desk: a desk is http://HOST:PORT, or the path of its socket")
+    raise InvalidAddress(f"{name!r} is no desk: a desk is http://HOST:PORT, or the path of its socket")
 
 
 class Client:
     """Asks a desk: `http://HOST:PORT`, `https://NAME`, `HOST:PORT`, or the path of a socket. Several desks of one log,
-    with commas between them, are asked in turn. Raises Wrong."""
+    with commas between them, are asked in turn. Raises InvalidAddress."""
 
     def __init__(self, name: str, token: str | None = None) -> None:
         self.name, self.token = name, token
@@ -106,12 +107,12 @@ class Client:
         self, method: str, path: str, body: bytes | None = None, heads: Heads = NO_HEADS
     ) -> tuple[email.message.Message, bytes]:
         """Headers and body of an answer; of several desks the first that answers gives it, from the one on that did
-        last. What changes something has a key. Raises Away and Refused."""
+        last. What changes something has a key. Raises DeskUnreachable and RequestRefused."""
         for left in reversed(range(len(self.places))):
             try:
                 return self.asked(method, path, body, heads)
-            except (Away, Refused) as why:
-                if isinstance(why, Refused) and why.status != 503:
+            except (DeskUnreachable, RequestRefused) as why:
+                if isinstance(why, RequestRefused) and why.status != 503:
                     raise
                 self.go_over()
                 if not left:
@@ -121,12 +122,13 @@ class Client:
     def asked(
         self, method: str, path: str, body: bytes | None = None, heads: Heads = NO_HEADS
     ) -> tuple[email.message.Message, bytes]:
-        """Headers and body of the answer of one desk. Raises Away and Refused."""
+        """Headers and body of the answer of one desk. Raises DeskUnreachable and RequestRefused."""
         with self.answer(method, path, body, heads) as answer:
             return answer.headers, answer.read()
 
     def download(self, path: str, file: IO[bytes]) -> email.message.Message:
-        """Puts the body of an answer into a file, and answers its headers. Raises Away and Refused."""
+        """Puts the body of an answer into a file, and answers its headers. Raises DeskUnreachable and
+        RequestRefused."""
         with self.answer("GET", path) as answer:
             shutil.copyfileobj(answer, file)
             if answer.length:
@@ -137,7 +139,7 @@ class Client:
     def answer(
         self, method: str, path: str, body: bytes | None = None, heads: Heads = NO_HEADS
     ) -> Iterator[http.client.HTTPResponse]:
-        """A context with an answer that isn't read yet. Raises Away and Refused."""
+        """A context with an answer that isn't read yet. Raises DeskUnreachable and RequestRefused."""
         given = {"X-Opcplan": "desk", **heads}
         if self.token:
             given["Authorization"] = f"Bearer {self.token}"
@@ -145,33 +147,34 @@ class Client:
             try:
                 connection.connect()
             except OSError as error:
-                raise Away(f"{self.name}: there is no desk: {error.strerror or error}", False) from None
+                raise DeskUnreachable(f"{self.name}: there is no desk: {error.strerror or error}", False) from None
             try:
                 connection.request(method, path, body, given)
                 answer = connection.getresponse()
                 if answer.status >= 400:
-                    raise Refused(answer.status, answer.read().decode("utf-8", "replace").strip() or answer.reason)
+                    raise RequestRefused(answer.status,
+                                         answer.read().decode("utf-8", "replace").strip() or answer.reason)
                 yield answer
             except (OSError, http.client.HTTPException) as error:
-                raise Away(f"{self.name}: the answer broke off: {error}", True) from None
+                raise DeskUnreachable(f"{self.name}: the answer broke off: {error}", True) from None
 
     def statements(self, text: bytes, key: str, until: float, heads: Heads = NO_HEADS) -> bytes:
         """What a stream is answered; it is sent again, up to a moment of the steady clock, while the desk is away.
-        Raises Away and Refused."""
+        Raises DeskUnreachable and RequestRefused."""
         rest, may_be_done = SHORTEST_REST, False
         heads = {"Idempotency-Key": key, "Content-Type": "text/plain", **heads}
         while True:
             for _ in self.places:
                 try:
                     return self.asked("POST", "/statements", text, heads)[1]
-                except Away as why:
+                except DeskUnreachable as why:
                     may_be_done = may_be_done or why.may_be_done
-                    last = Away(str(why), may_be_done)
-                except Refused as why:
+                    last = DeskUnreachable(str(why), may_be_done)
+                except RequestRefused as why:
                     if why.status != 503:
                         raise
                     may_be_done = True
-                    last = Away(f"{self.name}: {why}", True)
+                    last = DeskUnreachable(f"{self.name}: {why}", True)
                 self.go_over()
             if time.monotonic() + rest > until:
                 raise last

@@ -6,16 +6,17 @@ import time
 from collections.abc import Callable, Sequence
 
 from opcplan.desk import metrics, state
-from opcplan.desk.errors import Refused, used_otherwise
+from opcplan.desk.agents import Agents
+from opcplan.desk.errors import StatementRejected, used_otherwise
 from opcplan.desk.events import Events
 from opcplan.desk.feed import Feed, PATIENCE
 from opcplan.desk.held_files import HeldFiles
 from opcplan.desk.lists import Lists
 from opcplan.desk.log import Log
-from opcplan.desk.planner import Ask, Planner, Stopped
+from opcplan.desk.planner import Planner, PlannerStopped, Submission
 from opcplan.errors import LogUnwritable
 from opcplan.plans.entry import Entry, Wanted
-from opcplan.plans.journal import Kept
+from opcplan.plans.journal import JournalReply
 
 # seconds until replies are put into the journal where no change comes that takes them along
 LATE = 0.5
@@ -29,10 +30,11 @@ class Desk:
         self.log, self.files = the_log, files
         pending = the_log.unanswered()
         position = pending[0].seq - 1 if pending else the_log.given
-        self.state: state.State[Ask] = state.State(the_log.life, position, the_log.chain_at(position),
-                                                   [ask_of(one, one.line.split(" ")[0]) for one in pending])
+        self.state: state.State[Submission] = state.State(the_log.life, position, the_log.chain_at(position),
+                                                          [ask_of(one, one.line.split(" ")[0]) for one in pending])
         self.planner = Planner(program, files, self.state, self.on_answer, self.on_stop, why_not, limit)
         self.events, self.metrics = Events(self), metrics.Metrics()
+        self.agents = Agents(the_log.journal.agents())
         self.feed = Feed(self)
         self.lists = Lists(self)
         self.writing: asyncio.Task[None] | None = None
@@ -79,26 +81,28 @@ class Desk:
         assert not isinstance(found, state.Read)  # what is due up to there is in memory
         return found
 
-    def ask_question(self, name: str, text: bytes, waits: bool = False) -> Ask:
-        """An Ask of a statement that changes nothing; it perhaps waits for the changes before it. Raises Refused."""
-        ask = Ask(name, text)
+    def ask_question(self, name: str, text: bytes, waits: bool = False) -> Submission:
+        """An Submission of a statement that changes nothing; it perhaps waits for the changes before it. Raises
+        StatementRejected."""
+        ask = Submission(name, text)
         self.feed.put(ask, not waits)
         return ask
 
-    def ask_change(self, name: str, wanted: Wanted, condition: str | None = None) -> Ask:
-        """An Ask of a change, perhaps the one that its key stands for already. Raises Refused."""
+    def ask_change(self, name: str, wanted: Wanted, condition: str | Submission | None = None) -> Submission:
+        """An Submission of a change, perhaps the one that its key stands for already. Raises StatementRejected."""
         known = self.known(wanted)
         if known is not None:
             return known
-        ask = Ask(name, None, wanted)
+        ask = Submission(name, None, wanted)
         ask.condition = condition
         self.feed.put(ask)
         if wanted.key is not None:
             self.state.wants(wanted.who, wanted.key, ask)
         return ask
 
-    def known(self, wanted: Wanted) -> Ask | None:
-        """The Ask that the key of a change stands for, or None. Raises Refused where it is another change."""
+    def known(self, wanted: Wanted) -> Submission | None:
+        """The Submission that the key of a change stands for, or None. Raises StatementRejected where it is another
+        change."""
         if wanted.key is None:
             return None
         ask = self.state.known(wanted.who, wanted.key)
@@ -106,7 +110,7 @@ class Desk:
             old = self.log.find(wanted.who, wanted.key)
             if old is None or old.reply is None:  # of a plan that is older than its journal
                 return None
-            ask = Ask("", old.text)
+            ask = Submission("", old.text)
             ask.entry, ask.reply = old, old.reply
         if ask.entry is not None:
             is_same = wanted.text(ask.entry.job) == ask.entry.text
@@ -117,8 +121,8 @@ class Desk:
         return ask
 
     async def claim(self, who: str, key: str, wanted: Sequence[Wanted]) -> None:
-        """Takes a caller's key for a stream, whose changes these are, until `release`. Raises Refused where the key
-        stands for another one."""
+        """Takes a caller's key for a stream, whose changes these are, until `release`. Raises StatementRejected where
+        the key stands for another one."""
         unknown = [one for one in wanted if self.known(one) is None]
         with contextlib.suppress(LogUnwritable):  # who appends them is told
             for place, one in (await self.log.used(unknown)).items():
@@ -133,28 +137,28 @@ class Desk:
         """A stream is over for which its caller's key was taken."""
         self.state.release(who, key)
 
-    def ask_of(self, one: Entry, name: str | None) -> Ask:
-        """An Ask of an Entry, which its key finds."""
+    def ask_of(self, one: Entry, name: str | None) -> Submission:
+        """An Submission of an Entry, which its key finds."""
         ask = ask_of(one, name)
         if one.key is not None:
             self.state.wants(one.who, one.key, ask)
         return ask
 
     async def catch_up(self) -> int:
-        """Waits until the plan has what the log has now, and answers the last entry. Raises Refused."""
+        """Waits until the plan has what the log has now, and answers the last entry. Raises StatementRejected."""
         until = time.monotonic() + PATIENCE
         try:
             last = await self.log.ask_last(until)
         except LogUnwritable as why:
-            raise Refused(503, f"it isn't known how far the log is: {why}") from None
+            raise StatementRejected(503, f"it isn't known how far the log is: {why}") from None
         while self.position < last:
             if self.planner.stopped or time.monotonic() > until:
-                raise Refused(503, f"the plan here is behind the log, which has entry {last}: "
+                raise StatementRejected(503, f"the plan here is behind the log, which has entry {last}: "
                                    f"{self.trouble or 'try again'}")
             await asyncio.sleep(LATE / 50)
         return last
 
-    def forget(self, ask: Ask) -> None:
+    def forget(self, ask: Submission) -> None:
         """Lets a statement go that wasn't taken."""
         if ask.wanted is not None and ask.wanted.key is not None:
             self.state.forget(ask.wanted.who, ask.wanted.key, ask)
@@ -162,7 +166,7 @@ class Desk:
 
     # What comes back.
 
-    def on_answer(self, one: state.Answer[Ask]) -> None:
+    def on_answer(self, one: state.Answer[Submission]) -> None:
         """Takes the Answer of a statement, and has its callers hear it."""
         ask = one.item
         if ask.name is not None:
@@ -179,10 +183,10 @@ class Desk:
 
     def on_stop(self, why: str) -> None:
         """Sends all away who wait for the planner; what stands in the log stays."""
-        self.feed.drop_queue(Stopped(why))
-        self.feed.drop_questions(Stopped(why))
+        self.feed.drop_queue(PlannerStopped(why))
+        self.feed.drop_questions(PlannerStopped(why))
         for ask in (*self.feed.batch, *self.feed.asking):
-            ask.fail(Stopped(why))
+            ask.fail(PlannerStopped(why))
         self.lists.clear()
 
     async def write_late(self) -> None:
@@ -204,9 +208,10 @@ class Desk:
             await self.log.keep_replies(self.replies_of(entries))
             self.state.keeps(entries)
 
-    def replies_of(self, entries: Sequence[Entry]) -> list[Kept]:
+    def replies_of(self, entries: Sequence[Entry]) -> list[JournalReply]:
         """The replies of answered Entries as the journal keeps them."""
-        return [Kept(one.seq, one.reply or "", digest) for one, digest in zip(entries, self.state.digests(entries))]
+        return [JournalReply(one.seq, one.reply or "", digest) for one,
+                digest in zip(entries, self.state.digests(entries))]
 
     @property
     def trouble(self) -> str:
@@ -214,8 +219,8 @@ class Desk:
         return self.planner.trouble or self.log.trouble
 
 
-def ask_of(one: Entry, name: str | None) -> Ask:
-    """An Ask of an Entry."""
-    ask = Ask(name, one.text)
+def ask_of(one: Entry, name: str | None) -> Submission:
+    """An Submission of an Entry."""
+    ask = Submission(name, one.text)
     ask.entry = one
     return ask

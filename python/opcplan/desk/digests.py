@@ -13,7 +13,7 @@ WAY_OUT = ("One of the plans was changed by another program than its desk. Where
            "`./plan log .. --trim --forget DESK` takes away (this one is {1})")
 
 
-class Differing(NamedTuple):
+class FirstDifference(NamedTuple):
     """The first entry of those that two desks can compare which they answered otherwise, and the first of all these."""
 
     entry: int
@@ -29,12 +29,12 @@ def difference(own: Mapping[int, str], others: Mapping[str, Mapping[str, str]]) 
     """Why a desk isn't to go on: as many others answered otherwise as answered alike, itself counted, or more. `own`
     has its digests by number, `others` what each other desk says."""
     alike = 1
-    otherwise: dict[str, Differing] = {}
+    otherwise: dict[str, FirstDifference] = {}
     for name, said in others.items():
         both = {int(seq): digest for seq, digest in said.items() if int(seq) in own}
         differing = [seq for seq, digest in both.items() if own[seq][:LETTERS] != digest]
         if differing:
-            otherwise[name] = Differing(min(differing), min(both))
+            otherwise[name] = FirstDifference(min(differing), min(both))
         elif both:
             alike += 1
     if len(otherwise) < alike:

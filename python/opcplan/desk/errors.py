@@ -3,7 +3,7 @@
 from opcplan.errors import Error
 
 
-class Refused(Error):
+class StatementRejected(Error):
     """Why a statement isn't taken, with HTTP's status."""
 
     def __init__(self, status: int, text: str) -> None:
@@ -11,6 +11,6 @@ class Refused(Error):
         self.status = status
 
 
-def used_otherwise(key: str | None) -> Refused:
-    """The Refused of a key that stands for another statement."""
-    return Refused(409, f"the key {key} stands for another statement")
+def used_otherwise(key: str | None) -> StatementRejected:
+    """The StatementRejected of a key that stands for another statement."""
+    return StatementRejected(409, f"the key {key} stands for another statement")

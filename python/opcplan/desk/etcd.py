@@ -21,14 +21,14 @@ CALL = 2.0
 ELSEWHERE = (2, 4, 13, 14)
 NO_LOGIN, EXHAUSTED, NOT_FOUND, INVALID = 16, 8, 5, 3
 STALE_LOGIN = ("invalid auth token", "user name is empty", "revision of auth store is old")
-MOST_OF_A_WATCH, MOST_TOLD = 1 << 20, 300
+MOST_OF_A_WATCH, MOST_OF_MESSAGE = 1 << 20, 300
 
 
-class Away(Error):
+class EtcdUnreachable(Error):
     """Why no node answers; what was asked may be done all the same."""
 
 
-class Wrong(Error):
+class EtcdError(Error):
     """What etcd says against a call: nothing was done."""
 
     def __init__(self, code: int, text: str) -> None:
@@ -81,7 +81,8 @@ class Etcd:
         return self.endpoints[self.turn % len(self.endpoints)]
 
     async def post(self, path: str, said: Mapping[str, Any], until: float | None = None) -> Any:
-        """What the first node that answers says, up to a moment of the steady clock. Raises Away and Wrong."""
+        """What the first node that answers says, up to a moment of the steady clock. Raises EtcdUnreachable and
+        EtcdError."""
         why = ""
         for _ in self.endpoints:
             left = CALL if until is None else min(CALL, until - time.monotonic())
@@ -90,17 +91,17 @@ class Etcd:
             at = self.endpoint
             try:
                 return await self.at(at, path, said, left)
-            except Away as error:
+            except EtcdUnreachable as error:
                 why = str(error)
                 if at == self.endpoint:  # no other call went on meanwhile
                     self.turn += 1
-        raise Away(f"etcd doesn't answer: {why}" if why else "etcd doesn't answer in time")
+        raise EtcdUnreachable(f"etcd doesn't answer: {why}" if why else "etcd doesn't answer in time")
 
     async def at(self, endpoint: str, path: str, said: Mapping[str, Any], patience: float = CALL) -> Any:
-        """What one node says. Raises Away and Wrong."""
+        """What one node says. Raises EtcdUnreachable and EtcdError."""
         try:
             return await self.once(endpoint, path, said, patience)
-        except Wrong as why:
+        except EtcdError as why:
             is_stale = why.code == NO_LOGIN or any(text in str(why) for text in STALE_LOGIN)
             if self.access.user is None or not is_stale:
                 raise
@@ -108,7 +109,7 @@ class Etcd:
         return await self.once(endpoint, path, said, patience)
 
     async def once(self, endpoint: str, path: str, said: Mapping[str, Any], patience: float) -> Any:
-        """What one node says, with a login where etcd has users. Raises Away and Wrong."""
+        """What one node says, with a login where etcd has users. Raises EtcdUnreachable and EtcdError."""
         heads: dict[str, str] = {}
         if self.access.user is not None:
             if self.token is None:
@@ -120,34 +121,35 @@ class Etcd:
 
     async def sent(self, endpoint: str, path: str, said: Mapping[str, Any], heads: Mapping[str, str],
                    patience: float) -> Any:
-        """What one node says to a question with these headers. Raises Away and Wrong."""
+        """What one node says to a question with these headers. Raises EtcdUnreachable and EtcdError."""
         limit = aiohttp.ClientTimeout(total=patience)
         try:
             async with self.session.post(endpoint + path, json=said, headers=heads, timeout=limit) as answer:
                 data = await answer.read()
                 status = answer.status
         except asyncio.TimeoutError:
-            raise Away(f"{endpoint}: no answer in {patience:.1f} s") from None
+            raise EtcdUnreachable(f"{endpoint}: no answer in {patience:.1f} s") from None
         except (aiohttp.ClientError, OSError) as error:
-            raise Away(f"{endpoint}: {error}") from None
+            raise EtcdUnreachable(f"{endpoint}: {error}") from None
         try:
             found = json.loads(data)
         except ValueError:
-            told = data[:MOST_TOLD].decode("utf-8", "replace").strip()
-            if "CommonName" in told:
-                told += "; where etcd has users, --etcd-user says who asks, and --etcd-cert has no CommonName"
+            message = data[:MOST_OF_MESSAGE].decode("utf-8", "replace").strip()
+            if "CommonName" in message:
+                message += "; where etcd has users, --etcd-user says who asks, and --etcd-cert has no CommonName"
             if 400 <= status < 500:
-                raise Wrong(INVALID, f"{endpoint}: status {status}: {told}") from None
-            raise Away(f"{endpoint}: status {status}, and no answer of etcd's JSON gateway") from None
+                raise EtcdError(INVALID, f"{endpoint}: status {status}: {message}") from None
+            raise EtcdUnreachable(f"{endpoint}: status {status}, and no answer of etcd's JSON gateway") from None
         if status == 200:
             return found
-        code, told = found.get("code", 2), found.get("message") or found.get("error") or f"status {status}"
-        if code in ELSEWHERE and "auth" not in told:
-            raise Away(f"{endpoint}: {told}")
-        raise Wrong(code, told)
+        code, message = found.get("code", 2), found.get("message") or found.get("error") or f"status {status}"
+        if code in ELSEWHERE and "auth" not in message:
+            raise EtcdUnreachable(f"{endpoint}: {message}")
+        raise EtcdError(code, message)
 
     async def watch(self, key: str, on_value: Callable[[bytes], None]) -> None:
-        """Calls `on_value` with each value that a key gets, until the node ends it. Raises Away and Wrong."""
+        """Calls `on_value` with each value that a key gets, until the node ends it. Raises EtcdUnreachable and
+        EtcdError."""
         said = {"create_request": {"key": in_base64(key)}}
         limit = aiohttp.ClientTimeout(total=None, sock_connect=CALL, sock_read=60)
         heads = {"Connection": "close", **({"Authorization": self.token} if self.token else {})}
@@ -161,9 +163,9 @@ class Etcd:
                         for event in json.loads(one).get("result", {}).get("events", ()):
                             on_value(of_base64(event["kv"].get("value")))
                     if len(line) > MOST_OF_A_WATCH:
-                        raise Away(f"{self.endpoint}: it says more of a watch than it should")
+                        raise EtcdUnreachable(f"{self.endpoint}: it says more of a watch than it should")
         except (aiohttp.ClientError, asyncio.TimeoutError, OSError, ValueError) as error:
-            raise Away(f"{self.endpoint}: {error}") from None
+            raise EtcdUnreachable(f"{self.endpoint}: {error}") from None
 
     async def quota(self, endpoint: str) -> int | None:
         """The bytes that a node's database may have, or None where it doesn't tell."""
@@ -182,7 +184,7 @@ class Etcd:
         """How a node stands."""
         try:
             found = await self.at(endpoint, "/v3/maintenance/status", {})
-        except (Away, Wrong) as why:
+        except (EtcdUnreachable, EtcdError) as why:
             return Member(endpoint, False, str(why))
         return Member(endpoint, True, "", int(found.get("dbSize", 0)), int(found.get("dbSizeInUse", 0)),
                       await self.quota(endpoint), found.get("leader") == found["header"]["member_id"],

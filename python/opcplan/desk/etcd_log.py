@@ -11,13 +11,13 @@ from collections.abc import Callable, Sequence
 from typing import Any
 
 from opcplan.desk import digests, log
-from opcplan.desk.etcd import Away, EXHAUSTED, Member, NOT_FOUND, Wrong
+from opcplan.desk.etcd import EtcdError, EtcdUnreachable, EXHAUSTED, Member, NOT_FOUND
 from opcplan.desk.log_entries import KeyHolder, text_sum
 from opcplan.desk.store import Appended, Head, head_of, Report, State, Store
 from opcplan.desk.versions import different, first_line, version_at
 from opcplan.errors import LogUnwritable
 from opcplan.plans import chain, entry
-from opcplan.plans.journal import Journal, Kept
+from opcplan.plans.journal import Journal, JournalReply
 
 # seconds between two looks at the head where nothing is heard of it, and between two at the nodes
 POLL, LOOK = 0.5, 5.0
@@ -32,7 +32,7 @@ LEASE = 8 * DAY
 EVERY, REPORT, MOST_COMPARED = 16, 2.0, 1000
 
 
-class Shared(log.Log):
+class EtcdLog(log.Log):
     """The log under a name of etcd, of which a plan has the entries up to one; `version` is the opcplan that this desk
     has, `path` the plan."""
 
@@ -96,34 +96,35 @@ class Shared(log.Log):
         for task in self.tasks:
             task.cancel()
         await asyncio.gather(*self.tasks, return_exceptions=True)
-        with contextlib.suppress(Away, Wrong):
+        with contextlib.suppress(EtcdUnreachable, EtcdError):
             await self.report()
         await super().close()
 
     # What is appended.
 
-    async def append(self, batch: Sequence[entry.Wanted], replies: Sequence[Kept],
+    async def append(self, batch: Sequence[entry.Wanted], replies: Sequence[JournalReply],
                      until: float) -> list[entry.Entry]:
         if why := self.lost or self.held:
             raise LogUnwritable(why)
         head = self.head
         if self.has_news or head.last != self.given:
-            raise log.Behind
+            raise log.LogAdvanced
         entries = entry.placed(batch, head.last)
         came = await self.appended(head, entries, until)
         if not came.is_done:
             if came.used and came.head == head:
-                raise log.Used({place: known_entry(one, came.used[one.who, one.key])
-                                for place, one in enumerate(batch)
-                                if one.key is not None and (one.who, one.key) in came.used})
+                raise log.KeysInUse({place: known_entry(one, came.used[one.who, one.key])
+                                     for place, one in enumerate(batch)
+                                     if one.key is not None and (one.who, one.key) in came.used})
             self.notice(came.head, self.given)
             self.has_news = True
-            raise log.Behind
+            raise log.LogAdvanced
         try:
             await self.keep(entries, replies)
         except LogUnwritable as why:
             self.has_news = True
-            raise log.Unsure(f"{why}; it stands in the log, and is done once the journal can be written") from None
+            raise log.AppendUncertain(f"{why}; it stands in the log, and is done once the journal can be "
+                                      "written") from None
         self.notice(came.head)
         return entries
 
@@ -135,13 +136,13 @@ class Shared(log.Log):
             try:
                 lease = await self.lease() if any(one.key is not None for one in entries) else None
                 came = await self.store.append(head, mark, entries, lease, until)
-            except Away as why:
+            except EtcdUnreachable as why:
                 self.away = str(why)
                 if time.monotonic() >= until:
-                    raise log.Unsure(f"{why}; it may be done all the same") from None
+                    raise log.AppendUncertain(f"{why}; it may be done all the same") from None
                 await asyncio.sleep(REST)
                 continue
-            except Wrong as why:
+            except EtcdError as why:
                 if why.code == NOT_FOUND and self.lease_id is not None:
                     self.lease_id = None
                     continue
@@ -152,7 +153,7 @@ class Shared(log.Log):
                 return came._replace(is_done=True)
             return came
 
-    def refused(self, why: Wrong) -> str:
+    def refused(self, why: EtcdError) -> str:
         """A sentence for what etcd says against a change."""
         if why.code == EXHAUSTED and "space" in str(why):
             self.full = f"etcd takes nothing: {why}; `./plan log {self.store.where} --trim` makes room"
@@ -160,14 +161,14 @@ class Shared(log.Log):
         return f"etcd takes nothing: {why}"
 
     async def lease(self) -> str:
-        """The lease under which callers' keys are put now. Raises Away and Wrong."""
+        """The lease under which callers' keys are put now. Raises EtcdUnreachable and EtcdError."""
         if self.lease_id is None or time.monotonic() > self.lease_begun + DAY:
             begun = time.monotonic()
             self.lease_id = await self.store.lease(LEASE)
             self.lease_begun = begun
         return self.lease_id
 
-    async def keep(self, entries: Sequence[entry.Entry], replies: Sequence[Kept]) -> None:
+    async def keep(self, entries: Sequence[entry.Entry], replies: Sequence[JournalReply]) -> None:
         await super().keep(entries, replies)
         if entries:
             self.applied = self.read_behind = entries[-1].seq
@@ -182,7 +183,7 @@ class Shared(log.Log):
             head, batches = await self.store.read(self.read_behind)
             if head is not None and head.moves != self.moves:
                 self.versions, self.moves = await self.store.versions(), head.moves
-        except (Away, Wrong) as why:
+        except (EtcdUnreachable, EtcdError) as why:
             self.away = str(why)
             raise LogUnwritable(str(why)) from None
         except (KeyError, TypeError, ValueError) as error:
@@ -216,7 +217,7 @@ class Shared(log.Log):
         least = self.given
         try:
             self.notice(await self.store.head(until), least)
-        except (Away, Wrong) as why:
+        except (EtcdUnreachable, EtcdError) as why:
             raise LogUnwritable(str(why)) from None
         if self.lost or self.held and self.head.last > self.given:
             raise LogUnwritable(self.lost or self.held)
@@ -229,7 +230,7 @@ class Shared(log.Log):
         first = min(keyed)
         try:
             found = await self.store.keys(wanted[first].who, keyed[first].partition("#")[0])
-        except (Away, Wrong) as why:
+        except (EtcdUnreachable, EtcdError) as why:
             raise LogUnwritable(str(why)) from None
         if any(one.stream not in (None, wanted[first].stream) for one in found.values()):
             return {first: None}
@@ -244,7 +245,7 @@ class Shared(log.Log):
             with contextlib.suppress(ValueError, TypeError):
                 self.notice(head_of(data))
         while True:
-            with contextlib.suppress(Away, Wrong):
+            with contextlib.suppress(EtcdUnreachable, EtcdError):
                 await self.store.etcd.watch(self.store.key("head"), on_value)
             await asyncio.sleep(POLL)
 
@@ -256,7 +257,7 @@ class Shared(log.Log):
                 least = self.given
                 try:
                     self.notice(await self.store.head(), least)
-                except (Away, Wrong) as why:
+                except (EtcdUnreachable, EtcdError) as why:
                     self.away = str(why)
 
     async def look(self) -> None:
@@ -264,7 +265,7 @@ class Shared(log.Log):
         etcd = self.store.etcd
         while True:
             self.members = await asyncio.gather(*map(etcd.standing, etcd.endpoints))
-            with contextlib.suppress(Away, Wrong):
+            with contextlib.suppress(EtcdUnreachable, EtcdError):
                 alarms = (await etcd.post("/v3/maintenance/alarm", {"action": "GET"})).get("alarms", ())
                 named = sorted({one.get("alarm", "") for one in alarms})
                 self.full = f"etcd has an alarm: {', '.join(named)}; `./plan log --trim` makes room" if named else ""
@@ -274,12 +275,12 @@ class Shared(log.Log):
         """Says how this desk stands and what it answered, at once and whenever it has some more entries or some time is
         over, and compares that with what others say."""
         while True:
-            with contextlib.suppress(Away, Wrong, KeyError, TypeError, ValueError):
+            with contextlib.suppress(EtcdUnreachable, EtcdError, KeyError, TypeError, ValueError):
                 await self.report()
                 desks = await self.store.desks()
-                self.known_chains = {told.answered: told.chain for told in desks.values()
-                                     if told.answered is not None and told.chain is not None}
-                others = {name: told.digests for name, told in desks.items() if name != self.desk_id}
+                self.known_chains = {report.answered: report.chain for report in desks.values()
+                                     if report.answered is not None and report.chain is not None}
+                others = {name: report.digests for name, report in desks.items() if name != self.desk_id}
                 if why := digests.difference(self.journal.digests(MOST_COMPARED, self.given), others):
                     on_difference(f"{why}. {digests.WAY_OUT.format(self.path, self.desk_id)}")
             until, last = time.monotonic() + LOOK, self.given
@@ -294,16 +295,16 @@ class Shared(log.Log):
         """Says in etcd how far this desk is and what it answered, where that changed."""
         found = self.journal.digests(digests.MOST, self.given)
         last = max(found, default=None)
-        told = Report(self.given, self.path, self.version)
+        current = Report(self.given, self.path, self.version)
         if last is not None:
-            told = told._replace(answered=last, chain=found[last], digests=digests.short(found))
+            current = current._replace(answered=last, chain=found[last], digests=digests.short(found))
         lease = await self.lease()
-        if (told, lease) == self.reported:
+        if (current, lease) == self.reported:
             return
         try:
-            await self.store.report(self.desk_id, told._replace(at=entry.moment_now()), lease)
-            self.reported = told, lease
-        except Wrong as why:
+            await self.store.report(self.desk_id, current._replace(at=entry.moment_now()), lease)
+            self.reported = current, lease
+        except EtcdError as why:
             if why.code != NOT_FOUND:
                 raise
             self.lease_id = None  # it is gone; the next report takes a new one
@@ -335,9 +336,9 @@ def name_of(path: str) -> str:
     return f"{socket.gethostname()}-{hashlib.sha256(machine + os.path.realpath(path).encode()).hexdigest()[:8]}"
 
 
-def known_entry(wanted: entry.Wanted, told: KeyHolder) -> entry.Entry | None:
+def known_entry(wanted: entry.Wanted, holder: KeyHolder) -> entry.Entry | None:
     """The Entry for which a key stands, by what etcd has of it, or None where it is another statement's."""
-    text = wanted.text(told.job)
-    if text_sum(text) != told.sum or told.stream not in (None, wanted.stream):
+    text = wanted.text(holder.job)
+    if text_sum(text) != holder.sum or holder.stream not in (None, wanted.stream):
         return None
-    return entry.Entry(told.seq, told.at, wanted.who, wanted.key, told.job, text, None, wanted.stream)
+    return entry.Entry(holder.seq, holder.at, wanted.who, wanted.key, holder.job, text, None, wanted.stream)

@@ -60,15 +60,15 @@ class Events:
         last = self.desk.position if since is None else since
         if last < self.desk.log.begins:
             await response.write(self.state_text(ANEW))
-        is_told = False
+        is_reported = False
         while True:
             listener.clear()
             found = self.desk.after(last, PAGE)
             if found:
-                last, is_told = found[-1].seq, False
+                last, is_reported = found[-1].seq, False
                 await response.write(b"".join(map(entry_text, found)))
-            elif not is_told:
-                is_told = True
+            elif not is_reported:
+                is_reported = True
                 await response.write(self.state_text())
             elif self.is_closed:
                 return
@@ -84,8 +84,8 @@ class Events:
 
     def state_text(self, tag: str | None = None) -> bytes:
         """The event that names the state of the plan."""
-        told = {"tag": tag or self.desk.tag(), "position": self.desk.position}
-        return f"event: state\ndata: {json.dumps(told)}\n\n".encode()
+        values = {"tag": tag or self.desk.tag(), "position": self.desk.position}
+        return f"event: state\ndata: {json.dumps(values)}\n\n".encode()
 
 
 def entry_text(one: Entry) -> bytes:

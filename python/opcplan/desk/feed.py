@@ -8,8 +8,8 @@ from collections.abc import AsyncIterator, Mapping, Sequence
 from typing import TYPE_CHECKING
 
 from opcplan.desk import log
-from opcplan.desk.errors import Refused, used_otherwise
-from opcplan.desk.planner import Ask
+from opcplan.desk.errors import StatementRejected, used_otherwise
+from opcplan.desk.planner import Submission
 from opcplan.errors import LogUnwritable
 from opcplan.plans.entry import Entry
 
@@ -55,12 +55,12 @@ class Feed:
 
     def __init__(self, desk: "Desk") -> None:
         self.desk, self.log = desk, desk.log
-        self.queue: collections.deque[Ask] = collections.deque()
-        self.batch: list[Ask] = []
-        self.questions: collections.deque[Ask] = collections.deque()
+        self.queue: collections.deque[Submission] = collections.deque()
+        self.batch: list[Submission] = []
+        self.questions: collections.deque[Submission] = collections.deque()
         self.wake, self.question_wake, self.hold = asyncio.Event(), asyncio.Event(), asyncio.Lock()
         self.is_closing: bool = False
-        self.asking: list[Ask] = []  # the question that opcplan has
+        self.asking: list[Submission] = []  # the question that opcplan has
         self.turns, self.copies = Turns(self), Turns(self)  # of questions, and of copies of the plan
         self.copying = asyncio.Lock()
         self.pumps: list[asyncio.Task[None]] = []
@@ -81,14 +81,14 @@ class Feed:
                 for pump in self.pumps:
                     pump.cancel()  # what it holds stands in the log
 
-    def put(self, ask: Ask, is_alone: bool = False) -> None:
-        """Puts a statement into the queue of changes, or that of questions alone. Raises Refused."""
+    def put(self, ask: Submission, is_alone: bool = False) -> None:
+        """Puts a statement into the queue of changes, or that of questions alone. Raises StatementRejected."""
         if self.is_closing:
-            raise Refused(503, "the desk is being ended")
+            raise StatementRejected(503, "the desk is being ended")
         if self.desk.planner.stopped:
-            raise Refused(503, f"the desk is stopped: {self.desk.planner.stopped}")
+            raise StatementRejected(503, f"the desk is stopped: {self.desk.planner.stopped}")
         if len(self.queue) + len(self.questions) >= MOST_QUEUED:
-            raise Refused(503, "too much is waiting; try again")
+            raise StatementRejected(503, "too much is waiting; try again")
         (self.questions if is_alone else self.queue).append(ask)
         (self.question_wake if is_alone else self.wake).set()
 
@@ -100,7 +100,7 @@ class Feed:
             self.wake.clear()
             is_level = await self.take_others()
             if not is_level and self.log_is_late():
-                self.drop_queue(Refused(503, f"{self.desk.trouble}; nothing was done"))
+                self.drop_queue(StatementRejected(503, f"{self.desk.trouble}; nothing was done"))
             elif not is_level:
                 await asyncio.sleep(REST)
             elif self.queue:
@@ -132,7 +132,7 @@ class Feed:
             await self.desk.planner.idle_or_stopped()
             yield
 
-    async def answered(self, ask: Ask) -> None:
+    async def answered(self, ask: Submission) -> None:
         """Gives a question over, and waits until it is answered."""
         future, self.asking = ask.wait(), [ask]
         await self.give([ask])
@@ -141,7 +141,7 @@ class Feed:
             future.exception()
         self.asking = []
 
-    async def give(self, asks: Sequence[Ask]) -> None:
+    async def give(self, asks: Sequence[Submission]) -> None:
         """Gives statements over to the planner."""
         for ask in asks:
             await self.desk.planner.room.wait()
@@ -166,9 +166,9 @@ class Feed:
         """Whether those who wait have waited long enough for the log."""
         return bool(self.queue) and self.queue[0].begun + PATIENCE < time.monotonic()
 
-    async def next_batch(self) -> list[Ask]:
+    async def next_batch(self) -> list[Submission]:
         """The next statements; one with a condition stands alone, and only where its state is that of the plan."""
-        batch: list[Ask] = []
+        batch: list[Submission] = []
         size = 0
         while self.queue and self.queue[0].condition is None and len(batch) < log.MOST_TOGETHER and size < BATCH_BYTES:
             batch.append(self.queue.popleft())
@@ -180,10 +180,10 @@ class Feed:
             if await self.log.ask_last(time.monotonic() + PATIENCE) != self.log.given:
                 return []  # what others appended comes first
             await self.desk.planner.idle_or_stopped()
-            if not (self.desk.state.is_state(ask.condition or "") or await self.is_done(ask)):
-                why = Refused(412, "the plan has changed since it was looked at; nothing was done")
+            if not (self.desk.state.is_state(ask.asked_tag) or await self.is_done(ask)):
+                why = StatementRejected(412, "the plan has changed since it was looked at; nothing was done")
         except LogUnwritable as error:
-            why = Refused(503, f"{error}; nothing was done")
+            why = StatementRejected(503, f"{error}; nothing was done")
         if not self.queue or self.queue[0] is not ask:  # it was sent away meanwhile
             return []
         self.queue.popleft()
@@ -191,7 +191,7 @@ class Feed:
             self.drop_all([ask], why)
         return [] if why is not None else [ask]
 
-    async def is_done(self, ask: Ask) -> bool:
+    async def is_done(self, ask: Submission) -> bool:
         """Whether a change stands in the log under its key, and is answered as it was. Raises Unwritable."""
         if ask.is_again or ask.wanted is None or ask.wanted.key is None:
             return ask.is_again
@@ -201,19 +201,19 @@ class Feed:
         ask.stands_for(known)
         return True
 
-    async def enter(self, batch: Sequence[Ask]) -> bool:
+    async def enter(self, batch: Sequence[Submission]) -> bool:
         """Whether the changes of a batch stand in the log; where they don't, those who wait are told."""
         changes = [ask for ask in batch if ask.is_change]
         if not changes:
             return True
         if self.log.is_shared and (used := [place for place, ask in enumerate(changes) if self.is_used(ask)]):
-            await self.not_entered(batch, changes, log.Used(dict.fromkeys(used)))
+            await self.not_entered(batch, changes, log.KeysInUse(dict.fromkeys(used)))
             return False
         replies = self.desk.state.unkept()
         try:
             entries = await self.log.append([ask.wanted for ask in changes if ask.wanted is not None],
                                             self.desk.replies_of(replies), time.monotonic() + PATIENCE)
-        except (LogUnwritable, log.Behind, log.Used) as why:
+        except (LogUnwritable, log.LogAdvanced, log.KeysInUse) as why:
             await self.not_entered(batch, changes, why)
             return False
         self.desk.state.keeps(replies)
@@ -221,17 +221,17 @@ class Feed:
             ask.text, ask.entry = one.text, one
         return True
 
-    async def not_entered(self, batch: Sequence[Ask], changes: Sequence[Ask], why: Exception) -> None:
+    async def not_entered(self, batch: Sequence[Submission], changes: Sequence[Submission], why: Exception) -> None:
         """Has the statements of a batch, none of which stands in the log, tried again, or sends away who waits."""
-        if isinstance(why, log.Unsure):
-            self.drop_all(batch, Refused(503, str(why)))
-            self.drop_queue(Refused(503, "what was sent before isn't answered; nothing was done"))
+        if isinstance(why, log.AppendUncertain):
+            self.drop_all(batch, StatementRejected(503, str(why)))
+            self.drop_queue(StatementRejected(503, "what was sent before isn't answered; nothing was done"))
             return
         if isinstance(why, LogUnwritable):
-            self.drop_all(batch, Refused(503, f"{why}; nothing was done"))
+            self.drop_all(batch, StatementRejected(503, f"{why}; nothing was done"))
             return
-        found: Mapping[int, Entry | None] = why.found if isinstance(why, log.Used) else {}
-        if isinstance(why, log.Behind):
+        found: Mapping[int, Entry | None] = why.found if isinstance(why, log.KeysInUse) else {}
+        if isinstance(why, log.LogAdvanced):
             await self.take_others()
             found = {place: known for place, ask in enumerate(changes) if (known := self.known_since(ask)) is not None}
         self.queue.extendleft(reversed(batch))
@@ -246,14 +246,14 @@ class Feed:
             else:
                 ask.stands_for(one)
 
-    def is_used(self, ask: Ask) -> bool:
+    def is_used(self, ask: Submission) -> bool:
         """Whether the key of a change stands for another stream by now, at another desk."""
         wanted = ask.wanted
         if wanted is None or wanted.key is None or wanted.stream is None:
             return False
         return self.log.stream_of(wanted.who, wanted.key.partition("#")[0]) not in (None, wanted.stream)
 
-    def known_since(self, ask: Ask) -> Entry | None:
+    def known_since(self, ask: Submission) -> Entry | None:
         """The Entry that the key of a change stands for by now, at another desk, or None."""
         if ask.wanted is None or ask.wanted.key is None:
             return None
@@ -274,19 +274,19 @@ class Feed:
         while self.questions:
             self.drop(self.questions.popleft(), error)
 
-    def drop_all(self, asks: Sequence[Ask], error: Exception) -> None:
+    def drop_all(self, asks: Sequence[Submission], error: Exception) -> None:
         """Sends those away who wait for statements that aren't in the log, and for what their streams have behind them:
         nothing of a stream is done before what stands before it."""
         while asks:
             for ask in asks:
                 self.drop(ask, error)
-            broken: list[Ask] = []
-            left: collections.deque[Ask] = collections.deque()
+            broken: list[Submission] = []
+            left: collections.deque[Submission] = collections.deque()
             for ask in self.queue:
                 (broken if any(one.is_broken for one in ask.streams) else left).append(ask)
             self.queue, asks = left, broken
 
-    def drop(self, ask: Ask, error: Exception) -> None:
+    def drop(self, ask: Submission, error: Exception) -> None:
         """Sends those away who wait for a statement."""
         for one in ask.streams:
             one.is_broken = True

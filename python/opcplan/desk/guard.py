@@ -61,7 +61,7 @@ class Listing(NamedTuple, Generic[Value]):
     value: Value
 
 
-class Wrong(Error):
+class InvalidAccessFile(Error):
     """What is wrong with a file of users or tokens."""
 
 
@@ -74,7 +74,7 @@ class Listed(Generic[Value]):
         self.found: dict[str, Value] = {}
         self.now()
         if self.wrong:
-            raise Wrong(self.wrong)
+            raise InvalidAccessFile(self.wrong)
 
     def now(self) -> dict[str, Value]:
         """What the file lists now."""
@@ -86,12 +86,12 @@ class Listed(Generic[Value]):
                 self.stamp = stamp
         except OSError as error:
             self.stamp, self.found, self.wrong = None, {}, f"{self.path}: it can't be read: {error.strerror}"
-        except (Wrong, UnicodeDecodeError) as error:
+        except (InvalidAccessFile, UnicodeDecodeError) as error:
             self.stamp, self.found, self.wrong = None, {}, f"{self.path}: {error}"
         return self.found
 
     def of_file(self) -> dict[str, Value]:
-        """What stands in the file. Raises Wrong, OSError and UnicodeDecodeError."""
+        """What stands in the file. Raises InvalidAccessFile, OSError and UnicodeDecodeError."""
         found = {}
         with open(self.path, encoding="utf-8") as file:
             for number, line in enumerate(file, 1):
@@ -101,7 +101,7 @@ class Listed(Generic[Value]):
                 try:
                     name, value = self.read(words)
                 except (ValueError, KeyError):
-                    raise Wrong(f"line {number} isn't of the form that docs/use/DESK.md has") from None
+                    raise InvalidAccessFile(f"line {number} isn't of the form that docs/use/DESK.md has") from None
                 found[name] = value
         return found
 

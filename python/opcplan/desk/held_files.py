@@ -8,7 +8,7 @@ from opcplan.errors import Error
 from opcplan.plans import locks
 
 
-class Moved(Error):
+class FileReplaced(Error):
     """Another file has the place of one of a desk's files, or none."""
 
 
@@ -30,13 +30,13 @@ class HeldFiles:
 
     @contextlib.contextmanager
     def locked(self) -> Iterator[None]:
-        """A context in which no other desk has these files. Raises Held, with the path."""
+        """A context in which no other desk has these files. Raises FileLocked, with the path."""
         with contextlib.ExitStack() as held:
             for path, number in self.numbers.items():
                 try:
                     held.enter_context(locks.locked(number, locks.OF_A_DESK))
-                except locks.Held:
-                    raise locks.Held(path) from None
+                except locks.FileLocked:
+                    raise locks.FileLocked(path) from None
             held.callback(self.drop_unused)
             yield
 
@@ -71,9 +71,9 @@ class HeldFiles:
         return ""
 
     def check(self) -> None:
-        """Asks that the files have their places. Raises Moved."""
+        """Asks that the files have their places. Raises FileReplaced."""
         if why := self.moved():
-            raise Moved(why)
+            raise FileReplaced(why)
 
 
 def place_of(path: str) -> tuple[int, int] | None:

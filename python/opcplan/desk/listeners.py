@@ -12,7 +12,7 @@ from opcplan.desk.settings import Settings
 from opcplan.errors import Error
 
 
-class Unable(Error):
+class DeskNotStarted(Error):
     """Why a desk doesn't begin."""
 
 
@@ -24,14 +24,14 @@ class Listener(NamedTuple):
 
 
 def listeners_of(given: Settings, the_guard: Guard) -> list[Listener]:
-    """The sockets that are listened on. Raises Unable."""
+    """The sockets that are listened on. Raises DeskNotStarted."""
     found = []
     if given.listen:
         host, port = given.listen
         try:
             listener = socket.create_server((host, port), family=socket.AF_INET6 if ":" in host else socket.AF_INET)
         except OSError as error:
-            raise Unable(f"{host}:{port}: it can't be listened on: {error.strerror}") from None
+            raise DeskNotStarted(f"{host}:{port}: it can't be listened on: {error.strerror}") from None
         port = listener.getsockname()[1]
         the_guard.add_listener(host, port)
         found.append(Listener(listener, f"http://[{host}]:{port}" if ":" in host else f"http://{host}:{port}"))
@@ -41,7 +41,7 @@ def listeners_of(given: Settings, the_guard: Guard) -> list[Listener]:
 
 
 def by_socket(path: str) -> socket.socket:
-    """A Unix socket at a path, which whoever may be may reach: the guard asks who it is. Raises Unable."""
+    """A Unix socket at a path, which whoever may be may reach: the guard asks who it is. Raises DeskNotStarted."""
     listener = socket.socket(socket.AF_UNIX, socket.SOCK_STREAM)
     try:
         if os.path.lexists(path):
@@ -51,15 +51,15 @@ def by_socket(path: str) -> socket.socket:
         os.chmod(path, 0o666)
         listener.listen(128)
     except OSError as error:
-        raise Unable(f"{path}: it can't be listened on: {error.strerror or error}") from None
+        raise DeskNotStarted(f"{path}: it can't be listened on: {error.strerror or error}") from None
     return listener
 
 
 def check_left(path: str) -> None:
-    """Asks that what stands at a path is a socket that nobody listens on. Raises Unable."""
+    """Asks that what stands at a path is a socket that nobody listens on. Raises DeskNotStarted."""
     if not stat.S_ISSOCK(os.lstat(path).st_mode):
-        raise Unable(f"{path}: it is no socket; name another path")
+        raise DeskNotStarted(f"{path}: it is no socket; name another path")
     with socket.socket(socket.AF_UNIX, socket.SOCK_STREAM) as one:
         with contextlib.suppress(ConnectionRefusedError, FileNotFoundError):
             one.connect(path)
-            raise Unable(f"{path}: another program listens on it")
+            raise DeskNotStarted(f"{path}: another program listens on it")

@@ -11,12 +11,12 @@ import weakref
 from typing import IO, NamedTuple, TYPE_CHECKING
 
 from opcplan.desk import rows
-from opcplan.desk.errors import Refused
+from opcplan.desk.errors import StatementRejected
 from opcplan.plans.program import PYTHON
 
 if TYPE_CHECKING:
     from opcplan.desk.core import Desk
-    from opcplan.desk.planner import Ask
+    from opcplan.desk.planner import Submission
 
 PROCESS = [sys.executable, "-E", "-S", "-B", "-m", "opcplan.desk.rows_process"]
 # bytes of rows that become JSON here: a millisecond or two
@@ -27,7 +27,7 @@ MOST, MOST_BYTES = 64, 200 << 20
 LONGEST = 300
 
 
-class Shown(NamedTuple):
+class ListContent(NamedTuple):
     """A list as lines of JSON: in memory, or in a file where it is long; and the state of the plan that it shows."""
 
     tag: str
@@ -37,11 +37,11 @@ class Shown(NamedTuple):
     file: IO[bytes] | None = None
 
 
-class Made(NamedTuple):
+class CachedList(NamedTuple):
     """A list that is made, or is in the making, and the question by which opcplan shows it."""
 
-    ask: "Ask"
-    shown: asyncio.Task[Shown]
+    ask: "Submission"
+    shown: asyncio.Task[ListContent]
 
     @property
     def size(self) -> int:
@@ -54,12 +54,12 @@ class Lists:
 
     def __init__(self, desk: "Desk") -> None:
         self.desk = desk
-        self.asks: dict[bytes, Ask] = {}  # by statement: what opcplan was asked, or is to be
-        self.made: dict[rows.Selection, Made] = {}
+        self.asks: dict[bytes, Submission] = {}  # by statement: what opcplan was asked, or is to be
+        self.made: dict[rows.Selection, CachedList] = {}
         self.callers: weakref.WeakValueDictionary[str, asyncio.Lock] = weakref.WeakValueDictionary()
 
-    async def shown(self, who: str, selection: rows.Selection) -> Shown:
-        """A list for a caller, who has one made at a time. Raises Refused and Stopped."""
+    async def shown(self, who: str, selection: rows.Selection) -> ListContent:
+        """A list for a caller, who has one made at a time. Raises StatementRejected and PlannerStopped."""
         lock = self.callers[who] = self.callers.get(who) or asyncio.Lock()
         async with lock:
             made = self.made.get(selection)
@@ -67,22 +67,22 @@ class Lists:
                 made = self.begin(selection)
             return await asyncio.shield(made.shown)
 
-    def begin(self, selection: rows.Selection) -> Made:
-        """Begins to make a list. Raises Refused."""
+    def begin(self, selection: rows.Selection) -> CachedList:
+        """Begins to make a list. Raises StatementRejected."""
         self.drop_oldest()
         ask = self.ask(selection.text)
-        made = self.made[selection] = Made(ask, asyncio.create_task(shown_of(ask, selection)))
+        made = self.made[selection] = CachedList(ask, asyncio.create_task(shown_of(ask, selection)))
         made.shown.add_done_callback(lambda done: self.settle(selection, made))
         return made
 
-    def ask(self, text: bytes) -> "Ask":
-        """The Ask of a statement that shows a list. Raises Refused."""
+    def ask(self, text: bytes) -> "Submission":
+        """The Submission of a statement that shows a list. Raises StatementRejected."""
         ask = self.asks.get(text)
         if ask is None:
             ask = self.asks[text] = self.desk.ask_question("list", text)
         return ask
 
-    def settle(self, selection: rows.Selection, made: Made) -> None:
+    def settle(self, selection: rows.Selection, made: CachedList) -> None:
         """A list is made, or can't be: then the next caller has it tried again."""
         if (made.shown.cancelled() or made.shown.exception()) and self.made.get(selection) is made:
             del self.made[selection]
@@ -96,7 +96,7 @@ class Lists:
             size -= oldest.size
             self.forget(oldest.ask)
 
-    def forget(self, ask: "Ask") -> None:
+    def forget(self, ask: "Submission") -> None:
         """A question isn't asked any more, or its answer isn't kept."""
         if ask.text is not None and self.asks.get(ask.text) is ask:
             del self.asks[ask.text]
@@ -111,37 +111,38 @@ class Lists:
         self.asks, self.made = {}, {}
 
 
-async def shown_of(ask: "Ask", selection: rows.Selection) -> Shown:
-    """What a list shows, once opcplan has answered. Raises Refused and Stopped."""
+async def shown_of(ask: "Submission", selection: rows.Selection) -> ListContent:
+    """What a list shows, once opcplan has answered. Raises StatementRejected and PlannerStopped."""
     await ask.wait()
     if ask.wrong is not None:
-        raise Refused(503, ask.wrong)
+        raise StatementRejected(503, ask.wrong)
     tag = ask.tag or ""
     try:
         if ask.row_bytes <= SHORT:
             data = b"".join(map(selection.lines, ask.pieces()))
-            return Shown(tag, ask.position, len(data), data)
+            return ListContent(tag, ask.position, len(data), data)
         file = tempfile.TemporaryFile(prefix="desk-")  # it goes with the last who reads it
         await turned(ask.number(), file.fileno(), selection)
-        return Shown(tag, ask.position, os.fstat(file.fileno()).st_size, file=file)
-    except rows.Wrong as why:
-        raise Refused(503, str(why)) from None
+        return ListContent(tag, ask.position, os.fstat(file.fileno()).st_size, file=file)
+    except rows.InvalidSelection as why:
+        raise StatementRejected(503, str(why)) from None
     except OSError as error:
-        raise Refused(503, f"its rows can't be kept: {error.strerror}") from None
+        raise StatementRejected(503, f"its rows can't be kept: {error.strerror}") from None
 
 
 async def turned(lines: int, json: int, selection: rows.Selection) -> None:
-    """Has a process turn the lines of one file into JSON in another one. Raises Refused and OSError."""
+    """Has a process turn the lines of one file into JSON in another one. Raises StatementRejected and OSError."""
     process = await asyncio.create_subprocess_exec(
         *PROCESS, *selection.words, cwd=PYTHON, stdin=lines, stdout=json, stderr=asyncio.subprocess.PIPE)
     try:
         _, said = await asyncio.wait_for(process.communicate(), LONGEST)
     except asyncio.TimeoutError:
-        raise Refused(503, "the list takes too long; try again") from None
+        raise StatementRejected(503, "the list takes too long; try again") from None
     finally:
         if process.returncode is None:
             with contextlib.suppress(ProcessLookupError):
                 process.kill()
     if process.returncode:
-        told = said.decode("utf-8", "replace").strip().split("\n")[-1]
-        raise Refused(503, f"the list can't be made: {told or f'its process ended with status {process.returncode}'}")
+        message = said.decode("utf-8", "replace").strip().split("\n")[-1]
+        raise StatementRejected(503, "the list can't be made: "
+                                f"{message or f'its process ended with status {process.returncode}'}")

@@ -5,15 +5,16 @@ from collections.abc import Sequence
 
 from opcplan.desk import log
 from opcplan.plans import chain, entry
-from opcplan.plans.journal import Journal, Kept
+from opcplan.plans.journal import Journal, JournalReply
 
 
-class Alone(log.Log):
+class LocalLog(log.Log):
     """The log of a desk that shares its plan with no other."""
 
     def __init__(self, journal: Journal) -> None:
         super().__init__(journal)
         self.known = journal.position()
+        self.begins = journal.first() - 1  # what was before is pruned, or a journal that is lost had it
         self.own = secrets.token_hex(4)
 
     @property
@@ -32,7 +33,7 @@ class Alone(log.Log):
         base = self.journal.first() - 1
         return self.journal.digest_at(position, base, chain.chain_of("journal", base))
 
-    async def append(self, batch: Sequence[entry.Wanted], replies: Sequence[Kept],
+    async def append(self, batch: Sequence[entry.Wanted], replies: Sequence[JournalReply],
                      until: float) -> list[entry.Entry]:
         entries = entry.placed(batch, self.known)
         await self.keep(entries, replies)

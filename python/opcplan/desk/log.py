@@ -11,21 +11,21 @@ from typing import Any
 
 from opcplan.errors import Error, LogUnwritable
 from opcplan.plans.entry import Entry, Wanted
-from opcplan.plans.journal import Journal, Kept
+from opcplan.plans.journal import Journal, JournalReply
 
 # how many changes are appended together, at most
 MOST_TOGETHER = 64
 
 
-class Unsure(LogUnwritable):
+class AppendUncertain(LogUnwritable):
     """Why it isn't known whether a batch stands in the log: who sends it again under its key finds out."""
 
 
-class Behind(Error):
+class LogAdvanced(Error):
     """What others appended comes before the batch; nothing of the batch stands in the log."""
 
 
-class Used(Error):
+class KeysInUse(Error):
     """Keys of a batch stand for entries already, by the place in the batch: an Entry, or None where it is another
     statement's. Nothing of the batch stands in the log."""
 
@@ -68,9 +68,9 @@ class Log(abc.ABC):
         """The digest of the log up to an entry that is answered, or None where it isn't known."""
 
     @abc.abstractmethod
-    async def append(self, batch: Sequence[Wanted], replies: Sequence[Kept], until: float) -> list[Entry]:
+    async def append(self, batch: Sequence[Wanted], replies: Sequence[JournalReply], until: float) -> list[Entry]:
         """Puts changes behind what is there, and keeps replies, up to a moment of the steady clock: their Entries.
-        Raises Unwritable, Behind and Used."""
+        Raises Unwritable, LogAdvanced and KeysInUse."""
 
     @abc.abstractmethod
     async def others(self) -> list[Entry]:
@@ -82,7 +82,8 @@ class Log(abc.ABC):
 
     @abc.abstractmethod
     async def used(self, wanted: Sequence[Wanted]) -> dict[int, Entry | None]:
-        """What the keys of a stream's Wanted stand for where the journal can't tell, as in Used. Raises Unwritable."""
+        """What the keys of a stream's Wanted stand for where the journal can't tell, as in KeysInUse. Raises
+        Unwritable."""
 
     def start(self, on_news: Callable[[], None], on_difference: Callable[[str], None]) -> None:
         """Begins to look for what others append, and calls `on_news` then, and `on_difference` with a sentence where
@@ -116,11 +117,11 @@ class Log(abc.ABC):
             raise
         self.unwritten = ""
 
-    async def keep(self, entries: Sequence[Entry], replies: Sequence[Kept]) -> None:
+    async def keep(self, entries: Sequence[Entry], replies: Sequence[JournalReply]) -> None:
         """Keeps entries that have their places, and replies. Raises Unwritable."""
         await self.written(self.journal.put, entries, replies)
 
-    async def keep_replies(self, replies: Sequence[Kept]) -> None:
+    async def keep_replies(self, replies: Sequence[JournalReply]) -> None:
         """Keeps what entries were answered. Raises Unwritable."""
         await self.written(self.journal.keep_replies, replies)
 

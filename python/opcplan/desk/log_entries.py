@@ -54,9 +54,10 @@ def number_of(kv: Mapping[str, str]) -> int:
 
 def batch_text(mark: str, entries: Sequence[entry.Entry]) -> str:
     """Entries as they stand in etcd."""
-    told = [{"at": one.at, "who": one.who, "key": one.key, "job": one.job, **stream_value(one), **text_value(one.text)}
-            for one in entries]
-    return json.dumps({"mark": mark, "batch": told}, ensure_ascii=False, separators=(",", ":"))
+    values = [{"at": one.at, "who": one.who, "key": one.key, "job": one.job, **stream_value(one),
+               **text_value(one.text)}
+              for one in entries]
+    return json.dumps({"mark": mark, "batch": values}, ensure_ascii=False, separators=(",", ":"))
 
 
 def stream_value(one: entry.Entry) -> dict[str, str]:
@@ -78,11 +79,11 @@ def text_value(data: bytes) -> dict[str, str]:
 def batch_of(kv: Mapping[str, str]) -> Batch:
     """The Batch of a key and its value."""
     first = number_of(kv)
-    told: dict[str, Any] = json.loads(of_base64(kv["value"]))
-    return Batch(told["mark"], [
+    fields: dict[str, Any] = json.loads(of_base64(kv["value"]))
+    return Batch(fields["mark"], [
         entry.Entry(first + place, one["at"], one["who"], one["key"], one["job"],
                     one["text"].encode() if "text" in one else base64.b64decode(one["base64"]), None, one.get("stream"))
-        for place, one in enumerate(told["batch"])])
+        for place, one in enumerate(fields["batch"])])
 
 
 def holder_of(one: entry.Entry) -> KeyHolder:

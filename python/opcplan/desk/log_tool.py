@@ -5,9 +5,9 @@ from collections.abc import Sequence
 from typing import Protocol
 
 from opcplan.desk import bootstrap, log_words
-from opcplan.desk.etcd import Away, Member, Wrong
+from opcplan.desk.etcd import EtcdError, EtcdUnreachable, Member
 from opcplan.desk.store import State, Store
-from opcplan.desk.versions import Unfit, different, first_line, version_at, version_of
+from opcplan.desk.versions import CannotJoin, different, first_line, version_at, version_of
 from opcplan.plans import journal
 
 # seconds that a node may take to give its room back
@@ -47,14 +47,14 @@ class Words(log_words.EtcdWords, Protocol):
 
 
 async def done(given: Words, program: str | None) -> list[str]:
-    """The lines that say what was done, or what stands there; with `begin` and `version` by a program. Raises Unfit and
-    Unreadable."""
+    """The lines that say what was done, or what stands there; with `begin` and `version` by a program. Raises
+    CannotJoin and Unreadable."""
     async with bootstrap.opened(given.log, log_words.access_of(given)) as store:
         if given.begin and program:
             return await begin(store, given.begin, given.journal, program)
         state = await store.state()
         if state is None:
-            raise Unfit(f"{given.log}: there is no such log in etcd")
+            raise CannotJoin(f"{given.log}: there is no such log in etcd")
         if given.version and program:
             return await move_version(store, state, program)
         if given.trim:
@@ -69,9 +69,9 @@ async def shown(store: Store, state: State) -> list[str]:
              f"bytes {size.bytes}", f"begun behind {state.base}",
              *(f"version from {since}: {', '.join(version.splitlines())}"
                for since, version in sorted(state.versions.items()))]
-    for name, told in sorted((await store.desks()).items()):
-        behind = state.head.last - told.position
-        lines.append(f"desk {name}: position {told.position}, {behind} behind, as of {told.at}")
+    for name, report in sorted((await store.desks()).items()):
+        behind = state.head.last - report.position
+        lines.append(f"desk {name}: position {report.position}, {behind} behind, as of {report.at}")
     for endpoint in store.etcd.endpoints:
         lines.append(f"member {endpoint}: {of_member(await store.etcd.standing(endpoint))}")
     return lines
@@ -88,13 +88,13 @@ def of_member(one: Member) -> str:
 async def trim(store: Store, state: State, kept: int, gone_for_good: Sequence[str]) -> list[str]:
     """Takes old entries away: none that a desk lacks which said how far it is and isn't gone for good, and never the
     last one."""
-    told = await store.desks()
+    reports = await store.desks()
     for name in gone_for_good:
-        if name not in told:
-            raise Unfit(f"no desk {name} said how far it is; `./plan log {store.where}` names those that did")
+        if name not in reports:
+            raise CannotJoin(f"no desk {name} said how far it is; `./plan log {store.where}` names those that did")
     for name in gone_for_good:
         await store.forget(name)
-    desks = sorted(((name, one) for name, one in told.items() if name not in gone_for_good),
+    desks = sorted(((name, one) for name, one in reports.items() if name not in gone_for_good),
                    key=lambda one: one[1].position)
     wanted = state.head.last - max(kept, 1) + 1
     least = min([wanted, *(one.position for _, one in desks)])
@@ -113,7 +113,7 @@ async def room(store: Store, revision: int) -> list[str]:
     etcd = store.etcd
     try:
         await etcd.at(etcd.endpoint, "/v3/kv/compaction", {"revision": str(revision), "physical": True}, LONGEST)
-    except Wrong as why:
+    except EtcdError as why:
         if "compacted" not in str(why):
             raise
     lines = []
@@ -123,7 +123,7 @@ async def room(store: Store, revision: int) -> list[str]:
             await etcd.at(endpoint, "/v3/maintenance/defragment", {}, LONGEST)
             after = await etcd.standing(endpoint)
             lines.append(f"member {endpoint}: {before.bytes} bytes before, {of_member(after)} now")
-        except (Away, Wrong) as why:
+        except (EtcdUnreachable, EtcdError) as why:
             lines.append(f"member {endpoint}: it isn't defragmented: {why}")
     alarms = (await etcd.post("/v3/maintenance/alarm", {"action": "GET"})).get("alarms", ())
     for alarm in alarms:
@@ -144,9 +144,9 @@ async def move_version(store: Store, state: State, program: str) -> list[str]:
     since = state.head.last + 1
     lines = [f"from entry {since} on the log is answered by {first_line(version)}{different(version, old)}; "
              f"start each desk with it, once it has entry {since - 1}"]
-    for name, told in sorted((await store.desks()).items()):
-        if told.position < since - 1:
-            lines.append(f"desk {name} has no more than entry {told.position} yet, as of {told.at}")
+    for name, report in sorted((await store.desks()).items()):
+        if report.position < since - 1:
+            lines.append(f"desk {name} has no more than entry {report.position} yet, as of {report.at}")
     return lines
 
 
@@ -155,16 +155,17 @@ async def begin(store: Store, plan: str, kept_by: str | None, program: str) -> l
     path = os.path.realpath(kept_by or journal.beside(plan))
     version = version_of(program)
     if await store.state() is not None:
-        raise Unfit(f"{store.where}: there is such a log already; name another one")
+        raise CannotJoin(f"{store.where}: there is such a log already; name another one")
     record = journal.for_desk(path, plan)
     try:
         with journal.at_rest(plan) as held:
             position = record.position()
             if record.unanswered():
-                raise Unfit(f"{path}: it has entries that weren't answered; start the plan's desk once more, end it, "
-                            "and begin then")
+                raise CannotJoin(f"{path}: it has entries that weren't answered; start the plan's desk once more, end "
+                                 "it, "
+                                 "and begin then")
             if not await bootstrap.begun(store, held, position, version):
-                raise Unfit(f"{store.where}: another one made such a log meanwhile")
+                raise CannotJoin(f"{store.where}: another one made such a log meanwhile")
     finally:
         record.close()
     return [f"{store.where} begins behind entry {position} of {plan}"]

@@ -1,12 +1,16 @@
 """What a desk counts, as Prometheus reads it."""
 
 import collections
+import datetime
 import time
-from typing import TYPE_CHECKING
+from collections.abc import Mapping
+from typing import Any, TYPE_CHECKING
+
+from opcplan.rules import moments
 
 if TYPE_CHECKING:
     from opcplan.desk.core import Desk
-    from opcplan.desk.planner import Ask
+    from opcplan.desk.planner import Submission
 
 BOUNDS = (0.001, 0.002, 0.005, 0.01, 0.02, 0.05, 0.1, 0.2, 0.5, 1, 2, 5, 10, 30)
 
@@ -19,15 +23,15 @@ class Metrics:
         self.took: collections.Counter[str] = collections.Counter()  # by the bound below which it is
         self.seconds = 0.0
 
-    def count(self, ask: "Ask", reply: str) -> None:
+    def count(self, ask: "Submission", reply: str) -> None:
         """Counts an answer of a statement that somebody asked for."""
         took = time.monotonic() - ask.begun
         self.answers[ask.name, reply.partition(" ")[0]] += 1
         self.took[next((str(bound) for bound in BOUNDS if took <= bound), "+Inf")] += 1
         self.seconds += took
 
-    def text(self, desk: "Desk") -> str:
-        """All that is counted of a desk."""
+    def text(self, desk: "Desk", facts: Mapping[str, Any] | None = None) -> str:
+        """All that is counted of a desk, and of its plan by the facts of it, where they are known."""
         planner = desk.planner
         lines = []
         for name, kind, value in (
@@ -45,7 +49,8 @@ class Metrics:
         lines.append("# TYPE opcplan_desk_answers_total counter")
         for (statement, word), count in sorted(self.answers.items()):
             lines.append(f'opcplan_desk_answers_total{{statement="{statement}",reply="{word}"}} {count}')
-        return "\n".join([*lines, *self.seconds_lines()]) + "\n"
+        lines += [*self.seconds_lines(), *plan_lines(facts or {}), *agent_lines(desk.agents.values())]
+        return "\n".join(lines) + "\n"
 
     def seconds_lines(self) -> list[str]:
         """How long answers took, as a histogram."""
@@ -55,3 +60,31 @@ class Metrics:
             total += self.took[bound]
             lines.append(f'{name}_bucket{{le="{bound}"}} {total}')
         return [*lines, f"{name}_sum {self.seconds:.6f}", f"{name}_count {total}"]
+
+
+def plan_lines(facts: Mapping[str, Any]) -> list[str]:
+    """What a plan counts, and when it ends, in seconds since 1970 by the zone of this machine."""
+    lines = []
+    for name, value in facts.get("counts", {}).items():
+        lines += [f"# TYPE opcplan_plan_{name} gauge", f"opcplan_plan_{name} {value}"]
+    last = facts.get("last_day")
+    for name, text in (("end", facts.get("plan_end")), ("last_day_end", last and f"{last}/23.59"),
+                       ("as_of", facts.get("now"))):
+        moment = moments.moment_of(text) if text else None
+        if moment is not None:
+            seconds = (moments.EPOCH + datetime.timedelta(minutes=moment + (name == "last_day_end"))).timestamp()
+            lines += [f"# TYPE opcplan_plan_{name}_timestamp_seconds gauge",
+                      f"opcplan_plan_{name}_timestamp_seconds {seconds:.0f}"]
+    return lines
+
+
+def agent_lines(agents: Mapping[str, Mapping[str, float]]) -> list[str]:
+    """How many seconds ago each agent looked last."""
+    name = "opcplan_agent_age_seconds"
+    lines = [f"# TYPE {name} gauge"] if agents else []
+    return [*lines, *(f"{name}{{agent={label(who)}}} {one['age']}" for who, one in agents.items())]
+
+
+def label(text: str) -> str:
+    """A text as the value of a label."""
+    return '"' + text.replace("\\", "\\\\").replace('"', '\\"').replace("\n", "\\n") + '"'

@@ -11,11 +11,13 @@ SAID = {
     "403": "nothing was done: the caller may not",
     "503": "not answered for now; send it again",
 }
-OF_STATEMENTS = {
+MORE = {
+    "204": "there is none",
     "408": "nothing was done, for the body took too long",
     "409": "nothing was done, for another stream has the key",
     "412": "nothing was done, for the plan isn't in the state that If-Match names",
     "413": "nothing was done, for the body is too long",
+    "507": "nothing was done, for the disk takes nothing",
 }
 OWN = {"name": "X-Opcplan", "in": "header", "required": True, "schema": {"const": "desk"},
        "description": "no form of another page can send it"}
@@ -53,12 +55,13 @@ def operation(route: routes.Route) -> dict[str, Any]:
 def parameter(one: routes.Parameter) -> dict[str, Any]:
     """A parameter."""
     schema = {"type": "string", "pattern": f"^(?:{one.pattern})$"}
-    return {"name": one.name, "in": str(one.place), "description": one.about, "schema": schema}
+    always = {"required": True} if one.place == routes.Place.PATH else {}
+    return {"name": one.name, "in": str(one.place), "description": one.about, "schema": schema, **always}
 
 
 def responses(route: routes.Route) -> dict[str, Any]:
     """What a route is answered, by status."""
-    said = SAID | (OF_STATEMENTS if route.body else {})
+    said = SAID | {status: MORE[status] for status in route.statuses}
     found: dict[str, Any] = {status: {"description": text} for status, text in said.items()}
     kinds = [route.kind, *([routes.LINES] if route.body else [])]
     if route.kind:

@@ -14,7 +14,7 @@ from typing import NamedTuple, TYPE_CHECKING
 from aiohttp import web
 
 from opcplan.desk import guard, live_parts, rows, snapshot
-from opcplan.desk.held_files import Moved
+from opcplan.desk.held_files import FileReplaced
 from opcplan.errors import Unreadable
 from opcplan.plans import tempfiles
 from opcplan.plans.program import PYTHON
@@ -40,7 +40,7 @@ class Page:
     def __init__(self, desk: "Desk", path: str, has_tokens: bool) -> None:
         self.desk, self.path, self.has_tokens = desk, path, has_tokens
         self.making = asyncio.Lock()
-        self.made: Made | None = None
+        self.made: CachedPage | None = None
 
     async def sign_in(self, request: web.Request) -> web.StreamResponse:
         """GET / of a caller who may not read: who has no token yet is asked for one."""
@@ -69,10 +69,10 @@ class Page:
         """The entry that what is shown has to have, where it has to be fresh, or 0. Raises HTTPBadRequest."""
         try:
             return await self.desk.catch_up() if rows.is_fresh(request.query) else 0
-        except rows.Wrong as why:
+        except rows.InvalidSelection as why:
             raise web.HTTPBadRequest(text=f"{why}\n") from None
 
-    def own(self, request: web.Request, made: "Made") -> bytes:
+    def own(self, request: web.Request, made: "CachedPage") -> bytes:
         """What the page has besides the plan: who looks at it, what that one may, and the state that is shown."""
         return page_html.data_text({
             "who": request["who"], "role": guard.role_name(request["role"]), "tag": made.tag,
@@ -81,7 +81,7 @@ class Page:
             "acts": ACTS, "reply": REPLY,
         }).encode()
 
-    async def page(self, now: int | None, since: int = 0) -> "Made":
+    async def page(self, now: int | None, since: int = 0) -> "CachedPage":
         """What is made of the plan as it stands, or stood a moment ago where nothing changed."""
         begun = time.monotonic()
         async with self.making:
@@ -90,27 +90,27 @@ class Page:
                 self.made = made = await self.make(now)
         return made
 
-    def is_fresh(self, made: "Made", begun: float, since: int) -> bool:
+    def is_fresh(self, made: "CachedPage", begun: float, since: int) -> bool:
         """Whether what was made will do for whoever asked at a time, and has the entry `since`."""
         if made.begun >= begun:
             return True
         is_last = made.position >= since if since else made.tag == self.desk.tag()
         return is_last and made.begun > begun - LONGEST
 
-    async def make(self, now: int | None) -> "Made":
+    async def make(self, now: int | None) -> "CachedPage":
         """What is made of a copy of the plan. Raises HTTPServiceUnavailable."""
         with tempfiles.folder("desk-") as folder:
             copy, begun = os.path.join(folder, "plan.db"), time.monotonic()
             try:
                 stands = await snapshot.copied(self.desk, self.path, copy)
-            except (OSError, Unreadable, Moved) as error:
+            except (OSError, Unreadable, FileReplaced) as error:
                 raise web.HTTPServiceUnavailable(text=f"there is no copy of the plan: {error}\n") from None
             name = os.path.basename(os.path.realpath(self.path))
             parts = await parts_of(copy, name, "-" if now is None else str(now))
-        return Made(now, begun, stands.position, stands.tag, parts)
+        return CachedPage(now, begun, stands.position, stands.tag, parts)
 
 
-class Parts(NamedTuple):
+class PageParts(NamedTuple):
     """What the process prints: whether the moment stands, what the page has before the plan's data, the data, and what
     it has behind."""
 
@@ -120,14 +120,14 @@ class Parts(NamedTuple):
     end: bytes
 
 
-class Made(NamedTuple):
+class CachedPage(NamedTuple):
     """A page that was made: as of when, when that began by the steady clock, and in which state of the plan."""
 
     now: int | None
     begun: float
     position: int
     tag: str
-    parts: Parts
+    parts: PageParts
 
     def heads(self) -> dict[str, str]:
         """The headers that name the state."""
@@ -137,7 +137,7 @@ class Made(NamedTuple):
 END_OF_DATA = b'</script>\n<script type="application/json" id="desk">'
 
 
-async def parts_of(copy: str, name: str, now: str) -> Parts:
+async def parts_of(copy: str, name: str, now: str) -> PageParts:
     """What the process says of a copy. Raises HTTPServiceUnavailable."""
     process = await asyncio.create_subprocess_exec(
         *PROCESS, copy, name, now, cwd=PYTHON, stdin=asyncio.subprocess.DEVNULL, stdout=asyncio.subprocess.PIPE,
@@ -151,9 +151,9 @@ async def parts_of(copy: str, name: str, now: str) -> Parts:
             if process.returncode is None:
                 process.kill()
     if process.returncode:
-        told = said.decode("utf-8", "replace").strip().split("\n")[-1]
-        raise web.HTTPServiceUnavailable(text=f"the page can't be made: {told}\n")
-    return Parts(*out.split(b"\0"))
+        message = said.decode("utf-8", "replace").strip().split("\n")[-1]
+        raise web.HTTPServiceUnavailable(text=f"the page can't be made: {message}\n")
+    return PageParts(*out.split(b"\0"))
 
 
 def moment_asked(request: web.Request) -> int | None:

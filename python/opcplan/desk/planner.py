@@ -27,7 +27,7 @@ OPEN = b"refused 10\n"
 # behind a line feed, with which the pattern begins, so that it is looked for fast; rows have neither of these words at
 # their begin: names are written in capitals
 REPLY = re.compile(rb"\n(?:ok|refused|fault)(?: [^\n]*)?(?=\n)")
-HELD = "another program has FILE open"
+HELD = "another program has the file open"
 PIECE = 1 << 17
 ROWS_IN_MEMORY = 1 << 20
 # lives in which one statement was asked, or in which the plan wasn't opened, until the planner counts as stopped
@@ -42,32 +42,33 @@ LONGEST_END = 60.0
 LIMIT = 60.0
 
 
-class Stopped(Error):
+class PlannerStopped(Error):
     """Why the planner answers nothing for now."""
 
 
-class Talk(NamedTuple):
+class PlannerRun(NamedTuple):
     """What came of a life of opcplan: whether it opened the plan, and the fault that it told."""
 
     opened: bool
     fault: str
 
 
-class Taken(NamedTuple):
+class OutputRest(NamedTuple):
     """What is left of opcplan's output behind its whole lines, and a fault where one was told."""
 
     rest: bytes
     fault: str
 
 
-class Ask:
+class Submission:
     """A statement, and what becomes of it: a change has an Entry once it stands in the log."""
 
     def __init__(self, name: str | None, text: bytes | None = None, wanted: Wanted | None = None) -> None:
         self.name, self.text, self.wanted = name, text, wanted  # no name where another desk was asked
         self.entry: Entry | None = None
         self.is_again = False  # its entry was answered before, at this desk or another one
-        self.condition: str | None = None  # the tag of the state that it asks for
+        # the tag of the state that it asks for, or the change of its stream that has to have left that state
+        self.condition: str | Submission | None = None
         self.streams: list["Body"] = []  # that wait for it
         self.begun = time.monotonic()
         self.tries = 0
@@ -77,7 +78,7 @@ class Ask:
         self.tag: str | None = None  # with the position, of the state in which it was answered
         self.position = 0
         self.wrong: str | None = None  # why its rows can't be had
-        self.waiting: list[asyncio.Future["Ask"]] = []
+        self.waiting: list[asyncio.Future["Submission"]] = []
 
     @property
     def line(self) -> bytes:
@@ -91,6 +92,11 @@ class Ask:
         return self.wanted is not None and self.entry is None
 
     @property
+    def asked_tag(self) -> str:
+        """The tag of the state that it asks for; nothing where that isn't known."""
+        return (self.condition.tag if isinstance(self.condition, Submission) else self.condition) or ""
+
+    @property
     def size(self) -> int:
         """How many bytes it takes in the log, without its line."""
         return len(self.wanted.data or b"") if self.wanted is not None else 0
@@ -99,9 +105,9 @@ class Ask:
         """It stands for an Entry that was answered before, and is answered so again."""
         self.text, self.entry, self.is_again = one.text, one, True
 
-    def wait(self) -> asyncio.Future["Ask"]:
-        """A future of this Ask once it is answered; it raises what `fail` is told."""
-        future: asyncio.Future[Ask] = asyncio.get_running_loop().create_future()
+    def wait(self) -> asyncio.Future["Submission"]:
+        """A future of this Submission once it is answered; it raises what `fail` is told."""
+        future: asyncio.Future[Submission] = asyncio.get_running_loop().create_future()
         if self.reply is None:
             self.waiting.append(future)
         else:
@@ -155,7 +161,7 @@ class Ask:
         for future in self.left_waiting():
             future.set_exception(error)
 
-    def left_waiting(self) -> list[asyncio.Future["Ask"]]:
+    def left_waiting(self) -> list[asyncio.Future["Submission"]]:
         """Those who wait, who don't any more from now on."""
         waiting, self.waiting = self.waiting, []
         return [future for future in waiting if not future.done()]
@@ -166,8 +172,8 @@ class Planner:
     their order; `why_not` says why the program may not be run for now, or nothing. It may say nothing for `limit`
     seconds while something is asked."""
 
-    def __init__(self, program: str, files: HeldFiles, the_state: state.State[Ask],
-                 on_answer: Callable[[state.Answer[Ask]], None], on_stop: Callable[[str], None],
+    def __init__(self, program: str, files: HeldFiles, the_state: state.State[Submission],
+                 on_answer: Callable[[state.Answer[Submission]], None], on_stop: Callable[[str], None],
                  why_not: Callable[[], str], limit: float = LIMIT) -> None:
         self.words = [program, "--db", files.plan]
         self.files, self.state, self.limit = files, the_state, limit
@@ -197,7 +203,7 @@ class Planner:
             opened = False
             try:
                 opened = bool(not self.halted and await self.life())
-            except state.Broken as why:
+            except state.InvariantBroken as why:
                 self.halt(f"the desk doesn't go on, for its entries aren't in order: {why}")
                 self.is_over.set()
             if self.halted:
@@ -223,7 +229,7 @@ class Planner:
         """Sends away all who wait. What stands in the log is asked again; questions alone go."""
         self.stopped = why
         for drop in self.state.stopped():
-            drop.item.fail(Stopped(why))
+            drop.item.fail(PlannerStopped(why))
         self.count_flight()
         self.on_stop(why)
 
@@ -278,7 +284,7 @@ class Planner:
                 return
 
     async def life(self) -> bool:
-        """One life of opcplan: whether it opened the plan. Raises Broken."""
+        """One life of opcplan: whether it opened the plan. Raises InvariantBroken."""
         self.files.forget_log()
         if why := self.why_not():
             self.why = why
@@ -294,7 +300,7 @@ class Planner:
         self.lives += 1
         if self.closing.is_set():
             piped(process.stdin).close()
-        told, self.heard = asyncio.create_task(piped(process.stderr).read()), time.monotonic()
+        errors, self.heard = asyncio.create_task(piped(process.stderr).read()), time.monotonic()
         watch = asyncio.create_task(self.watch(process))
         try:
             talk = await self.talk(process)
@@ -304,30 +310,30 @@ class Planner:
             self.is_open, self.open_since = False, None
         self.state.ended()
         status = await ended(process)
-        self.said = (await told).decode("utf-8", "replace").strip().split("\n")[0].removeprefix("opcplan: ")
+        self.said = (await errors).decode("utf-8", "replace").strip().split("\n")[0].removeprefix("opcplan: ")
         self.why = self.said or talk.fault or f"opcplan ended with status {status}"
         return talk.opened
 
-    async def talk(self, process: asyncio.subprocess.Process) -> Talk:
-        """Gives what is in flight, and takes answers until the program ends. Raises Broken."""
+    async def talk(self, process: asyncio.subprocess.Process) -> PlannerRun:
+        """Gives what is in flight, and takes answers until the program ends. Raises InvariantBroken."""
         data, opened = b"", False
         with contextlib.suppress(ConnectionResetError, BrokenPipeError):
             piped(process.stdin).write(PROBE)
             while piece := await piped(process.stdout).read(PIECE):
                 data, self.heard = data + piece, time.monotonic()
                 if not self.look_at_files():
-                    return Talk(opened, self.halted)
+                    return PlannerRun(opened, self.halted)
                 if not opened:
                     if b"\n" not in data:
                         continue
                     if not data.startswith(OPEN):
-                        return Talk(False, data.split(b"\n")[0].decode("ascii", "replace"))
+                        return PlannerRun(False, data.split(b"\n")[0].decode("ascii", "replace"))
                     opened, data = True, data[len(OPEN) :]
                     self.opened()
                 data, fault = self.take(data)
                 if fault:
-                    return Talk(True, fault)
-        return Talk(opened, "")
+                    return PlannerRun(True, fault)
+        return PlannerRun(opened, "")
 
     def opened(self) -> None:
         """Asks what wasn't answered again, in its order."""
@@ -339,7 +345,7 @@ class Planner:
             self.state.flight[0].tries += 1
         self.do(commands)
 
-    def do(self, commands: Sequence[state.Send[Ask] | state.Answer[Ask]]) -> None:
+    def do(self, commands: Sequence[state.Send[Submission] | state.Answer[Submission]]) -> None:
         """Does what the state says."""
         for one in commands:
             if isinstance(one, state.Send):
@@ -354,19 +360,19 @@ class Planner:
             self.state.flight[0].tries = max(self.state.flight[0].tries, 1)
         self.count_flight()
 
-    def write(self, item: Ask) -> None:
+    def write(self, item: Submission) -> None:
         """Gives opcplan the text of a statement; where it has ended, it is asked again in its next life."""
         assert item.text is not None and self.process is not None
         with contextlib.suppress(ConnectionResetError, BrokenPipeError):
             piped(self.process.stdin).write(item.text)
 
-    def take(self, data: bytes) -> Taken:
+    def take(self, data: bytes) -> OutputRest:
         """Takes whole lines."""
         text, begin = b"\n" + data, 1
         for found in REPLY.finditer(text):
             line = found.group()[1:].decode("ascii", "replace")
             if line.startswith("fault") or not self.state.flight:
-                return Taken(b"", line)
+                return OutputRest(b"", line)
             self.state.flight[0].take_rows(text[begin : found.start() + 1])
             begin = found.end() + 1
             self.do(self.state.replied(line))
@@ -374,7 +380,7 @@ class Planner:
         if end > begin and self.state.flight:
             self.state.flight[0].take_rows(text[begin:end])
             begin = end
-        return Taken(text[begin:], "")
+        return OutputRest(text[begin:], "")
 
     def count_flight(self) -> None:
         """Tells whether there is room for more, and whether nothing is left."""
@@ -384,7 +390,7 @@ class Planner:
             else:
                 event.clear()
 
-    async def give(self, ask: Ask) -> None:
+    async def give(self, ask: Submission) -> None:
         """Gives a statement over once there is room."""
         await self.room.wait()
         self.do(self.state.appended([ask]) if state.is_change(ask) else self.state.asked(ask))

@@ -10,12 +10,12 @@ from opcplan.rules import statements, stream
 MOST_STATEMENTS = 100_000
 
 
-class Wrong(Error):
+class BadStream(Error):
     """Why a stream isn't taken; nothing of it is done."""
 
 
 @dataclasses.dataclass(frozen=True)
-class Asked:
+class StreamItem:
     """An item of a stream."""
 
     name: str  # the statement's name, or `none`
@@ -32,38 +32,39 @@ class Asked:
         return statements.KINDS[self.name].role if self.changes else statements.Role.READ
 
 
-def of_stream(body: bytes) -> list[Asked]:
-    """What a stream asks, in its order. Raises Wrong."""
+def of_stream(body: bytes) -> list[StreamItem]:
+    """What a stream asks, in its order. Raises BadStream."""
     found = []
     try:
         for item in stream.items(stream.Source(io.BytesIO(body), "the stream")):
             if item.has_data and item.data is None:
-                raise Wrong(f"the data of line {item.line} have no end, so the stream isn't whole")
+                raise BadStream(f"the data of line {item.line} have no end, so the stream isn't whole")
             found.append(of_item(item))
             if len(found) > MOST_STATEMENTS:
-                raise Wrong(f"it has more than {MOST_STATEMENTS:,} statements; send it in parts")
+                raise BadStream(f"it has more than {MOST_STATEMENTS:,} statements; send it in parts")
     except Unreadable as why:
-        raise Wrong(str(why)) from None
+        raise BadStream(str(why)) from None
     return found
 
 
-def of_item(item: stream.Item) -> Asked:
-    """What an item asks. Raises Wrong."""
+def of_item(item: stream.Item) -> StreamItem:
+    """What an item asks. Raises BadStream."""
     statement, lacks_job = item.statement, False
     if statement is None:
         whole = item.text + b" --job %d" % entry.FIRST_JOB
         statement, _ = stream.read_line(whole, len(whole))
         lacks_job = statement is not None
     if statement is None:
-        return Asked("none", item.shown(), None, None, False, "refused 10")
+        return StreamItem("none", item.shown(), None, None, False, "refused 10")
     if item.has_data and not item.is_whole:
-        return Asked(statement.name, item.shown(), None, None, False, "refused 11 0")
+        return StreamItem(statement.name, item.shown(), None, None, False, "refused 11 0")
     words = statement.words[:-2] if lacks_job else statement.words
     line = " ".join(words)
     if not statements.KINDS[statement.name].changes:
-        return Asked(statement.name, line, None, None, False, None, line.encode("ascii") + b"\n")
+        return StreamItem(statement.name, line, None, None, False, None, line.encode("ascii") + b"\n")
     job = None if lacks_job else statement.job
     if job is not None and entry.FIRST_JOB <= job <= entry.LAST_JOB:
-        raise Wrong(f"line {item.line} has job {job}, and the desk gives {entry.FIRST_JOB} to {entry.LAST_JOB} itself; "
-                    "leave its --job out, or take another number")
-    return Asked(statement.name, line, item.data if item.has_data else None, job, True)
+        raise BadStream(f"line {item.line} has job {job}, and the desk gives {entry.FIRST_JOB} to {entry.LAST_JOB} "
+                        "itself; "
+                        "leave its --job out, or take another number")
+    return StreamItem(statement.name, line, item.data if item.has_data else None, job, True)

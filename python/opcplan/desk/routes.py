@@ -4,6 +4,7 @@ The middleware of the guard asks for the role, so that no handler can forget it.
 and `GET /openapi.json` describes it for programs."""
 
 import enum
+import re
 from typing import TYPE_CHECKING, NamedTuple
 
 from opcplan.rules import columns
@@ -21,6 +22,7 @@ class Place(enum.StrEnum):
 
     QUERY = "query"
     HEADER = "header"
+    PATH = "path"
 
 
 class Parameter(NamedTuple):
@@ -46,17 +48,22 @@ class Route(NamedTuple):
     is_open: bool = False  # whether callers without a token are refused by their role alone
     in_pieces: bool = False  # whether the body is sent piece by piece: aiohttp would send it to HEAD too
     body: str = ""  # the kind of the request's body
+    statuses: tuple[str, ...] = ()  # of HTTP, that it may have besides those that each route may have
 
     @property
     def name(self) -> str:
         """Its name as a program has it."""
-        return f"{self.method.lower()}_{self.path.strip('/').replace('/', '_').replace('.', '_') or 'page'}"
+        path = re.sub("[{}]", "", self.path.strip("/"))
+        return f"{self.method.lower()}_{re.sub('[/.]', '_', path) or 'page'}"
 
 
 DAY = "[0-9]{4}-[0-9]{2}-[0-9]{2}"
 FRESH = Parameter(Place.QUERY, "fresh", "[01]", "1 for all that any desk of the log answered till now")
 NOW = Parameter(Place.QUERY, "now", rf"{DAY}/[0-9]{{2}}\.[0-9]{{2}}", "as of when the page is shown, else the clock's")
+AS_OF = NOW._replace(about="as of when it is, else the clock's")
 NUMBER = "[0-9]{1,15}"
+SERIAL, TRY = "0{0,8}[1-9][0-9]{0,8}", "[1-9][0-9]?"
+OF_A_LOG = Parameter(Place.PATH, "serial", SERIAL, "the serial of an occurrence")
 KEY = '[!-"$-~]{1,200}'
 OF_ROWS = (
     Parameter(Place.QUERY, "list", "|".join(columns.LISTS), "the list, `cp` where none is named"),
@@ -70,13 +77,15 @@ OF_ROWS = (
 OF_STATEMENTS = (
     Parameter(Place.HEADER, "Accept", ".*", "`application/x-ndjson` for lines of JSON"),
     Parameter(Place.HEADER, "Idempotency-Key", KEY, "the stream is done once under this key"),
-    Parameter(Place.HEADER, "If-Match", ".*", "of one statement: the state in which it is done"),
+    Parameter(Place.HEADER, "If-Match", ".*",
+              "the state in which the first change is done; each further one is done in the state that the one before "
+              "it left, and where somebody changed that the answer ends"),
 )
 ROUTES = (
     Route("POST", "/statements", Role.READ, "statements", TEXT,
           "the body is a job stream (`STREAM.md`). Each statement gets its rows and its reply line, as `opcplan` "
           "prints them, or with `Accept: application/x-ndjson` a line of JSON: `seq`, `statement`, `job`, `rows`, "
-          "`reply`, `at`, `key`", OF_STATEMENTS, body=TEXT),
+          "`reply`, `at`, `key`", OF_STATEMENTS, body=TEXT, statuses=("408", "409", "412", "413")),
     Route("GET", "/", Role.READ, "page.whole", HTML,
           "the live page, for a browser (`DESK_PAGE.md`); without a token the page that asks for one", (NOW, FRESH),
           lesser="page.sign_in", is_open=True),
@@ -98,10 +107,21 @@ ROUTES = (
     Route("GET", "/health", Role.READ, "health", JSON,
           "`ok`, or with status 503 `stopped` and why; without a token no more than that", lesser="health",
           is_open=True),
-    Route("GET", "/metrics", Role.READ, "metrics", TEXT, "counts for Prometheus"),
+    Route("GET", "/metrics", Role.READ, "metrics", TEXT, "counts for Prometheus (`MONITORING.md`)"),
+    Route("GET", "/status", Role.READ, "status.handle", JSON,
+          "what needs somebody: counts of the current plan, the rows that are in error, late or at risk, when the "
+          "plans end, when each agent looked last, and the nodes of etcd (`MONITORING.md`)", (AS_OF,)),
     Route("GET", "/snapshot", Role.READ, "snapshot", SQLITE,
           "the plan as one file, taken while no statement is in flight, with the digest of all answers up to it in "
           "`X-Opcplan-Digest`", in_pieces=True),
+    Route("PUT", "/logs/{serial}", Role.OPERATE, "tails.put", "",
+          "the end of the log of a try of an occurrence's job, as an agent gives it, is kept: at most 256 KiB a try",
+          (OF_A_LOG, Parameter(Place.QUERY, "try", TRY, "the number of the try, 1 where none is named")), body=TEXT,
+          statuses=("408", "413", "507")),
+    Route("GET", "/logs/{serial}", Role.OPERATE, "tails.get", TEXT,
+          "the ends of the logs of an occurrence's job, one try behind the other, the last 256 KiB of them; 204 where "
+          "no agent gave any",
+          (OF_A_LOG,), statuses=("204",)),
     Route("POST", "/session", Role.READ, "guard.begin_session", JSON,
           "a cookie in place of the token that the request has, for pages"),
     Route("DELETE", "/session", Role.READ, "guard.end_session", "", "the cookie is worth nothing from now on"),

@@ -24,7 +24,7 @@ FORMS = {
 BLANKS = ((b'""', b"null"), (b": }", b": null}"), (b": ,", b": null,"))
 
 
-class Wrong(Error):
+class InvalidSelection(Error):
     """Why rows aren't shown."""
 
 
@@ -69,14 +69,16 @@ class Selection:
         return [self.name, *(word or NONE for word in (self.first, self.last, self.status))]
 
     def lines(self, data: bytes) -> bytes:
-        """The lines of JSON that whole lines of the list are. Raises Wrong where they are of another form."""
+        """The lines of JSON that whole lines of the list are. Raises InvalidSelection where they are of another
+        form."""
         shape = shape_of(self.name)
         chosen = data if not (self.first or self.last or self.status) else b"".join(
             line for line in data.splitlines(keepends=True) if self.has(line))
         rows = shape.line.findall(chosen)
         if len(rows) != chosen.count(b"\n"):
-            raise Wrong(f"opcplan shows the list `{self.name}` in another form than this desk knows; both have to be "
-                        "of one version")
+            raise InvalidSelection(f"opcplan shows the list `{self.name}` in another form than this desk knows; both "
+                                   "have to be "
+                                   "of one version")
         found = b"".join([shape.json % row for row in rows])
         for blank, null in BLANKS:
             found = found.replace(blank, null)
@@ -100,34 +102,34 @@ def of_words(words: Sequence[str]) -> Selection:
 
 
 def of_query(query: Mapping[str, str]) -> Selection:
-    """The Selection that the words of a query ask for. Raises Wrong."""
+    """The Selection that the words of a query ask for. Raises InvalidSelection."""
     for word in query:
         if word not in WORDS:
-            raise Wrong(f"there is no word `{word[:40]}`, but {', '.join(WORDS)}")
+            raise InvalidSelection(f"there is no word `{word[:40]}`, but {', '.join(WORDS)}")
     name, app, status = query.get("list", "cp"), query.get("app"), query.get("status")
     if name not in columns.LISTS:
-        raise Wrong(f"there is no list `{name[:40]}`, but {', '.join(columns.LISTS)}")
+        raise InvalidSelection(f"there is no list `{name[:40]}`, but {', '.join(columns.LISTS)}")
     if app is not None and not re.fullmatch(r"[A-Z@#$][A-Z0-9@#$]{0,15}", app):
-        raise Wrong("`app` is no name of an application")
+        raise InvalidSelection("`app` is no name of an application")
     first, last = day_of(query, "from"), day_of(query, "to")
     if name == "links" and (first or last):
-        raise Wrong("`links` have no days")
+        raise InvalidSelection("`links` have no days")
     if status is not None and not ("status" in columns.LISTS[name].columns and re.fullmatch("[WSECD]+", status)):
-        raise Wrong("`status` is letters of W, S, E, C and D, of the lists cp and history")
+        raise InvalidSelection("`status` is letters of W, S, E, C and D, of the lists cp and history")
     return Selection(name, app, first, last, status)
 
 
 def is_fresh(query: Mapping[str, str]) -> bool:
-    """Whether what is shown has to have all that any desk answered till now. Raises Wrong."""
+    """Whether what is shown has to have all that any desk answered till now. Raises InvalidSelection."""
     text = query.get("fresh", "0")
     if text not in ("0", "1"):
-        raise Wrong("`fresh` is 1, or 0")
+        raise InvalidSelection("`fresh` is 1, or 0")
     return text == "1"
 
 
 def day_of(query: Mapping[str, str], word: str) -> str | None:
-    """The day that a word of a query names, or None. Raises Wrong."""
+    """The day that a word of a query names, or None. Raises InvalidSelection."""
     text = query.get(word)
     if text is not None and moments.day_of(text) is None:
-        raise Wrong(f"`{word}` is no day like 2026-11-25")
+        raise InvalidSelection(f"`{word}` is no day like 2026-11-25")
     return text

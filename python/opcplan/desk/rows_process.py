@@ -24,7 +24,7 @@ def main(words: list[str]) -> int:
             found = memoryview(selection.lines(data))
             while found:
                 found = found[os.write(1, found) :]
-    except (OSError, rows.Wrong) as error:
+    except (OSError, rows.InvalidSelection) as error:
         print(getattr(error, "strerror", None) or error, file=sys.stderr)
         return 1
     return 0

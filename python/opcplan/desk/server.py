@@ -14,23 +14,24 @@ from typing import Any
 from aiohttp import web
 
 from opcplan.cli import signals, version
-from opcplan.desk import body, bootstrap, connections, core, guard, local_log, log_words, openapi, page, requests
-from opcplan.desk import routes, rows, snapshot, versions
-from opcplan.desk.errors import Refused
+from opcplan.desk import body, bootstrap, connections, core, guard, job_tails, local_log, log_words, openapi, page
+from opcplan.desk import requests, routes, rows, snapshot, status, versions
+from opcplan.desk.errors import StatementRejected
 from opcplan.desk.guard import Handler
 from opcplan.desk.held_files import HeldFiles
-from opcplan.desk.listeners import Unable, listeners_of
+from opcplan.desk.listeners import DeskNotStarted, listeners_of
 from opcplan.desk.log import Log
-from opcplan.desk.planner import Stopped
-from opcplan.desk.requests import Asked
+from opcplan.desk.planner import PlannerStopped
+from opcplan.desk.requests import StreamItem
 from opcplan.desk.settings import Settings
 from opcplan.errors import LogUnwritable
-from opcplan.plans import journal, locks
+from opcplan.plans import job_logs, journal, locks
 
 MOST_BYTES = 32 << 20
 # seconds in which streams that are under way may end, once the desk is to end
 LAST_SECONDS = 20
 PAGE = 500
+CHANGED = 412  # HTTP's status where the plan isn't in the state that is asked for
 KEY = re.compile(routes.KEY)
 
 
@@ -42,10 +43,12 @@ class Server:
         self.streams: set[asyncio.Task[None]] = set()
         self.connections = connections.Connections()
         self.page = page.Page(desk, given.plan, the_guard.tokens is not None)
+        self.status = status.Status(desk, given.plan, given.journal)
+        self.tails = job_tails.JobTails(job_logs.beside(given.plan))
 
     def application(self) -> web.Application:
         """What answers requests, by the table of routes."""
-        app = web.Application(middlewares=[self.guard.middleware, self.met, told], client_max_size=MOST_BYTES)
+        app = web.Application(middlewares=[self.guard.middleware, self.met, errors_as_text], client_max_size=MOST_BYTES)
         app.add_routes([
             web.route(route.method, route.path, attrgetter(route.handler)(self)) if route.method != "GET" else
             web.get(route.path, attrgetter(route.handler)(self), allow_head=not route.in_pieces)
@@ -65,6 +68,7 @@ class Server:
     async def statements(self, request: web.Request) -> web.StreamResponse:
         """POST /statements."""
         stream = body.Body(self.desk, await self.asked_of(request), request["who"], key_of(request), None)
+        self.desk.agents.sent(request["who"], key_of(request))
         stream.condition = condition_of(request, stream.asked)
         await stream.claim()
         taking = asyncio.create_task(stream.take())
@@ -82,12 +86,13 @@ class Server:
                 for data in (body.as_json if is_json else body.as_text)(one):
                     await response.write(data)
                     await asyncio.sleep(0)  # others have their turn also where the caller reads as fast as this
-        except (Refused, Stopped):
+        except (StatementRejected, PlannerStopped) as why:
             if not response.prepared:
                 raise
-            if request.transport is not None:
-                request.transport.abort()  # the answer is cut: its caller sees that it isn't whole
-            return response
+            if not isinstance(why, StatementRejected) or why.status != CHANGED:
+                if request.transport is not None:
+                    request.transport.abort()  # the answer is cut: its caller sees that it isn't whole
+                return response
         finally:
             stream.leave()
         if not response.prepared:
@@ -95,13 +100,13 @@ class Server:
         await response.write_eof()
         return response
 
-    async def asked_of(self, request: web.Request) -> list[Asked]:
-        """What the body of a request asks, where its caller may. Raises Refused and HTTPForbidden."""
+    async def asked_of(self, request: web.Request) -> list[StreamItem]:
+        """What the body of a request asks, where its caller may. Raises StatementRejected and HTTPForbidden."""
         data = await connections.body_of(request, MOST_BYTES)
         try:
             found = requests.of_stream(data)
-        except requests.Wrong as why:
-            raise Refused(400, f"{why}; nothing was done") from None
+        except requests.BadStream as why:
+            raise StatementRejected(400, f"{why}; nothing was done") from None
         for one in found:
             guard.needed(request, one.role, one.name)
         return found
@@ -112,12 +117,12 @@ class Server:
         """GET /rows."""
         try:
             selection, is_fresh = rows.of_query(request.query), rows.is_fresh(request.query)
-        except rows.Wrong as why:
-            raise Refused(400, str(why)) from None
+        except rows.InvalidSelection as why:
+            raise StatementRejected(400, str(why)) from None
         if is_fresh:
             await self.desk.catch_up()
         if moved := self.desk.planner.has_moved():
-            raise Stopped(moved)
+            raise PlannerStopped(moved)
         state = state_of(self.desk.tag(), self.desk.position)
         if self.desk.planner.stopped or request.headers.get("If-None-Match") != state["ETag"]:
             shown = await self.desk.lists.shown(request["who"], selection)
@@ -133,7 +138,7 @@ class Server:
         """GET /journal."""
         begin = request.query.get("from", "1")
         if not re.fullmatch("[0-9]{1,15}", begin):
-            raise Refused(400, "`from` is the number of an entry")
+            raise StatementRejected(400, "`from` is the number of an entry")
         response = web.StreamResponse(headers={"Content-Type": "application/x-ndjson", **SAFE})
         await response.prepare(request)
         since = int(begin) - 1
@@ -149,7 +154,8 @@ class Server:
 
     async def metrics(self, request: web.Request) -> web.StreamResponse:
         """GET /metrics."""
-        return web.Response(body=self.desk.metrics.text(self.desk).encode(),
+        found = await self.status.counted()
+        return web.Response(body=self.desk.metrics.text(self.desk, found.facts if found else None).encode(),
                             headers={"Content-Type": "text/plain; version=0.0.4; charset=utf-8"})
 
     async def openapi(self, request: web.Request) -> web.StreamResponse:
@@ -161,16 +167,17 @@ class Server:
         desk, planner = self.desk, self.desk.planner
         wrong = [listed.wrong for listed in (self.guard.users, self.guard.tokens) if listed and listed.wrong]
         why = "; ".join(filter(None, [desk.trouble, *wrong]))
-        told: dict[str, Any] = {"status": "stopped" if desk.trouble else "ok"}
+        values: dict[str, Any] = {"status": "stopped" if desk.trouble else "ok"}
         if request["role"] >= guard.READ:
-            told |= {
+            desk.agents.looked(request["who"])
+            values |= {
                 "why": why, "position": desk.position, "planner": planner.pid,
                 "running since": planner.open_since, "starts": planner.lives,
                 "waiting": len(desk.feed.queue) + len(desk.state.line) + len(desk.state.flight),
                 "journal": self.given.journal,
                 **desk.log.standing(desk.position), "plan": os.path.realpath(self.given.plan), "tag": desk.tag(),
             }
-        return web.json_response(told, status=503 if desk.trouble else 200)
+        return web.json_response(values, status=503 if desk.trouble else 200)
 
     async def end(self) -> None:
         """Lets the streams that are under way end, for a while."""
@@ -183,13 +190,13 @@ SAFE = {"Cache-Control": "no-store", "X-Content-Type-Options": "nosniff"}
 
 
 @web.middleware
-async def told(request: web.Request, handler: Handler) -> web.StreamResponse:
+async def errors_as_text(request: web.Request, handler: Handler) -> web.StreamResponse:
     """Tells in a sentence why something isn't done."""
     try:
         return await handler(request)
-    except Refused as why:
+    except StatementRejected as why:
         return web.Response(status=why.status, text=f"{why}\n", headers=after(why.status))
-    except (Stopped, LogUnwritable) as why:
+    except (PlannerStopped, LogUnwritable) as why:
         return web.Response(status=503, text=f"the desk is stopped: {why}\n", headers=after(503))
     except ConnectionError:  # the caller hung up
         return web.Response()
@@ -208,20 +215,20 @@ def state_of(tag: str | None, position: int) -> dict[str, str]:
 
 
 def key_of(request: web.Request) -> str | None:
-    """The key of a stream, or None. Raises Refused."""
+    """The key of a stream, or None. Raises StatementRejected."""
     key = request.headers.get("Idempotency-Key")
     if key is not None and not KEY.fullmatch(key):
-        raise Refused(400, "Idempotency-Key has 1 to 200 printable characters, and neither blanks nor #")
+        raise StatementRejected(400, "Idempotency-Key has 1 to 200 printable characters, and neither blanks nor #")
     return key
 
 
-def condition_of(request: web.Request, found: Sequence[Asked]) -> str | None:
-    """The tag of the state that a change asks for, or None. Raises Refused."""
+def condition_of(request: web.Request, found: Sequence[StreamItem]) -> str | None:
+    """The tag of the state that a change asks for, or None. Raises StatementRejected."""
     text = request.headers.get("If-Match")
     if text is None:
         return None
-    if len(found) != 1 or not found[0].changes:
-        raise Refused(400, "If-Match goes with one statement, which changes something; nothing was done")
+    if not any(one.changes for one in found):
+        raise StatementRejected(400, "If-Match goes with a statement that changes something; nothing was done")
     return text.strip().strip('"')
 
 
@@ -229,24 +236,24 @@ def condition_of(request: web.Request, found: Sequence[Asked]) -> str | None:
 
 
 def serve(given: Settings, program: str) -> None:
-    """Runs a desk until it is to end. Raises Unable, Unreadable, Wrong and Unfit."""
+    """Runs a desk until it is to end. Raises DeskNotStarted, Unreadable, InvalidAccessFile and CannotJoin."""
     the_guard = guard.Guard(given)
     with contextlib.closing(HeldFiles(given.plan, given.journal)) as files:
         try:
             with files.locked():
                 asyncio.run(served(given, program, the_guard, files))
-        except locks.Held as held:
+        except locks.FileLocked as held:
             path = given.plan if held.path == files.plan else given.journal
-            raise Unable(f"{path}: another desk has it") from None
+            raise DeskNotStarted(f"{path}: another desk has it") from None
 
 
 async def served(given: Settings, program: str, the_guard: guard.Guard, files: HeldFiles) -> None:
-    """A desk over held files. Raises Unable, Unreadable and Unfit."""
+    """A desk over held files. Raises DeskNotStarted, Unreadable and CannotJoin."""
     the_log: Log
     why_not: Callable[[], str] = files.moved
     async with contextlib.AsyncExitStack() as left:
         if given.log is None:
-            the_log = local_log.Alone(journal.for_desk(given.journal, given.plan))
+            the_log = local_log.LocalLog(journal.for_desk(given.journal, given.plan))
         else:
             store = await left.enter_async_context(bootstrap.opened(given.log, log_words.access_of(given)))
             shared = the_log = await bootstrap.joined(store, given.plan, given.journal, program)
@@ -282,5 +289,5 @@ async def run(given: Settings, the_guard: guard.Guard, desk: core.Desk) -> None:
         with contextlib.suppress(FileNotFoundError):
             os.remove(given.socket)
     if over.done():
-        raise Unable(desk.planner.halted)
+        raise DeskNotStarted(desk.planner.halted)
     over.cancel()

@@ -9,7 +9,7 @@ from typing import NamedTuple, TYPE_CHECKING
 from aiohttp import web
 
 from opcplan.desk import connections
-from opcplan.desk.held_files import Moved
+from opcplan.desk.held_files import FileReplaced
 from opcplan.errors import Unreadable
 from opcplan.plans import plan_file, tempfiles
 
@@ -33,7 +33,7 @@ async def handle(desk: "Desk", path: str, request: web.Request) -> web.StreamRes
         try:
             stands = await copied(desk, path, copy)
             await asyncio.to_thread(in_one_file, copy)
-        except (OSError, sqlite3.Error, Unreadable, Moved) as error:
+        except (OSError, sqlite3.Error, Unreadable, FileReplaced) as error:
             raise web.HTTPServiceUnavailable(text=f"there is no copy: {error}\n") from None
         heads = {
             "Content-Type": "application/vnd.sqlite3", "Content-Disposition": "attachment; filename=plan.db",
@@ -47,10 +47,10 @@ async def handle(desk: "Desk", path: str, request: web.Request) -> web.StreamRes
 
 async def copied(desk: "Desk", path: str, copy: str) -> Position:
     """Copies the plan and its log while no statement is in flight. Where the planner is stopped, the plan may have more
-    than the position says. Raises Moved, Unreadable and OSError."""
+    than the position says. Raises FileReplaced, Unreadable and OSError."""
     async with desk.feed.at_rest():
         if desk.planner.halted:
-            raise Moved(desk.planner.halted)
+            raise FileReplaced(desk.planner.halted)
         found = Position(desk.position, desk.tag(), desk.state.chain)
         await asyncio.to_thread(plan_file.copied, os.path.realpath(path), copy)
         desk.files.check()

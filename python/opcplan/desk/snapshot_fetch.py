@@ -5,7 +5,7 @@ import os
 import tempfile
 
 from opcplan.desk import bootstrap, client
-from opcplan.desk.versions import Unfit
+from opcplan.desk.versions import CannotJoin
 from opcplan.plans import journal, plan_file
 
 
@@ -14,10 +14,10 @@ LEAST = 64
 
 
 def take(source: str, plan: str, path: str) -> None:
-    """Makes a plan of what another desk has, and a journal that goes on behind it. Raises Unfit and Unreadable."""
+    """Makes a plan of what another desk has, and a journal that goes on behind it. Raises CannotJoin and Unreadable."""
     for tail in plan_file.TAILS[1:]:
         if os.path.exists(plan + tail) and os.path.getsize(plan + tail) > LEAST:  # it would be a part of the new plan
-            raise Unfit(f"{plan}{tail} is left of another plan: move it away too")
+            raise CannotJoin(f"{plan}{tail} is left of another plan: move it away too")
     folder, name = os.path.split(os.path.abspath(plan))
     with tempfile.NamedTemporaryFile(dir=folder, prefix=f"{name}.", suffix=".part", delete=False) as part:
         try:
@@ -26,26 +26,27 @@ def take(source: str, plan: str, path: str) -> None:
             os.fsync(part.fileno())
             log_id, position = heads.get("X-Opcplan-Log"), heads.get("X-Opcplan-Position", "")
             if not log_id or not position.isdigit():
-                raise Unfit(f"{source}: it is no desk over a log that others share")
+                raise CannotJoin(f"{source}: it is no desk over a log that others share")
             with plan_file.opened(part.name) as held:
                 (jobs,) = held.db.execute("SELECT count(*) FROM job").fetchone()
             begin(path, log_id, int(position), jobs, heads.get("X-Opcplan-Digest"))
             os.link(part.name, plan)
             sync(folder)
-        except (client.Away, client.Refused, client.Wrong) as why:
-            raise Unfit(f"{source}: there is no plan to begin with: {why}") from None
+        except (client.DeskUnreachable, client.RequestRefused, client.InvalidAddress) as why:
+            raise CannotJoin(f"{source}: there is no plan to begin with: {why}") from None
         except FileExistsError:
-            raise Unfit(f"{plan}: it is there meanwhile; start the desk again") from None
+            raise CannotJoin(f"{plan}: it is there meanwhile; start the desk again") from None
         finally:
             os.remove(part.name)
 
 
 def begin(path: str, log_id: str, position: int, jobs: int, digest: str | None) -> None:
-    """Has a journal go on behind an entry of a log: a new one, or one that the same log had before. Raises Unfit."""
+    """Has a journal go on behind an entry of a log: a new one, or one that the same log had before. Raises
+    CannotJoin."""
     with contextlib.closing(journal.Journal(path)) as record:
         known = record.begun()
         if known is None and record.position() or known is not None and known.log != log_id:
-            raise Unfit(f"{path}: {bootstrap.OTHER_JOURNAL}")
+            raise CannotJoin(f"{path}: {bootstrap.OTHER_JOURNAL}")
         record.begin(log_id, position, jobs, digest)
 
 

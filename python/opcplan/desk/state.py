@@ -83,7 +83,7 @@ class Claim(NamedTuple):
     users: int
 
 
-class Broken(Error):
+class InvariantBroken(Error):
     """An invariant that doesn't hold: the desk can't go on."""
 
 
@@ -111,10 +111,10 @@ class State(Generic[ItemT]):
     # What the log has.
 
     def appended(self, items: Sequence[ItemT]) -> list[Send[ItemT]]:
-        """The log has these changes durably, behind all others. Raises Broken."""
+        """The log has these changes durably, behind all others. Raises InvariantBroken."""
         for item in items:
             if item.entry is None or item.entry.seq != self.durable + 1:
-                raise Broken(f"entry {item.entry and item.entry.seq} doesn't come behind entry {self.durable}")
+                raise InvariantBroken(f"entry {item.entry and item.entry.seq} doesn't come behind entry {self.durable}")
             self.durable = item.entry.seq
             self.line.append(item)
         return self.sends()
@@ -143,12 +143,12 @@ class State(Generic[ItemT]):
         return found
 
     def replied(self, reply: str) -> list[Answer[ItemT] | Send[ItemT]]:
-        """Opcplan has answered the first item in flight. Raises Broken."""
+        """Opcplan has answered the first item in flight. Raises InvariantBroken."""
         item, answered = self.flight.popleft(), None
         if is_change(item):
             assert item.entry is not None
             if item.entry.seq != self.position + 1:
-                raise Broken(f"entry {item.entry.seq} is answered behind entry {self.position}")
+                raise InvariantBroken(f"entry {item.entry.seq} is answered behind entry {self.position}")
             answered = dataclasses.replace(item.entry, reply=reply)
             self.position = answered.seq
             if reply.startswith("ok"):

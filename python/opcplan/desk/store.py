@@ -14,7 +14,7 @@ import urllib.parse
 from collections.abc import Mapping, Sequence
 from typing import Any, NamedTuple
 
-from opcplan.desk.etcd import Away, Etcd
+from opcplan.desk.etcd import Etcd, EtcdUnreachable
 from opcplan.desk.log import MOST_TOGETHER
 from opcplan.desk.log_entries import Batch, batch_of, batch_text, holder_in, holder_of, in_base64, KeyHolder
 from opcplan.desk.log_entries import number_of, of_base64
@@ -59,14 +59,14 @@ class Appended(NamedTuple):
     used: dict[tuple[str, str], KeyHolder]  # by caller and key
 
 
-class Said(NamedTuple):
+class TransactionResult(NamedTuple):
     """What etcd answers to a transaction: whether its conditions held, and what its parts answered."""
 
     held: bool
     answers: list[dict[str, Any]]
 
 
-class OfLog(NamedTuple):
+class LogContent(NamedTuple):
     """What was read of a log: its Head, None where there is none, and Batches."""
 
     head: Head | None
@@ -125,12 +125,12 @@ class Store:
         return self.key("key", urllib.parse.quote(who, safe=""), key)
 
     async def txn(self, compare: Sequence[Part], success: Sequence[Part], failure: Sequence[Part],
-                  until: float | None = None) -> Said:
-        """What a transaction is answered. Raises Away and Wrong."""
+                  until: float | None = None) -> TransactionResult:
+        """What a transaction is answered. Raises EtcdUnreachable and EtcdError."""
         said = {"compare": compare, "success": success, "failure": failure}
         found = await self.etcd.post("/v3/kv/txn", said, until)
         answers = [next(iter(one.values())) for one in found.get("responses", ())]
-        return Said(found.get("succeeded", False), answers)
+        return TransactionResult(found.get("succeeded", False), answers)
 
     async def asked(self, *ranges: Part) -> list[dict[str, Any]]:
         """The answers to some ranges at one moment."""
@@ -145,8 +145,8 @@ class Store:
             below(self.key("log") + "/", limit="1", keys_only=True))
         if not kvs(head) or not kvs(begun):
             return None
-        told, last = json.loads(value(begun)), head_of(value(head))
-        return State(told["id"], told["position"], told["sum"], last,
+        fields, last = json.loads(value(begun)), head_of(value(head))
+        return State(fields["id"], fields["position"], fields["sum"], last,
                      number_of(kvs(first)[0]) if kvs(first) else last.last + 1,
                      {number_of(kv): of_base64(kv["value"]).decode() for kv in kvs(versions)})
 
@@ -160,15 +160,15 @@ class Store:
         (found,) = await self.asked(below(self.key("version") + "/"))
         return {number_of(kv): of_base64(kv["value"]).decode() for kv in kvs(found)}
 
-    async def read(self, after: int) -> OfLog:
+    async def read(self, after: int) -> LogContent:
         """What comes behind an entry, not all where that is much; less where etcd took too long."""
         try:
             head, log = await self.asked(at(self.key("head")), self.behind(after, self.most))
-        except Away:
+        except EtcdUnreachable:
             self.most = max(1, self.most // 8)
             raise
         self.most = MOST_READ
-        return OfLog(head_of(value(head)) if kvs(head) else None, [batch_of(kv) for kv in kvs(log)])
+        return LogContent(head_of(value(head)) if kvs(head) else None, [batch_of(kv) for kv in kvs(log)])
 
     def behind(self, after: int, most: int) -> Part:
         """A question for the batches behind an entry, so many at most."""
@@ -244,9 +244,9 @@ class Store:
         """A new lease, which ends after so many seconds."""
         return str((await self.etcd.post("/v3/lease/grant", {"TTL": str(seconds)}))["ID"])
 
-    async def report(self, desk_id: str, told: Report, lease: str) -> None:
+    async def report(self, desk_id: str, given: Report, lease: str) -> None:
         """Says how a desk stands."""
-        await self.etcd.post("/v3/kv/put", put(self.key("desk", desk_id), told.text, lease)["request_put"])
+        await self.etcd.post("/v3/kv/put", put(self.key("desk", desk_id), given.text, lease)["request_put"])
 
     async def desks(self) -> dict[str, Report]:
         """How the desks stand that said so, by their names."""

@@ -21,7 +21,7 @@ class Stamp(NamedTuple):
     size: int
 
 
-class Unfit(Error):
+class CannotJoin(Error):
     """Why a plan and a log don't go together, and what to do."""
 
 
@@ -41,14 +41,14 @@ def different(theirs: str, own: str) -> str:
 
 
 def version_of(program: str) -> str:
-    """Which opcplan a program is, as it says itself. Raises Unfit."""
+    """Which opcplan a program is, as it says itself. Raises CannotJoin."""
     try:
         ran = subprocess.run([program, "--version"], stdin=subprocess.DEVNULL, capture_output=True, check=False,
                              encoding="utf-8", errors="replace", timeout=LONGEST)
     except (OSError, subprocess.TimeoutExpired) as error:
-        raise Unfit(f"{program}: it can't be run: {getattr(error, 'strerror', None) or error}") from None
+        raise CannotJoin(f"{program}: it can't be run: {getattr(error, 'strerror', None) or error}") from None
     if ran.returncode or not ran.stdout.strip():
-        raise Unfit(f"{program}: it doesn't say which version it is")
+        raise CannotJoin(f"{program}: it doesn't say which version it is")
     return ran.stdout.strip()
 
 
@@ -65,7 +65,7 @@ def of_version(program: str, version: str, why_not: Callable[[], str]) -> Callab
             return ""
         try:
             found = version_of(program)
-        except Unfit as why:
+        except CannotJoin as why:
             return str(why)
         if found != version:
             return (f"{program} is {first_line(found)} by now, and the log is answered by {first_line(version)}"

@@ -9,7 +9,7 @@ from typing import NamedTuple
 
 from opcplan.errors import Unreadable
 from opcplan.plans import journal, waits
-from opcplan.plans.journal import Happened
+from opcplan.plans.journal import StatusChange
 from opcplan.plans.plan_file import Plan
 from opcplan.rules import moments
 
@@ -43,7 +43,7 @@ class Usual:
 class Actual:
     """`runs` has by serial all runs in their order, `usual` by application what it takes."""
 
-    def __init__(self, happened: Iterable[Happened]) -> None:
+    def __init__(self, happened: Iterable[StatusChange]) -> None:
         self.runs: dict[int, list[Run]] = {}
         whole: dict[str, list[float]] = {}
         for serial, app, _, status, at, _ in happened:
@@ -132,7 +132,7 @@ OTHERS = f"""SELECT was.serial, was.app, was.ia FROM temp.happened AS was JOIN
     WHERE here.app <> was.app OR here.ia <> was.moment LIMIT 1"""
 
 
-def check(path: str, happened: Iterable[Happened], plan: Plan) -> None:
+def check(path: str, happened: Iterable[StatusChange], plan: Plan) -> None:
     """Asks that a journal is that of a plan: a serial has one application and input arrival for good. Raises
     Unreadable."""
     ask = plan.db.execute

@@ -34,9 +34,9 @@ def taken_by_opcplan(path: str, copy: str, folder: str, program: str | None) -> 
     """Makes the copy, and answers what plan_meta has. Raises Unreadable."""
     with plan_file.opened(path, is_own=True) as plan:
         with progress.of(f"checks the pages of {path}"):
-            (told,) = plan.db.execute("PRAGMA integrity_check(1)").fetchone()
-        if told != "ok":
-            raise Unreadable(f"{path}: it is damaged: {' '.join(told.split())}")
+            (answer,) = plan.db.execute("PRAGMA integrity_check(1)").fetchone()
+        if answer != "ok":
+            raise Unreadable(f"{path}: it is damaged: {' '.join(answer.split())}")
         source, meta, version = plan.db.execute("PRAGMA database_list").fetchone()["file"], plan.meta, plan.version
         taken(source, copy)
     if version == plan_file.VERSIONS[-1]:
@@ -66,8 +66,8 @@ def ask(path: str, copy: str, program: str | None) -> None:
     except OSError as error:
         raise Unreadable(f"{program}: it can't be run: {error.strerror}") from None
     if ran.returncode:
-        told = ran.stderr.decode(errors="replace").split("\n")[0].removeprefix("opcplan: ")
-        raise Unreadable(f"{path}: opcplan doesn't take it: {told or ran.returncode}")
+        reason = ran.stderr.decode(errors="replace").split("\n")[0].removeprefix("opcplan: ").replace(f"{copy}: ", "")
+        raise Unreadable(f"{path}: opcplan doesn't take it: {reason or ran.returncode}")
 
 
 def holds_something(path: str) -> bool:

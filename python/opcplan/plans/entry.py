@@ -87,5 +87,14 @@ def is_moment(text: str) -> bool:
 
 def moment_now() -> str:
     """This moment in universal time, as entries have it."""
-    now = datetime.datetime.now(datetime.timezone.utc)
-    return now.strftime("%Y-%m-%dT%H:%M:%S.") + f"{now.microsecond // 1000:03}Z"
+    return text_of(datetime.datetime.now(datetime.timezone.utc))
+
+
+def moment_text(seconds: float) -> str:
+    """A moment in seconds since 1970, in universal time, as entries have it."""
+    return text_of(datetime.datetime.fromtimestamp(seconds, datetime.timezone.utc))
+
+
+def text_of(moment: datetime.datetime) -> str:
+    """A moment in universal time, as entries have it."""
+    return moment.strftime("%Y-%m-%dT%H:%M:%S.") + f"{moment.microsecond // 1000:03}Z"

@@ -6,7 +6,7 @@ import os
 import re
 import sqlite3
 import time
-from collections.abc import Iterable, Iterator
+from collections.abc import Iterable, Iterator, Set
 from typing import NamedTuple
 
 from opcplan.errors import LogUnwritable, Unreadable
@@ -44,7 +44,7 @@ NEW_JOURNAL = ("Where that was meant, begin a new journal: name a file by --jour
 PATIENCE = 30
 
 
-class Happened(NamedTuple):
+class StatusChange(NamedTuple):
     """What happened to an occurrence: its serial, application, input arrival, new status, when, by which entry."""
 
     serial: int
@@ -55,7 +55,7 @@ class Happened(NamedTuple):
     seq: int
 
 
-class OfPlan(NamedTuple):
+class PlanIdentity(NamedTuple):
     """The plan of a journal: where it was, which file, and the jobs that the journal doesn't have."""
 
     path: str
@@ -64,7 +64,7 @@ class OfPlan(NamedTuple):
     jobs: set[int]
 
 
-class Kept(NamedTuple):
+class JournalReply(NamedTuple):
     """What an entry was answered, as the journal keeps it; `digest` is that of the log up to the entry, where it is
     known."""
 
@@ -73,7 +73,7 @@ class Kept(NamedTuple):
     digest: str | None
 
 
-class Begun(NamedTuple):
+class LogStart(NamedTuple):
     """From where on a journal keeps a log that several desks share: which log, behind which entry, how many jobs the
     plan had then, and the digest of the log up to that entry, where it is known."""
 
@@ -90,6 +90,7 @@ class Journal:
 
     def __init__(self, path: str, floor: int = 0, is_copy: bool = False) -> None:
         self.path, self.floor = path, floor
+        self.before: Set[int] | None = None
         try:
             self.db = sqlite3.connect(path, isolation_level=None, check_same_thread=False)
             self.db.execute("PRAGMA journal_mode = WAL")
@@ -118,7 +119,7 @@ class Journal:
         (last,) = self.reader.execute("SELECT max(seq) FROM entry").fetchone()
         return max(last or 0, self.floor)
 
-    def put(self, entries: Iterable[Entry], replies: Iterable[Kept] = ()) -> None:
+    def put(self, entries: Iterable[Entry], replies: Iterable[JournalReply] = ()) -> None:
         """Keeps Entries under their numbers, and replies, all or nothing. One that stands there stays, and has to be
         the same. Raises LogUnwritable."""
         with self.transaction():
@@ -138,14 +139,14 @@ class Journal:
         row = self.db.execute("SELECT text FROM entry WHERE seq = ?", (one.seq,)).fetchone()
         return bool(row == (stored(one.text),))
 
-    def begun(self) -> Begun | None:
+    def begun(self) -> LogStart | None:
         """From where on it keeps a log that several desks share, or None."""
         columns = {name for _, name, *_ in self.db.execute("PRAGMA table_info(begun)")}
         if not columns:
             return None
         digest = "digest" if "digest" in columns else "NULL"
         row = self.db.execute(f"SELECT log, seq, jobs, {digest} FROM begun").fetchone()
-        return None if row is None else Begun(*row)
+        return None if row is None else LogStart(*row)
 
     def begin(self, log_id: str, seq: int, jobs: int, digest: str | None = None) -> None:
         """Keeps which log the plan shares from an entry on, whose digest is that. Raises LogUnwritable."""
@@ -156,12 +157,12 @@ class Journal:
             self.db.execute("INSERT INTO begun VALUES (?, ?, ?, ?)", (log_id, seq, jobs, digest))
         self.floor = seq
 
-    def keep_replies(self, replies: Iterable[Kept]) -> None:
+    def keep_replies(self, replies: Iterable[JournalReply]) -> None:
         """Keeps what entries were answered. Raises LogUnwritable."""
         with self.transaction():
             self.put_replies(replies)
 
-    def put_replies(self, replies: Iterable[Kept]) -> None:
+    def put_replies(self, replies: Iterable[JournalReply]) -> None:
         """The same within a transaction."""
         for seq, reply, digest in replies:
             self.db.execute("UPDATE entry SET reply = ?, digest = ? WHERE seq = ?", (reply, digest, seq))
@@ -173,9 +174,19 @@ class Journal:
         at, job, text = self.db.execute("SELECT at, job, text FROM entry WHERE seq = ?", (seq,)).fetchone()
         if self.db.execute("SELECT 1 FROM entry WHERE job = ? AND seq < ?", (job, seq)).fetchone():
             return
+        if job < entry.FIRST_JOB and job in self.jobs_before():
+            return
         named = options(text)
         self.db.execute("INSERT OR REPLACE INTO happened VALUES (?, ?, ?, ?, ?, ?)",
                         (serial, named["app"], named["ia"], status, at, seq))
+
+    def jobs_before(self) -> Set[int]:
+        """The jobs that the plan had when a desk began, and that the journal doesn't have: those that were pruned
+        too."""
+        if self.before is None:
+            known = self.of_plan()
+            self.before = known.jobs if known else set()
+        return self.before
 
     @contextlib.contextmanager
     def transaction(self) -> Iterator[None]:
@@ -253,6 +264,13 @@ class Journal:
         row = self.reader.execute(f"SELECT {COLUMNS} FROM entry WHERE who = ? AND key = ?", (who, key)).fetchone()
         return None if row is None else entry_of(row)
 
+    def agents(self, most: int = 100_000) -> set[str]:
+        """Who of the last so many entries sent one under a key of the form that agents make."""
+        asked = """SELECT DISTINCT who FROM entry WHERE seq > (SELECT max(seq) FROM entry) - ?
+            AND (key GLOB ? OR key GLOB ?)"""
+        of_run = "[0-9a-f]" * 24 + "*"
+        return {who for (who,) in self.db.execute(asked, (most, f"agent-{of_run}", f"agent-*-{of_run}"))}
+
     def last_kept(self, most: int = 1, upto: int = NO_END) -> list[Entry]:
         """The last Entries whose job the plan keeps with its reply, up to a position, the last one first."""
         asked = f"""SELECT {COLUMNS} FROM entry WHERE reply IS NOT NULL AND reply NOT LIKE 'refused 10%'
@@ -264,12 +282,12 @@ class Journal:
         """The job numbers of all entries."""
         return {number for (number,) in self.reader.execute("SELECT job FROM entry")}
 
-    def of_plan(self) -> OfPlan | None:
-        """The OfPlan that is noted, or None."""
+    def of_plan(self) -> PlanIdentity | None:
+        """The PlanIdentity that is noted, or None."""
         if self.db.execute("SELECT 1 FROM sqlite_schema WHERE name = 'of_plan'").fetchone() is None:
             return None
         row = self.db.execute("SELECT path, device, inode, jobs FROM of_plan").fetchone()
-        return None if row is None else OfPlan(row[0], row[1], row[2], journal_plan.numbers_of(row[3]))
+        return None if row is None else PlanIdentity(row[0], row[1], row[2], journal_plan.numbers_of(row[3]))
 
     def note_plan(self, path: str, device: int, inode: int, jobs: str) -> None:
         """Notes whose journal it is. Raises LogUnwritable."""
@@ -277,15 +295,16 @@ class Journal:
             self.db.execute(journal_plan.TABLE)
             self.db.execute("DELETE FROM of_plan")
             self.db.execute("INSERT INTO of_plan VALUES (?, ?, ?, ?)", (path, device, inode, jobs))
+        self.before = None
 
-    def happened(self) -> list[Happened]:
+    def happened(self) -> list[StatusChange]:
         """What happened, in its order."""
         found = self.reader.execute("SELECT serial, app, ia, status, at, seq FROM happened ORDER BY seq").fetchall()
         for serial, app, ia, status, at, seq in found:
             texts = (app, ia, status, at)
             if not (isinstance(serial, int) and all(isinstance(one, str) for one in texts) and entry.is_moment(at)):
                 raise sqlite3.DatabaseError(f"what happened by entry {seq} is nothing that a desk writes")
-        return [Happened(*row) for row in found]
+        return [StatusChange(*row) for row in found]
 
     def close(self) -> None:
         """Leaves all in one file."""
@@ -374,7 +393,7 @@ def for_desk(path: str, plan: str) -> Journal:
                     "name a new one by --journal")
             try:
                 journal_plan.check(journal, held)
-            except journal_plan.Strange as why:
+            except journal_plan.JournalMismatch as why:
                 raise Unreadable(f"{why}. {NEW_JOURNAL}" if str(why).startswith(plan) else str(why)) from None
             left.pop_all()
     return journal

@@ -18,23 +18,25 @@ TABLE = """CREATE TABLE IF NOT EXISTS of_plan (
     path TEXT NOT NULL, device INTEGER NOT NULL, inode INTEGER NOT NULL, jobs TEXT NOT NULL)"""
 
 
-class Strange(Error):
+class JournalMismatch(Error):
     """Why a journal and a plan don't belong together."""
 
 
 def check(record: "Journal", held: "Plan", others: Set[int] = frozenset(), upto: int = 1 << 62) -> None:
     """Asks that a Journal is that of a Plan, as far as the plan has entries, and notes that it is; `others` are jobs
-    that the plan may have besides. Raises Strange and LogUnwritable."""
+    that the plan may have besides. Raises JournalMismatch and LogUnwritable."""
     known = record.of_plan()
     wrong = next(filter(None, (wrong_with(one, held) for one in record.last_kept(MOST_COMPARED, upto))), None)
     if wrong:
         place = f", {known.path}" if known and known.path != os.path.realpath(held.path) else ""
-        raise Strange(f"{record.path}: {wrong}: it is the journal of another plan{place}. Name the journal of this "
-                      "plan by --journal, or a file that isn't there yet for a new one")
+        raise JournalMismatch(f"{record.path}: {wrong}: it is the journal of another plan{place}. Name the journal of "
+                              "this "
+                              "plan by --journal, or a file that isn't there yet for a new one")
     added = strangers(record, held) - known.jobs - others if known else set()
     if added:
-        raise Strange(f"{held.path}: it has job {min(added)}, which its journal {record.path} doesn't have: it was "
-                      "changed while no desk had it")
+        raise JournalMismatch(f"{held.path}: it has job {min(added)}, which its journal {record.path} doesn't have: it "
+                              "was "
+                              "changed while no desk had it")
     note(record, held)
 
 

@@ -34,14 +34,14 @@ def distrust() -> None:
     Trust.is_given = False
 
 
-class Kept(NamedTuple):
+class StoredResult(NamedTuple):
     """The text of a result, and the name of its file."""
 
     name: str
     text: str
 
 
-def of_file(path: str, state: str) -> Kept | None:
+def of_file(path: str, state: str) -> StoredResult | None:
     """The result for a file that is sound in a state; None if the rules of this program can't be read."""
     import hashlib
 
@@ -50,7 +50,7 @@ def of_file(path: str, state: str) -> Kept | None:
     except OSError:
         return None
     name = hashlib.blake2b(os.fsencode(path), digest_size=32).hexdigest()
-    return Kept(name, f"sound by {rules} and SQLite {sqlite3.sqlite_version}: {state}\n")
+    return StoredResult(name, f"sound by {rules} and SQLite {sqlite3.sqlite_version}: {state}\n")
 
 
 def bytes_of(name: str) -> bytes:
@@ -59,7 +59,7 @@ def bytes_of(name: str) -> bytes:
         return file.read()
 
 
-def is_there(kept: Kept) -> bool:
+def is_there(kept: StoredResult) -> bool:
     """Whether a result is kept, and can be trusted."""
     with contextlib.suppress(OSError), opened_folder(False) as folder:
         if not Trust.is_given or folder is None:
@@ -71,7 +71,7 @@ def is_there(kept: Kept) -> bool:
     return False
 
 
-def put(kept: Kept) -> None:
+def put(kept: StoredResult) -> None:
     """Keeps a result, if there is a folder for it."""
     with contextlib.suppress(OSError), opened_folder(True) as folder:
         if folder is None:

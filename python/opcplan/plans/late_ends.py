@@ -2,9 +2,9 @@
 
 from collections.abc import Iterable
 
-from opcplan.plans import actual, outlook, waits
+from opcplan.plans import actual, forecast, waits
 from opcplan.plans.actual import Actual
-from opcplan.plans.outlook import Expected
+from opcplan.plans.forecast import Expected
 from opcplan.plans.plan_file import Plan
 from opcplan.plans.waits import Row
 from opcplan.rules import moments, statuses
@@ -33,12 +33,12 @@ class Ends:
 
     def text_of(self, row: Row) -> str:
         """When an unfinished row was started or ended in error, and when it is expected to end."""
-        started, ended, told = self.known.started(row.serial), self.known.ended(row.serial), []
+        started, ended, parts = self.known.started(row.serial), self.known.ended(row.serial), []
         if row.place == "S" and started is not None:
-            told.append(f"started {actual.moment_text(started)}")
+            parts.append(f"started {actual.moment_text(started)}")
         if row.place == "E" and ended is not None:
-            told.append(f"ended in error {actual.moment_text(ended)}")
-        return ", ".join([*told, f"expected to end {outlook.end_text(self.found[row.serial])}"])
+            parts.append(f"ended in error {actual.moment_text(ended)}")
+        return ", ".join([*parts, f"expected to end {forecast.end_text(self.found[row.serial])}"])
 
     def going_lines(self) -> list[str]:
         """A line for each row that is going to end late."""
@@ -48,7 +48,7 @@ class Ends:
         for row in self.going:
             one, due = self.found[row.serial], moments.moment_text(row.deadline)
             late = waits.length_text(one.end_moment - row.deadline)
-            lines.append(f"  {row.key}  due {due}, expected to end {outlook.end_text(one)}, late by {late}, serial "
+            lines.append(f"  {row.key}  due {due}, expected to end {forecast.end_text(one)}, late by {late}, serial "
                          f"{row.serial}")
         return lines
 
@@ -58,19 +58,19 @@ class Ends:
             return []
         lines = ["", f"{len(self.ended)} ended late in the {BACK} hours before:", ""]
         for row in self.ended:
-            due, told = moments.moment_text(row.deadline), end_text(row, self.known)
-            lines.append(f"  {row.key}  due {due}, {told}, serial {row.serial}")
+            due, end = moments.moment_text(row.deadline), end_text(row, self.known)
+            lines.append(f"  {row.key}  due {due}, {end}, serial {row.serial}")
         return lines
 
     def last_lines(self) -> list[str]:
         """The chain that decides when all is done, and what isn't known of it."""
-        chain = outlook.last_chain(self.found)
+        chain = forecast.last_chain(self.found)
         if not chain:
             return []
         names, last = {row.serial: row.key for row in self.rows}, self.found[chain[-1]]
-        when = outlook.end_text(last) if last.is_least else f"at {outlook.end_text(last)}"
+        when = forecast.end_text(last) if last.is_least else f"at {forecast.end_text(last)}"
         lines = ["", f"All that is unfinished is expected to be done {when}, by this chain:", "",
-                 *outlook.chain_lines(chain, self.found, names)]
+                 *forecast.chain_lines(chain, self.found, names)]
         unknown = sorted({row.app for row in self.rows} - set(self.known.usual))
         if unknown:
             more = f" and {len(unknown) - MOST_NAMED} more" if len(unknown) > MOST_NAMED else ""
@@ -80,7 +80,7 @@ class Ends:
 
 def of_plan(plan: Plan, rows: list[Row], pairs: Iterable[tuple[int, int]], known: Actual, now: int) -> Ends:
     """The Ends of a plan's unfinished rows and their pairs, and of what is complete, at a moment."""
-    return Ends(rows, outlook.of_rows(rows, pairs, known, now), late_rows(plan, known, now), known, now)
+    return Ends(rows, forecast.of_rows(rows, pairs, known, now), late_rows(plan, known, now), known, now)
 
 
 def late_rows(plan: Plan, known: Actual, now: int) -> list[Row]:

@@ -19,7 +19,7 @@ OF_A_DESK = ((1 << 30) + 513, 1)
 REST = 0.05
 
 
-class Held(Error):
+class FileLocked(Error):
     """Another program has the lock, perhaps that of a file whose path is known."""
 
     def __init__(self, path: str = "") -> None:
@@ -30,11 +30,11 @@ class Held(Error):
 @contextlib.contextmanager
 def locked(number: int, span: tuple[int, int], until: float = 0.0) -> Iterator[None]:
     """A context in which an open file has the lock of a span; it is waited for until a moment of the steady clock.
-    Raises Held."""
+    Raises FileLocked."""
     begin, length = span
     while not set_lock(number, fcntl.F_WRLCK, begin, length):
         if time.monotonic() >= until:
-            raise Held
+            raise FileLocked
         time.sleep(REST)
     try:
         yield
@@ -44,10 +44,10 @@ def locked(number: int, span: tuple[int, int], until: float = 0.0) -> Iterator[N
 
 @contextlib.contextmanager
 def of_a_run(number: int, path: str) -> Iterator[None]:
-    """A context in which an open file has the lock of a run, and is still the file at a path. Raises Held."""
+    """A context in which an open file has the lock of a run, and is still the file at a path. Raises FileLocked."""
     with locked(number, OF_A_RUN):
         if not os.path.samestat(os.fstat(number), os.stat(path)):
-            raise Held
+            raise FileLocked
         yield
 
 

@@ -292,8 +292,8 @@ def copied_as(path: str, copy: str) -> State:
         if is_still(path, before):
             return before
     if has_journal(path):
-        told = "another program writes to it, or was stopped while it did; opcplan doesn't open it either"
-        raise Unreadable(f"{os.path.basename(path)}{JOURNAL} stands beside it: {told}")
+        reason = "another program writes to it, or was stopped while it did; opcplan doesn't open it either"
+        raise Unreadable(f"{os.path.basename(path)}{JOURNAL} stands beside it: {reason}")
     raise Unreadable("it was written to all the while; try again")
 
 

@@ -37,7 +37,7 @@ class Progress:
         return f"{self.what}: {self.share:.0%}, about {length_text(rest)} more"
 
 
-class Shown(Progress):
+class ShownProgress(Progress):
     """The same, which a thread of its own shows while it goes on."""
 
     def __init__(self, what: str) -> None:
@@ -77,7 +77,7 @@ def of(what: str, is_seen: bool = True) -> Iterator[Progress]:
     if not is_seen or not is_terminal():
         yield Progress(what)
         return
-    shown = Shown(what)
+    shown = ShownProgress(what)
     try:
         yield shown
     finally:

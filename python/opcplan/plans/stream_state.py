@@ -195,8 +195,8 @@ class Known:
     def knows_days(self, count: str) -> bool:
         """Whether it is known which days are counted."""
         name = self.defined.default_calendar
-        is_told = ("options", None) in self.lines and {("calendars", name)} & {*self.lines, *self.gone}
-        return self.is_whole or count == "A" or bool(is_told)
+        is_reported = ("options", None) in self.lines and {("calendars", name)} & {*self.lines, *self.gone}
+        return self.is_whole or count == "A" or bool(is_reported)
 
     def end_by(self, number: int, count: str) -> int:
         """The plan end that a number of days gives, all days or work days of the default calendar."""

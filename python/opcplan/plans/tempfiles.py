@@ -3,8 +3,6 @@
 import contextlib
 import fcntl
 import os
-import re
-import shutil
 from collections.abc import Iterator
 
 HELD: set[str] = set()
@@ -55,6 +53,9 @@ def is_locked(number: int) -> bool:
 
 def drop_left(prefix: str) -> None:
     """Takes away the folders with a prefix that no process has locked, of this user alone."""
+    import re
+    import shutil
+
     form = re.compile(re.escape(prefix) + "[0-9a-f]{20}")
     with contextlib.suppress(OSError), os.scandir(of_all()) as found:
         for path in [item.path for item in found if form.fullmatch(item.name)]:
@@ -77,6 +78,8 @@ def beside(path: str) -> Iterator[str]:
 @contextlib.contextmanager
 def taken(path: str) -> Iterator[str]:
     """A path at which nothing is left when the context ends."""
+    import shutil  # noqa: F401  # what `drop` needs is loaded before there is something to take away
+
     HELD.add(path)
     try:
         yield path
@@ -92,6 +95,8 @@ def is_held(path: str) -> bool:
 
 def drop(path: str) -> None:
     """Takes away what stands at a path that is held; where that fails the path is held still."""
+    import shutil
+
     shutil.rmtree(path, ignore_errors=True)
     with contextlib.suppress(OSError):
         os.remove(path)

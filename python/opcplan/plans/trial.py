@@ -55,7 +55,8 @@ def tried(
                 before.made = MadeRows(copy, held).key_of
                 found, status = answered(program, copy, text, said, lambda items, output: take(items, output, before))
             with plan_file.opened(copy, is_own=True) as after, open(said, "rb") as file:
-                yield Trial(plan, after, found, status, file.read(MOST_SAID).decode(errors="replace"), text, program)
+                message = file.read(MOST_SAID).decode(errors="replace").replace(copy, path or name)
+                yield Trial(plan, after, found, status, message, text, program)
 
 
 class MadeRows:
@@ -123,7 +124,7 @@ def answered(
                 with progress.of("opcplan opens a copy and runs the stream") as far:
                     items = progress.along(stream.items(source), far, lambda: source.size / size)
                     found = take(items, stream.Source(ran.stdout, program, OF_ANSWERS))
-            except explanations.Unlike as why:
+            except explanations.OutputMismatch as why:
                 raise Unreadable(f"{program}: it doesn't answer as opcplan does: {why}") from None
     return found, ran.returncode
 

@@ -78,6 +78,17 @@ def rows_of_current(plan: Plan, statuses: str) -> list[Row]:
     return [Row(*row) for row in plan.db.execute(asked, (statuses,))]
 
 
+def unfinished(plan: Plan) -> tuple[list[Row], list[tuple[int, int]]]:
+    """The rows of the current plan that are neither complete nor deleted, by input arrival, and pairs of these."""
+    rows = rows_of_current(plan, statuses.UNFINISHED)
+    cursor = plan.db.cursor()
+    cursor.row_factory = None
+    asked = """SELECT successor, predecessor FROM dependency JOIN cp_row AS later ON later.serial = successor
+        JOIN cp_row AS earlier ON earlier.serial = predecessor
+        WHERE instr(?1, later.status) AND instr(?1, earlier.status)"""
+    return rows, cursor.execute(asked, (statuses.UNFINISHED,)).fetchall()
+
+
 def rows_of_key(plan: Plan, app: str, ia: int) -> list[Row]:
     """The rows of a key: the live one first, then the others, the latest serial first."""
     rows = rows_where(plan, "app = :v0 AND ia = :v1", app, ia)

@@ -8,7 +8,7 @@ from collections.abc import Callable, Iterator
 from typing import Any
 
 from opcplan.rules import record_fields
-from opcplan.rules.record_fields import Key, Seen, Texts, Wrong
+from opcplan.rules.record_fields import InvalidField, Key, Seen, Texts
 
 BYTE_ORDER_MARK = b"\xef\xbb\xbf"
 Take = Callable[[dict[str, Any], Texts, Seen], Key]
@@ -50,7 +50,7 @@ def read(kind: str, data: bytes) -> Block:
             ask_count(block, names, fewest, fields)
             fewest, names = len(fields), names[: len(fields)]
             take_record(block, names, take, seen, fields, line)
-        except Wrong as why:
+        except InvalidField as why:
             value = fields[names.index(why.field)].decode("utf-8", "backslashreplace") if why.field else ""
             block.fault = Fault(block.records, line, why.field, value, str(why))
             return block
@@ -65,14 +65,14 @@ def ask_count(block: Block, names: tuple[str, ...], fewest: int, fields: list[by
     more, wanted = "more" if count > most else "fewer", f"{most}" if fewest == most else f"{fewest} or {most}"
     of = "the first record" if block.kind in record_fields.FEWEST and block.records > 1 else block.kind
     has = f"it has {count} field{'s' if count != 1 else ''}"
-    raise Wrong("", f"{has}, {more} than the {wanted} of {of}: {', '.join(names)}{parted_else(fields, fewest)}")
+    raise InvalidField("", f"{has}, {more} than the {wanted} of {of}: {', '.join(names)}{parted_else(fields, fewest)}")
 
 
 def parted_else(fields: list[bytes], fewest: int) -> str:
     """What is said of a record of one field which other marks than commas part into as many as there have to be."""
     marks = {b";": "semicolons", b"\t": "tabs", b"|": "bars"}
-    told = [name for mark, name in marks.items() if len(fields) == 1 and fields[0].count(mark) + 1 >= fewest]
-    return f"; they are parted by {told[0]}, and commas are wanted" if told else ""
+    found = [name for mark, name in marks.items() if len(fields) == 1 and fields[0].count(mark) + 1 >= fewest]
+    return f"; they are parted by {found[0]}, and commas are wanted" if found else ""
 
 
 def take_record(
@@ -131,7 +131,7 @@ def read_options(data: bytes) -> Block:
         for key, value in given.items():
             check_option(key, value)
         block.defined = {**OPTIONS, **given}
-    except Wrong as wrong:
+    except InvalidField as wrong:
         value = value_text(given[wrong.field])
         block.fault = Fault(1, line_of(data, wrong.field), wrong.field, value, str(wrong))
     except UnicodeDecodeError as error:
@@ -140,10 +140,10 @@ def read_options(data: bytes) -> Block:
     except (ValueError, RecursionError) as error:  # of tomllib, which also reads no number of thousands of digits
         at = re.search(r"line ([0-9]+)", str(error))
         line = int(at.group(1)) - 1 if at else max(0, data.count(b"\n") - 1)
-        told = f"{error}" if isinstance(error, tomllib.TOMLDecodeError) else "it is too deep or too long to be read"
+        reason = f"{error}" if isinstance(error, tomllib.TOMLDecodeError) else "it is too deep or too long to be read"
         if re.search(rb"(?m)^[ \t]*default_calendar[ \t]*=[ \t]*[A-Za-z@#$]", data):
-            told += '; a name stands in double quotes, default_calendar = "DEFAULT"'
-        block.fault = Fault(1, line, "", "", f"it is no TOML: {told}")
+            reason += '; a name stands in double quotes, default_calendar = "DEFAULT"'
+        block.fault = Fault(1, line, "", "", f"it is no TOML: {reason}")
     return block
 
 
@@ -158,13 +158,13 @@ def value_text(value: object) -> str:
 def check_option(key: str, value: object) -> None:
     """Asks that an option is known and in its range."""
     if key not in OPTIONS:
-        raise Wrong(key, "there is no such option, but default_calendar and max_extension_hours")
+        raise InvalidField(key, "there is no such option, but default_calendar and max_extension_hours")
     if key == "default_calendar":
         if not isinstance(value, str):
-            raise Wrong(key, "it has to be the name of a calendar, as text in quotes")
+            raise InvalidField(key, "it has to be the name of a calendar, as text in quotes")
         record_fields.name(key, value, 16)
     elif type(value) is not int or not 1 <= value <= 504:
-        raise Wrong(key, "it has to be a whole number from 1 to 504")
+        raise InvalidField(key, "it has to be a whole number from 1 to 504")
 
 
 def line_of(data: bytes, key: str) -> int:

@@ -22,18 +22,18 @@ FAULTS = {
 OF_OUTPUT, MOST_OF_ANSWER = stream.Bounds(1 << 30, 10_000_000), 200
 
 
-class Unlike(Error):
+class OutputMismatch(Error):
     """Why an output can't be that of a stream."""
 
 
 def answers(source: Source, see: Callable[[str], None]) -> Iterator[str]:
-    """The reply lines of an output, as they are read; a row of a listing is handed to `see`. Raises Unlike."""
+    """The reply lines of an output, as they are read; a row of a listing is handed to `see`. Raises OutputMismatch."""
     while True:
         line, length, size = source.line(MOST_OF_ANSWER)
         if not size:
             return
         if length > MOST_OF_ANSWER:
-            raise Unlike(f"its line {source.number} is longer than any that answers")
+            raise OutputMismatch(f"its line {source.number} is longer than any that answers")
         text = line[:length].decode("latin-1")
         if REPLY.match(text):
             yield text
@@ -46,7 +46,7 @@ def answered(
 ) -> Iterator[tuple[Item | None, str | None]]:
     """Each item with its reply, in turn, as they are read; rows of listings are handed to `see`. Where the output ends
     before all are answered, the last item is the one that isn't, with a fault or None; a fault behind all answers comes
-    with None for an item. Raises Unlike."""
+    with None for an item. Raises OutputMismatch."""
     replies = answers(output, see)
     for item in items:
         reply = next(replies, None)
@@ -58,14 +58,14 @@ def answered(
     reply = next(replies, None)
     if reply is not None:
         if not reply.startswith("fault"):
-            raise Unlike("it has more answers than the stream has statements")
+            raise OutputMismatch("it has more answers than the stream has statements")
         yield None, ending(reply, replies)
 
 
 def ending(reply: str | None, replies: Iterator[str]) -> str | None:
-    """A fault, or None, behind which there is no reply. Raises Unlike."""
+    """A fault, or None, behind which there is no reply. Raises OutputMismatch."""
     if next(replies, None) is not None:
-        raise Unlike(f"behind its `{(reply or str())[:60]}` there are further answers")
+        raise OutputMismatch(f"behind its `{(reply or str())[:60]}` there are further answers")
     return reply
 
 
@@ -76,7 +76,7 @@ def is_end(reply: str | None) -> bool:
 
 def explained(items: Iterable[Item], output: Source, now: Known) -> tuple[list[str], int, int]:
     """The lines that explain, fit for a terminal, how many were refused, and how many statements were answered; `now`
-    is what is known before the first. Raises Unlike."""
+    is what is known before the first. Raises OutputMismatch."""
     lines: list[str] = []
     refused = count = 0
     for item, reply in answered(items, output, now.see):
@@ -116,7 +116,7 @@ def check_fits(item: Item, reply: str) -> None:
     elif item.statement:
         fits = re.fullmatch(statements.KINDS[name].reply, reply) is not None
     if not fits:
-        raise Unlike(f"line {item.line}, `{item.shown(60)}`, isn't answered `{reply[:60]}`")
+        raise OutputMismatch(f"line {item.line}, `{item.shown(60)}`, isn't answered `{reply[:60]}`")
 
 
 def refusal_lines(item: Item, reply: str, now: Known) -> list[str]:
@@ -134,8 +134,9 @@ def refusal_sentences(item: Item, reply: str, now: Known) -> list[str]:
     is_kept = now.is_repeated(item) and number not in ("10", "11", "12")
     if is_kept and item.asked.job in now.jobs:
         return [f"job {item.asked.job} was asked at line {now.jobs[item.asked.job or 0]}, and is answered as then"]
-    told = refusals.sentences(item, int(number), detail[0] if detail else "", now)
+    sentences = refusals.sentences(item, int(number), detail[0] if detail else "", now)
     if is_kept:
-        told.append(f"(job {item.asked.job} is kept with this answer, and another try takes a new number; the plan "
-                    "is told as it is now)")
-    return told
+        sentences.append(f"(job {item.asked.job} is kept with this answer, and another try takes a new number; the "
+                         "plan "
+                         "is told as it is now)")
+    return sentences

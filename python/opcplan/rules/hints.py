@@ -82,9 +82,9 @@ def of_moment(text: str) -> str:
 def of_bytes(text: bytes) -> str:
     """What the first character is that no statement and no name may have, and where; or nothing. A text that doesn't
     read as UTF-8 is told by its byte."""
-    for mark, told in MARKS.items():
+    for mark, name in MARKS.items():
         if text.startswith(mark):
-            return f"it begins with the bytes {mark.hex(' ').upper()}, {told}"
+            return f"it begins with the bytes {mark.hex(' ').upper()}, {name}"
     place = next((at for at, byte in enumerate(text) if byte != 9 and not 32 <= byte <= 126), None)
     if place is None:
         return ""

@@ -46,7 +46,7 @@ class Finding:
 
 
 @dataclasses.dataclass
-class Held:
+class LintCache:
     """What was worked out before: arrivals within a span of days, until `forget` drops them; days and offsets of run
     cycles, as long as there are the same periods and calendars, which are held with them; who is on a loop of lists."""
 
@@ -71,10 +71,10 @@ class Held:
             self.arrivals.pop(app, None)
 
 
-def all_of(now: Known, held: Held | None = None, only: set[str] | None = None) -> list[Finding]:
+def all_of(now: Known, held: LintCache | None = None, only: set[str] | None = None) -> list[Finding]:
     """All findings over what is known; where `only` some applications have changed since that was asked last, those
     that may be new."""
-    held = Held() if held is None else held
+    held = LintCache() if held is None else held
     found: list[Finding] = []
     for app in chosen(now.defined.run_cycles, only):
         for name, cycle in sorted(now.defined.run_cycles[app].items()):
@@ -93,7 +93,7 @@ def chosen(names: Collection[str], only: set[str] | None) -> list[str]:
     return sorted(names if only is None else (name for name in only if name in names))
 
 
-def is_near_a_loop(now: Known, held: Held, only: set[str]) -> bool:
+def is_near_a_loop(now: Known, held: LintCache, only: set[str]) -> bool:
     """Whether one of some applications is on a loop of lists, or was."""
     lists = now.defined.predecessors
     return any(app in held.looped or app in lists and loops.is_on_one(lists, app) for app in only)
@@ -105,10 +105,10 @@ def elsewhere(now: Known) -> str:
 
 
 def run_cycle_checks(
-    now: Known, app: str, cycle: RunCycle, held: Held | None = None
+    now: Known, app: str, cycle: RunCycle, held: LintCache | None = None
 ) -> Iterator[tuple[str, About, str]]:
     """Kind, further names and text of what is found of one run cycle."""
-    held = Held() if held is None else held
+    held = LintCache() if held is None else held
     if cycle.out_effect is not None and cycle.out_effect <= cycle.in_effect:
         out, since = day_text(cycle.out_effect), day_text(cycle.in_effect)
         yield "effect", (), f"it is out of effect from {out} on and in effect from {since} on, so it never names a day"
@@ -208,9 +208,9 @@ def default_calendar(now: Known) -> list[Finding]:
     return [Finding("calendar", (name,), line, text)]
 
 
-def predecessors(now: Known, held: Held | None = None, only: set[str] | None = None) -> list[Finding]:
+def predecessors(now: Known, held: LintCache | None = None, only: set[str] | None = None) -> list[Finding]:
     """Predecessors that aren't defined, and those that arrive later in the same night."""
-    held = Held() if held is None else held
+    held = LintCache() if held is None else held
     held.look_at(window(now))
     found: list[Finding] = []
     lists = now.defined.predecessors
@@ -304,14 +304,14 @@ def lacking_of_lists(now: Known, only: set[str] | None) -> list[Finding]:
     return found
 
 
-def arrivals_of(now: Known, app: str, held: Held) -> list[tuple[int, int]]:
+def arrivals_of(now: Known, app: str, held: LintCache) -> list[tuple[int, int]]:
     """The arrivals of an application within the window, each with its deadline, in order."""
     if app not in held.arrivals:
         held.arrivals[app] = [] if naming.obstacle_of(now.defined, app) else arrivals_within(now, app, held)
     return held.arrivals[app]
 
 
-def arrivals_within(now: Known, app: str, held: Held) -> list[tuple[int, int]]:
+def arrivals_within(now: Known, app: str, held: LintCache) -> list[tuple[int, int]]:
     """The same, worked out from the days of each run cycle: of those that name a time of a day the one with the least
     name gives the deadline, and one that excludes the time takes it away."""
     by_time: dict[int, RunCycle] = {}
@@ -331,7 +331,7 @@ def deadline_of(cycle: RunCycle, moment: int) -> int:
     return (moment // DAY + cycle.due.days) * DAY + cycle.due.minute
 
 
-def days_of(now: Known, app: str, cycle: RunCycle, held: Held) -> list[int]:
+def days_of(now: Known, app: str, cycle: RunCycle, held: LintCache) -> list[int]:
     """The days of the window that a run cycle names or excludes."""
     period, work = now.defined.periods[cycle.period], now.defined.work_days(app)
     key = id(period), id(work), cycle.rule, tuple(cycle.offsets), cycle.in_effect, cycle.out_effect

@@ -79,7 +79,7 @@ def interval_text(period: str, interval: Interval) -> str:
     return f"{period}'s interval {day_text(first)}{to}"
 
 
-def told(defined: Definitions, app: str, day: int, answer: Answer) -> list[str]:
+def reasons(defined: Definitions, app: str, day: int, answer: Answer) -> list[str]:
     """The sentences on what a run cycle says of a day: how it names it, or why it doesn't, the nearest reason first."""
     if answer.names:
         return [hit_text(defined, app, day, answer.cycle, hit) for hit in answer.hits]

@@ -13,7 +13,7 @@ Seen = Mapping[Key, int]  # by that the number of its record
 FIRST_AND_LAST = "from 1972-01-01 to 2071-12-31"
 
 
-class Wrong(Error):
+class InvalidField(Error):
     """What is wrong with a field, or with the record where `field` is empty."""
 
     def __init__(self, field: str, text: str) -> None:
@@ -32,7 +32,7 @@ class Texts:
         try:
             return self.fields[field].decode("ascii")
         except UnicodeDecodeError:
-            raise Wrong(field, hints.of_bytes(self.fields[field])) from None
+            raise InvalidField(field, hints.of_bytes(self.fields[field])) from None
 
     def name(self, field: str, longest: int = 16) -> str:
         """A field that is a name."""
@@ -42,7 +42,8 @@ class Texts:
         """A field that is one of some words."""
         text = self.text(field)
         if text not in known:
-            raise Wrong(field, f"it has to be one of {', '.join(known)}" + hint(text, lambda other: other in known))
+            raise InvalidField(field, "it has to be one of "
+                               f"{', '.join(known)}" + hint(text, lambda other: other in known))
         return text
 
     def day(self, field: str) -> int:
@@ -51,7 +52,7 @@ class Texts:
         day = moments.day_of(text)
         if day is None:
             wrong = hints.of_day(text) or f"it has to be a day YYYY-MM-DD {FIRST_AND_LAST}"
-            raise Wrong(field, wrong + hint(text, lambda other: moments.day_of(other) is not None))
+            raise InvalidField(field, wrong + hint(text, lambda other: moments.day_of(other) is not None))
         return day
 
     def minute(self, field: str) -> int:
@@ -60,7 +61,7 @@ class Texts:
         minute = moments.minute_of(text)
         if minute is None:
             wrong = hints.of_minute(text) or "it has to be a minute HH.MM from 00.00 to 23.59"
-            raise Wrong(field, wrong + hint(text, lambda other: moments.minute_of(other) is not None))
+            raise InvalidField(field, wrong + hint(text, lambda other: moments.minute_of(other) is not None))
         return minute
 
     def number(self, field: str, low: int, high: int) -> int:
@@ -77,14 +78,14 @@ def name(field: str, text: str, longest: int) -> str:
         wrong = f"it has to be a name: 1 to {longest} of A to Z, 0 to 9, @, # and $, the first no digit"
         if len(text) > longest:
             wrong = f"it has {len(text)} characters, and such a name has at most {longest}"
-        raise Wrong(field, wrong + hint(text, is_name))
+        raise InvalidField(field, wrong + hint(text, is_name))
     return text
 
 
 def number(field: str, text: str, low: int, high: int) -> int:
     """A text that is a number."""
     if not re.fullmatch(r"0|[1-9][0-9]{0,11}", text) or not low <= int(text) <= high:
-        raise Wrong(field, f"it has to be a number from {low} to {high}, without leading zeros")
+        raise InvalidField(field, f"it has to be a number from {low} to {high}, without leading zeros")
     return int(text)
 
 
@@ -100,7 +101,7 @@ def hint(text: str, is_good: Callable[[str], bool]) -> str:
 def again(what: str, seen: Seen, key: Key) -> None:
     """Asks that a record is the first of its kind."""
     if key in seen:
-        raise Wrong("", f"it is a second record for {what}, after record {seen[key]}")
+        raise InvalidField("", f"it is a second record for {what}, after record {seen[key]}")
 
 
 def take_calendar(found: dict[str, Any], texts: Texts, seen: Seen) -> Key:
@@ -114,7 +115,7 @@ def take_calendar(found: dict[str, Any], texts: Texts, seen: Seen) -> Key:
         known = ", ".join(WEEKDAYS)
         wrong = f"it has to be {known} or a day YYYY-MM-DD"
         wrong += hint(entry, lambda other: other in WEEKDAYS or moments.day_of(other) is not None)
-        raise Wrong("entry", wrong)
+        raise InvalidField("entry", wrong)
     status = texts.one_of("status", ("WORK", "FREE"))
     again(f"{entry} of {calendar}", seen, (calendar, kind, day))
     listed = found.setdefault(calendar, Calendar())
@@ -132,12 +133,13 @@ def take_period(found: dict[str, Any], texts: Texts, seen: Seen) -> Key:
         return (period,)
     end = texts.day("second") if texts.text("second") else None
     if end is not None and end < origin:
-        raise Wrong("second", f"it is an end before its own origin, {moments.day_text(origin)}")
+        raise InvalidField("second", f"it is an end before its own origin, {moments.day_text(origin)}")
     if before is not None and before.kind != "N":
-        raise Wrong("type", f"record {seen[(period,)]} gives {period} the type {before.kind}, and that has one record")
+        raise InvalidField("type", f"record {seen[(period,)]} gives {period} the type {before.kind}, and that has one "
+                           "record")
     if before is not None and origin <= before.entries[-1][0]:
         last = moments.day_text(before.entries[-1][0])
-        raise Wrong("origin", f"it isn't later than {last}, the origin of {period}'s record before it")
+        raise InvalidField("origin", f"it isn't later than {last}, the origin of {period}'s record before it")
     found.setdefault(period, Period("N")).entries.append(Entry(origin, end))
     return (period,)
 
@@ -154,11 +156,11 @@ def read_offsets(texts: Texts) -> list[int]:
     """The offsets of a run cycle."""
     parts = texts.text("offsets").split(" ")
     if len(parts) > 64:
-        raise Wrong("offsets", f"it has {len(parts)} offsets, and at most 64 may stand")
+        raise InvalidField("offsets", f"it has {len(parts)} offsets, and at most 64 may stand")
     for part in parts:
         if not re.fullmatch(r"-?(1[0-9]{3}|[1-9][0-9]{0,2})", part):
             wrong = f"`{part[:20]}` is no offset" if part else "there is an empty offset (one blank stands between two)"
-            raise Wrong("offsets", f"{wrong}: each is 1 to 1999 or -1 to -1999")
+            raise InvalidField("offsets", f"{wrong}: each is 1 to 1999 or -1 to -1999")
     return list(map(int, parts))
 
 

@@ -44,26 +44,26 @@ def fits(item: Item, reply: str) -> bool:
 
 def sentences(item: Item, number: int, detail: str, known: Known) -> list[str]:
     """What a refusal of a statement says; `known` is what was known before it."""
-    told = MEANINGS.get(number)
-    if told is None:
+    explain = MEANINGS.get(number)
+    if explain is None:
         return [f"{number} is no refusal that is known here"]
-    return told(item, detail, known)
+    return explain(item, detail, known)
 
 
 def not_a_statement(item: Item, detail: str, known: Known) -> list[str]:
-    told = [f"it is no statement: {item.length <= stream.MOST_OF_LINE and hints.of_bytes(item.text) or item.wrong}"]
+    lines = [f"it is no statement: {item.length <= stream.MOST_OF_LINE and hints.of_bytes(item.text) or item.wrong}"]
     first = stream.first_word(item.text.removeprefix(blocks.BYTE_ORDER_MARK)).decode("ascii", "replace")
     if not item.has_data and (first == "define" or statement_words.near(first, ["define"])):
-        told.append("it isn't read as `define`, so each line of its data is read as a statement, and refused too")
-    return told
+        lines.append("it isn't read as `define`, so each line of its data is read as a statement, and refused too")
+    return lines
 
 
 def faulty_data(item: Item, detail: str, known: Known) -> list[str]:
     """Which record is faulty, which field of it, and what is wrong with it."""
     if item.data is None:
         odd = f"line {item.odd_ends[0]} only looks like such a line" if item.odd_ends else ""
-        told = "its data have no end: no line after it is `/*` and nothing else, so all that follows was taken as data"
-        return [told, odd] if odd else [told]
+        why = "its data have no end: no line after it is `/*` and nothing else, so all that follows was taken as data"
+        return [why, odd] if odd else [why]
     if not item.is_whole:
         length, most = f"{item.data_length:,}", f"{stream.MOST_OF_BLOCK:,}"
         return [f"its data have {length} bytes, and at most {most} are read; give them by several `define`s"]
@@ -122,8 +122,8 @@ def period_undefined(item: Item, detail: str, known: Known) -> list[str]:
 
 def dates_wrong(item: Item, detail: str, known: Known) -> list[str]:
     name = item.asked.tried
-    told = SPANS[name](name, item.asked.values, known)
-    return [told or DATES[name], *ways_out(known, name, item.asked.values), *bounds_text(known)]
+    text = SPANS[name](name, item.asked.values, known)
+    return [text or DATES[name], *ways_out(known, name, item.asked.values), *bounds_text(known)]
 
 
 def span_of_days(name: str, values: Values, known: Known) -> str:
@@ -242,18 +242,18 @@ def key_is_live(item: Item, detail: str, known: Known) -> list[str]:
 def no_occurrence(item: Item, detail: str, known: Known) -> list[str]:
     """Where there is none, where it stands else, and when the application arrives on that day."""
     where, (app, ia) = "the long-term plan" if item.asked.name == "ltp-delete" else "the current plan", key_of(item)
-    place, told = known.place_of(app, ia), [f"there is no {key_text(item)} in {where}"]
+    place, lines = known.place_of(app, ia), [f"there is no {key_text(item)} in {where}"]
     if place:
         other = {"cp-delete": "ltp-delete"}.get(item.asked.name) if place == "L" else None
         other = "cp-delete" if item.asked.name == "ltp-delete" and place in "WSEC" else other
-        told.append(f"it {statuses.WHERE[place]}{f': `{other}` deletes it there' if other else ''}")
+        lines.append(f"it {statuses.WHERE[place]}{f': `{other}` deletes it there' if other else ''}")
     elif place == "":
         found = known.times_of(app, ia // DAY)
         times = ", ".join(f"{moments.minute_text(at % DAY)} ({statuses.WHERE[there]})" for at, there in found if there)
-        told.append(f"on that day {app} arrives at {times}" if times else f"{app} doesn't arrive on that day")
+        lines.append(f"on that day {app} arrives at {times}" if times else f"{app} doesn't arrive on that day")
         if not times and known.is_whole and app not in known.defined.applications:
-            told[-1] = f"the application {app} isn't defined{meant_text(app, known.defined.applications)}"
-    return [*told, *bounds_text(known)]
+            lines[-1] = f"the application {app} isn't defined{meant_text(app, known.defined.applications)}"
+    return [*lines, *bounds_text(known)]
 
 
 def status_forbids(item: Item, detail: str, known: Known) -> list[str]:
@@ -267,17 +267,17 @@ def status_forbids(item: Item, detail: str, known: Known) -> list[str]:
 
 def not_complete(item: Item, detail: str, known: Known) -> list[str]:
     which = known.key_of(int(detail))
-    told = f"serial {detail}{f', {which}' if which else ''}"
-    return [f"an occurrence that it waits for isn't complete: {told}; `./plan why` shows all of them"]
+    text = f"serial {detail}{f', {which}' if which else ''}"
+    return [f"an occurrence that it waits for isn't complete: {text}; `./plan why` shows all of them"]
 
 
 def too_many(item: Item, detail: str, known: Known) -> list[str]:
     most = f"more than {MOST_ROWS:,} rows together, or more than {MOST_SERIALS:,} serials would be given"
-    told = [f"the plans would have {most}"]
+    lines = [f"the plans would have {most}"]
     if known.sizes is not None:
         rows, serials = known.sizes
-        told.append(f"they have {rows:,} rows, so {MOST_ROWS - rows:,} more are taken; {serials:,} serials were given")
-    return told
+        lines.append(f"they have {rows:,} rows, so {MOST_ROWS - rows:,} more are taken; {serials:,} serials were given")
+    return lines
 
 
 def plan_end_wrong(item: Item, detail: str, known: Known) -> list[str]:
@@ -286,20 +286,20 @@ def plan_end_wrong(item: Item, detail: str, known: Known) -> list[str]:
     most = known.defined.max_hours
     other = "" if known.is_whole or ("options", None) in known.lines else ", unless the plan has another"
     hours = f"more than {most} hours after it (option max_extension_hours{other})"
-    told = f"the new plan end isn't later than the old one, is past the end of the long-term plan, or is {hours}"
+    text = f"the new plan end isn't later than the old one, is past the end of the long-term plan, or is {hours}"
     if known.is_whole and known.bounds:
         _, last, end = known.bounds
         to = values["to"] if "to" in values else known.end_by(values["days"], values["count"])
         new = f"the new plan end, {moment_text(to)}," if "to" in values else "the new plan end by these days"
         if to <= end:
-            told = f"{new} isn't later than the old one, {moment_text(end)}"
+            text = f"{new} isn't later than the old one, {moment_text(end)}"
         elif to > (last + 1) * DAY:
-            told = f"{new} is past the end of the long-term plan, {day_text(last + 1)} 00.00"
+            text = f"{new} is past the end of the long-term plan, {day_text(last + 1)} 00.00"
         elif to > end + most * 60:
-            told = f"{new} is more than {most} hours (option max_extension_hours) after the old one, {moment_text(end)}"
+            text = f"{new} is more than {most} hours (option max_extension_hours) after the old one, {moment_text(end)}"
     elif "days" in values:
-        told += ", or the days give no new end"
-    return [told, *ways_out(known, "dp-extend", values), *bounds_text(known)]
+        text += ", or the days give no new end"
+    return [text, *ways_out(known, "dp-extend", values), *bounds_text(known)]
 
 
 MEANINGS: dict[int, Callable[[Item, str, Known], list[str]]] = {

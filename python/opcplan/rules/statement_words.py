@@ -62,7 +62,7 @@ class Statement:
         return f"{self.name.removesuffix('trial')}{self.alone}" if self.name.endswith("-trial") else self.name
 
 
-class Wrong(Error):
+class InvalidStatement(Error):
     """Why words are no statement."""
 
 
@@ -70,38 +70,48 @@ def read(words: Sequence[str]) -> tuple[Statement | None, str]:
     """The statement that words spell and nothing, or None and why they spell none."""
     try:
         return statement_of(words), ""
-    except Wrong as why:
+    except InvalidStatement as why:
         return None, str(why)
 
 
 def statement_of(words: Sequence[str]) -> Statement:
     name, *rest = words
     if name not in NAMES:
-        told = OF_COMMENTS if name.startswith(COMMENTS) else near(name, NAMES)
-        raise Wrong(f"there is no statement `{cut(name)}`" + told)
+        hint = OF_COMMENTS if name.startswith(COMMENTS) else near(name, NAMES)
+        raise InvalidStatement(f"there is no statement `{cut(name)}`" + hint)
     alone, given = parted(rest)
     if name in ALONE:
         check_alone(name, alone)
     elif alone:
-        told = ": a day and its time are one word, 2026-11-25/06.00" if moments.minute_of(alone[0]) is not None else ""
-        told = OF_COMMENTS if alone[0].startswith(("*", *COMMENTS)) else told
-        raise Wrong(f"`{name}` takes no word without an option, and `{cut(alone[0])}` is one{told}")
+        hint = ": a day and its time are one word, 2026-11-25/06.00" if moments.minute_of(alone[0]) is not None else ""
+        hint = OF_COMMENTS if alone[0].startswith(("*", *COMMENTS)) else hint or option_meant(name, alone[0], given)
+        raise InvalidStatement(f"`{name}` takes no word without an option, and `{cut(alone[0])}` is one{hint}")
     word = alone[0] if alone else None
     what = f"{name} {word}" if name.endswith("-trial") else name
     needed = NEEDED[what]
     if what in EXTENSIONS and set(given) & set(statements.BY_DAYS):
         if "to" in given:
-            raise Wrong(f"`{what}` has `--to`, or `--days` and `--count`, and not both")
+            raise InvalidStatement(f"`{what}` has `--to`, or `--days` and `--count`, and not both")
         needed = statements.BY_DAYS + needed[1:]
     allowed = LIST_OPTIONS if name == "list" else needed
     for option in given:
         if option not in allowed:
-            raise Wrong(f"`{what}` has no option `--{cut(option)}`" + near(option, allowed, "--"))
+            raise InvalidStatement(f"`{what}` has no option `--{cut(option)}`" + near(option, allowed, "--"))
     for option in needed:
         if option not in given:
-            raise Wrong(f"`{what}` lacks its option `--{option}`")
+            raise InvalidStatement(f"`{what}` lacks its option `--{option}`")
     values = {option: value_of(form_of(what, word, option), option, text) for option, text in given.items()}
     return Statement(name, word, values, tuple(words))
+
+
+def option_meant(name: str, word: str, given: Iterable[str]) -> str:
+    """The option of a statement that takes a word, where there is one such option that isn't given; or nothing."""
+    options = [option for option in (LIST_OPTIONS if name == "list" else NEEDED.get(name, ())) if option not in given]
+    for text in (word, f"{word}/00.00"):
+        found = [option for option in options if spelled(form_of(name, None, option), text) is not None]
+        if len(found) == 1:
+            return f" (is `--{found[0]} {cut(text)}` meant?)"
+    return ""
 
 
 def parted(rest: Sequence[str]) -> tuple[list[str], dict[str, str]]:
@@ -117,13 +127,13 @@ def parted(rest: Sequence[str]) -> tuple[list[str], dict[str, str]]:
         if not word.startswith("--") or word == "--":
             known = {option for needed in NEEDED.values() for option in needed} | {*LIST_OPTIONS, *statements.BY_DAYS}
             meant = f" (is `-{cut(word)}` meant?)" if word[1:].partition("=")[0] in known else ""
-            raise Wrong(f"`{cut(word)}` is neither an option `--name` nor a word{meant}")
+            raise InvalidStatement(f"`{cut(word)}` is neither an option `--name` nor a word{meant}")
         option, equals, value = word[2:].partition("=")
         if option in given:
-            raise Wrong(f"the option `--{cut(option)}` stands twice")
+            raise InvalidStatement(f"the option `--{cut(option)}` stands twice")
         if not equals:
             if not left or left[0].startswith("-"):
-                raise Wrong(f"the option `--{cut(option)}` has no value")
+                raise InvalidStatement(f"the option `--{cut(option)}` has no value")
             value = left.pop(0)
         given[option] = value
     return alone, given
@@ -133,12 +143,12 @@ def check_alone(name: str, alone: list[str]) -> None:
     """Asks that there is one word without an option, of those that the statement takes."""
     known = ", ".join(f"`{word}`" for word in ALONE[name])
     if not alone:
-        raise Wrong(f"`{name}` lacks its word: one of {known}")
+        raise InvalidStatement(f"`{name}` lacks its word: one of {known}")
     if alone[0] not in ALONE[name]:
-        raise Wrong(f"`{name}` takes no `{cut(alone[0])}`, but one of {known}" + near(alone[0], ALONE[name]))
+        raise InvalidStatement(f"`{name}` takes no `{cut(alone[0])}`, but one of {known}" + near(alone[0], ALONE[name]))
     if len(alone) > 1:
-        told = OF_COMMENTS if alone[1].startswith(("*", *COMMENTS)) else ""
-        raise Wrong(f"`{name}` takes one word without an option, and `{cut(alone[1])}` is one more{told}")
+        hint = OF_COMMENTS if alone[1].startswith(("*", *COMMENTS)) else option_meant(name, alone[1], ())
+        raise InvalidStatement(f"`{name}` takes one word without an option, and `{cut(alone[1])}` is one more{hint}")
 
 
 def form_of(what: str, word: str | None, option: str) -> str:
@@ -152,7 +162,7 @@ def value_of(form: str, option: str, text: str) -> Value:
     """The value that a text spells."""
     found = spelled(form, text)
     if found is None:
-        raise Wrong(f"`--{option}` takes {FORMS[form]}, and not `{cut(text)}`" + slip_of(form, text))
+        raise InvalidStatement(f"`--{option}` takes {FORMS[form]}, and not `{cut(text)}`" + slip_of(form, text))
     return found
 
 

@@ -3,7 +3,7 @@ to, and the chain that decides when all is done."""
 
 from collections.abc import Mapping, Sequence
 
-from opcplan.plans import actual, late_ends, outlook
+from opcplan.plans import actual, forecast, late_ends
 from opcplan.plans.actual import Actual, Run, Usual
 from opcplan.plans.plan_file import Plan
 from opcplan.plans.waits import Row
@@ -37,7 +37,7 @@ def of_rows(
         "ended": [[places[row.serial], late_ends.past(row, ended)] for row in ends.ended
                   if row.serial in places and (ended := known.ended(row.serial)) is not None],
         "hours": late_ends.BACK,
-        "chain": [places[serial] for serial in outlook.last_chain(ends.found)],
+        "chain": [places[serial] for serial in forecast.last_chain(ends.found)],
     }
 
 

@@ -9,7 +9,7 @@ from collections.abc import Mapping, Sequence
 from opcplan.plans import actual, plan_file
 from opcplan.plans.plan_file import Plan
 from opcplan.plans.waits import Row
-from opcplan.rules import moments, printable, reaches
+from opcplan.rules import horizons, moments, printable
 from opcplan.rules.definitions import Definitions, RunCycle
 from opcplan.webpage import page_actual, page_model, page_queries, page_values
 from opcplan.webpage.page_model import Model
@@ -117,7 +117,7 @@ def shortfalls(plan: Plan, defined: Definitions) -> list[str]:
     """What is to be said of definitions that end before the long-term plan does."""
     if not plan.is_created:
         return []
-    found = reaches.shortfalls(defined, plan.meta["plan_end"] // moments.DAY, plan.meta["last_day"])
+    found = horizons.shortfalls(defined, plan.meta["plan_end"] // moments.DAY, plan.meta["last_day"])
     return [printable.fit(one.text) for one in found]
 
 

@@ -82,18 +82,18 @@ def without_script(data: Data) -> str:
     arrivals = list(itertools.accumulate(data["rows"]["arrival"]))
     late = {place for place, mark in enumerate(data["marks"]) if mark == "l"}
     places = late | {place for place, state in enumerate(data["state"]) if state == "E"}
-    told = sorted(((row_of(data, arrivals, place), data["state"][place], place in late) for place in places),
+    rows = sorted(((row_of(data, arrivals, place), data["state"][place], place in late) for place in places),
                   key=lambda one: (one[0][2], one[0]))
     counts = ", ".join(f"{data['state'].count(state)} {words}" for state, words in STATES.items())
     lines = [f"<p>{html.escape(title(data))}. Of the current plan: {counts}.</p>"]
     lines += [f"<p>{html.escape(text)}</p>" for text in data["short"]]
-    if told:
+    if rows:
         lines.append("<table><tr><th>Application<th>Arrived<th>Due<th>Status</tr>")
-        for (app, arrival, due), state, is_late in told[:MOST_WITHOUT_SCRIPT]:
+        for (app, arrival, due), state, is_late in rows[:MOST_WITHOUT_SCRIPT]:
             status = STATES[state] + (", late" if is_late else "")
             times = f"<td>{moments.moment_text(arrival)}<td>{moments.moment_text(due)}"
             lines.append(f"<tr><td>{html.escape(app)}{times}<td>{status}</tr>")
         lines.append("</table>")
-    if len(told) > MOST_WITHOUT_SCRIPT:
-        lines.append(f"<p>These are {MOST_WITHOUT_SCRIPT} of {len(told)}.</p>")
+    if len(rows) > MOST_WITHOUT_SCRIPT:
+        lines.append(f"<p>These are {MOST_WITHOUT_SCRIPT} of {len(rows)}.</p>")
     return "\n".join(lines)

@@ -15,7 +15,7 @@ AT_FOLDER, NO_REPLACE = -100, 1
 
 @contextlib.contextmanager
 def part(path: str, ending: str) -> Iterator[str]:
-    """The name of an empty file of one's own beside a path, which goes when the context ends. Raises Held."""
+    """The name of an empty file of one's own beside a path, which goes when the context ends. Raises FileLocked."""
     name = os.path.join(os.path.dirname(path), f".{os.path.basename(path)}.{ending}")
     if is_one_file(name, path):
         # what `rename_new` leaves where it is killed between two calls

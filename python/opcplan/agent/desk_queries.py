@@ -28,7 +28,7 @@ class Listed(NamedTuple):
     position: int
 
 
-class Asking:
+class DeskQueries:
     """Asks a desk. Each of its methods raises Away and Refused."""
 
     def __init__(self, desk: client.Client) -> None:
@@ -37,10 +37,10 @@ class Asking:
     def standing(self) -> Standing:
         """How far the desk is."""
         with self.read():
-            told = json.loads(self.desk.request("GET", "/health")[1])
-            if "position" not in told:  # a caller who may not read hears less; the rows say why
+            health = json.loads(self.desk.request("GET", "/health")[1])
+            if "position" not in health:  # a caller who may not read hears less; the rows say why
                 self.listed("cp")
-            position, tag = told["position"], told.get("tag", "")
+            position, tag = health["position"], health.get("tag", "")
             if not isinstance(position, int):
                 raise TypeError
             return Standing(position, tag.rpartition("-")[0])
@@ -48,14 +48,14 @@ class Asking:
     def pairs(self) -> tuple[list[Pair], int]:
         """What waits for what, and at which position."""
         with self.read():
-            told = self.listed("dependencies")
-            return [known_plan.pair_of(one) for one in told.objects], told.position
+            found = self.listed("dependencies")
+            return [known_plan.pair_of(one) for one in found.objects], found.position
 
     def rows(self) -> tuple[list[Row], int]:
         """The rows of the current plan that a plan can have, and at which position."""
         with self.read():
-            told = self.listed("cp")
-            return [row for row in map(known_plan.row_of, told.objects) if row], told.position
+            found = self.listed("cp")
+            return [row for row in map(known_plan.row_of, found.objects) if row], found.position
 
     def entries(self, since: int) -> list[Entry]:
         """The entries behind a position."""
@@ -72,7 +72,7 @@ class Asking:
             with self.read():
                 (answer,) = self.each(known_plan.entry_of, self.desk.request("POST", "/statements", text, heads)[1])
                 return answer
-        except client.Refused as why:
+        except client.RequestRefused as why:
             if why.status != CHANGED:
                 raise
             return None
@@ -80,7 +80,7 @@ class Asking:
     def listed(self, name: str) -> Listed:
         """The objects of a list. Raises ValueError, KeyError and TypeError too."""
         heads, data = self.desk.request("GET", f"/rows?list={name}")
-        return Listed(self.each(lambda told: told, data), int(heads["X-Opcplan-Position"]))
+        return Listed(self.each(lambda one: one, data), int(heads["X-Opcplan-Position"]))
 
     def each(self, form: Callable[[Any], T], data: bytes) -> list[T]:
         """What lines of JSON tell. Raises ValueError, KeyError and TypeError."""
@@ -92,4 +92,4 @@ class Asking:
         try:
             yield
         except (AttributeError, KeyError, TypeError, ValueError):
-            raise client.Away(f"{self.desk.name}: it doesn't answer as a desk does", False) from None
+            raise client.DeskUnreachable(f"{self.desk.name}: it doesn't answer as a desk does", False) from None

@@ -10,7 +10,7 @@ class Days(NamedTuple):
     """The days of a file, each True for a work day."""
 
     days: dict[int, bool]
-    told: list[str]
+    sentences: list[str]
     left: list[str]
 
 
@@ -18,6 +18,6 @@ class Changes(NamedTuple):
     """The changes of definitions that a file makes, and of a crontab by application the line that it runs."""
 
     changes: list[Change]
-    told: list[str]
+    sentences: list[str]
     left: list[str]
     lines: dict[str, Line] = {}

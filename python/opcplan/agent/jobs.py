@@ -1,0 +1,249 @@
+"""The file jobs.toml beside the folder of jobs: how the job of an application is run, how often it is tried, on which
+agents, and how many of a class run at once. It is read again where it changed."""
+
+import dataclasses
+import fnmatch
+import math
+import os
+import pwd
+import re
+import stat
+import tomllib
+from collections.abc import Callable, Mapping
+from typing import Any
+
+from opcplan.agent.record import Record
+from opcplan.agent.state import Rules
+from opcplan.cli import words
+from opcplan.errors import Unreadable
+from opcplan.rules import amounts
+
+TAIL = ".toml"
+CLASSES = "classes"
+MOST_TRIES, MOST_OF_A_CLASS, MOST_STATUS = 99, 1000, 255
+VARIABLE = re.compile("[A-Za-z_][A-Za-z0-9_]*")
+CLASS = re.compile("[A-Za-z0-9_.-]{1,60}")
+OWN = "OPCPLAN_"
+# what stands for a value of the occurrence within a word of a command
+PLACE = re.compile(r"\{(app|ia|serial|try)\}")
+SPAN = "a number of seconds, or a span like \"10m\" or \"2h\", is wanted"
+
+
+class InvalidJobsFile(Unreadable):
+    """What is wrong with the file."""
+
+
+@dataclasses.dataclass(frozen=True)
+class Job:
+    """How the job of an application is run."""
+
+    command: tuple[str, ...] = ()  # none: the file of the application in the folder of jobs
+    user: str | None = None
+    folder: str | None = None
+    environment: tuple[tuple[str, str], ...] | None = None  # None: that of the agent
+    limit: float | None = None
+    tries: int = 1
+    pauses: tuple[float, ...] = ()
+    complete: tuple[int, ...] = (0,)
+    group: str | None = None  # its class
+    where: str = "*"  # on which agents, by their names
+
+    def put_into(self, one: Record) -> Record:
+        """A record of an occurrence, with how its job is run; without a limit here that of the record stays."""
+        values = {"app": one.app, "ia": one.ia, "serial": str(one.serial), "try": str(one.attempt)}
+        command = tuple(PLACE.sub(lambda found: values[str(found[1])], word) for word in self.command)
+        return dataclasses.replace(
+            one, command=command, user=self.user, folder=self.folder, environment=self.environment,
+            limit=one.limit if self.limit is None else self.limit, tries=self.tries, pauses=self.pauses,
+            complete=self.complete)
+
+
+USUAL = Job()
+
+
+class Jobs:
+    """The jobs of a folder, for the agent of a name. Raises InvalidJobsFile."""
+
+    def __init__(self, folder: str, agent: str) -> None:
+        self.folder, self.path, self.agent = folder, folder + TAIL, agent
+        self.stamp: tuple[int, int, int] | None = None  # what changes where the file does
+        self.found: dict[str, Job] = {}
+        self.rules = Rules()
+        self.read()
+
+    def read(self) -> None:
+        """Reads the file where it changed; a faulty one changes nothing. Raises InvalidJobsFile."""
+        try:
+            found = os.stat(self.path)
+        except FileNotFoundError:
+            self.stamp, self.found, self.rules = None, {}, Rules()
+            return
+        except OSError as error:
+            raise InvalidJobsFile(f"{self.path}: it can't be read: {error.strerror}") from None
+        stamp = found.st_mtime_ns, found.st_size, found.st_ino
+        if stamp == self.stamp:
+            return
+        self.stamp = stamp
+        if not stat.S_ISREG(found.st_mode) or found.st_mode & stat.S_IWOTH:
+            raise InvalidJobsFile(f"{self.path}: it has to be a file that not everybody may write, and so it isn't "
+                                  "read")
+        jobs, limits = of_file(self.path)
+        self.check_users(jobs)
+        elsewhere = frozenset(app for app, job in jobs.items() if not self.is_here(job))
+        classes = {app: job.group for app, job in jobs.items() if job.group is not None}
+        self.found, self.rules = jobs, Rules(elsewhere, classes, limits)
+
+    def is_here(self, job: Job) -> bool:
+        """Whether a job is one of this agent."""
+        return fnmatch.fnmatchcase(self.agent, job.where)
+
+    def of(self, app: str) -> Job:
+        """How the job of an application is run."""
+        return self.found.get(app, USUAL)
+
+    def check_users(self, jobs: Mapping[str, Job]) -> None:
+        """Asks that this agent can run each of its jobs as the user who is named. Raises InvalidJobsFile."""
+        for app, job in jobs.items():
+            if job.user is None or not self.is_here(job):
+                continue
+            try:
+                user = pwd.getpwnam(job.user)
+            except KeyError:
+                raise InvalidJobsFile(f"{self.path}: {app}: user: this machine has no user {job.user!r}") from None
+            if user.pw_uid != os.geteuid() and os.geteuid():
+                raise InvalidJobsFile(f"{self.path}: {app}: user: only an agent that root runs can run a job as "
+                                      f"{job.user}: take the line away, or run the agent as root or as that user")
+
+
+def of_file(path: str) -> tuple[dict[str, Job], dict[str, int]]:
+    """The jobs by application, and the limits by class. Raises InvalidJobsFile."""
+    try:
+        with open(path, "rb") as file:
+            tables = tomllib.load(file)
+    except OSError as error:
+        raise InvalidJobsFile(f"{path}: it can't be read: {error.strerror}") from None
+    except (ValueError, RecursionError) as error:
+        raise InvalidJobsFile(f"{path}: it isn't TOML: {error}") from None
+    try:
+        limits = limits_of(tables.pop(CLASSES, {}))
+        jobs = {app: job_of(app, value) for app, value in tables.items()}
+        for app, job in jobs.items():
+            if job.group is not None and job.group not in limits:
+                raise ValueError(f"{app}: class: {job.group!r} has no number among {CLASSES}: add "
+                                 f"`{CLASSES}.{job.group} = 2` at the top")
+    except ValueError as why:
+        raise InvalidJobsFile(f"{path}: {why}") from None
+    return jobs, limits
+
+
+def limits_of(table: Any) -> dict[str, int]:
+    """How many of each class may run at once. Raises ValueError."""
+    if not isinstance(table, dict):
+        raise ValueError(f"{CLASSES}: lines like `{CLASSES}.db = 2` are wanted")
+    for name, value in table.items():
+        if not CLASS.fullmatch(name) or not is_number(value, 1, MOST_OF_A_CLASS):
+            raise ValueError(f"{CLASSES}.{name}: a number from 1 to {MOST_OF_A_CLASS} is wanted")
+    return dict(table)
+
+
+def job_of(app: str, table: Any) -> Job:
+    """The job that a table of the file has. Raises ValueError."""
+    if not words.NAME.fullmatch(app) or not isinstance(table, dict):
+        raise ValueError(f"{app}: it is no application; a table like [PAY] has the job of one, and {CLASSES} the "
+                         "numbers of classes")
+    given: dict[str, Any] = {"environment": ()}
+    for name, value in table.items():
+        if name not in READERS:
+            raise ValueError(f"{app}: {name}: there is no such key; the keys are {', '.join(READERS)}")
+        field, read = READERS[name]
+        try:
+            given[field] = read(value)
+        except ValueError as why:
+            raise ValueError(f"{app}: {name}: {why}") from None
+    return Job(**given)
+
+
+def is_number(value: Any, least: int, most: int) -> bool:
+    """Whether a value is a whole number between two others."""
+    return isinstance(value, int) and not isinstance(value, bool) and least <= value <= most
+
+
+def text_of(value: Any) -> str:
+    """A text that a process can be given. Raises ValueError."""
+    if not isinstance(value, str) or not value or "\0" in value:
+        raise ValueError("a text in quotes is wanted")
+    return value
+
+
+def command_of(value: Any) -> tuple[str, ...]:
+    """The words of a command; the first one is the path of a program. Raises ValueError."""
+    if not isinstance(value, list) or not value or not all(isinstance(one, str) and "\0" not in one for one in value):
+        raise ValueError("a list of words is wanted, as [\"/usr/bin/pay\", \"{ia}\"]")
+    if not os.path.isabs(value[0]):
+        raise ValueError(f"the first word is the whole path of a program, and {value[0]!r} is none")
+    return tuple(value)
+
+
+def folder_of(value: Any) -> str:
+    """The path of a folder. Raises ValueError."""
+    if not os.path.isabs(text_of(value)):
+        raise ValueError("the whole path of a folder is wanted")
+    return text_of(value)
+
+
+def environment_of(value: Any) -> tuple[tuple[str, str], ...]:
+    """Variables with their values. Raises ValueError."""
+    if not isinstance(value, dict):
+        raise ValueError("variables are wanted, as { LANG = \"C.UTF-8\" }")
+    for name, text in value.items():
+        if not VARIABLE.fullmatch(name) or name.startswith(OWN):
+            raise ValueError(f"{name}: this is no name that a variable of a job can have; {OWN} begins those that the "
+                             "agent sets")
+        if not isinstance(text, str) or "\0" in text:
+            raise ValueError(f"{name}: a text in quotes is wanted")
+    return tuple(value.items())
+
+
+def span_of(value: Any) -> float:
+    """A span in seconds. Raises ValueError."""
+    if isinstance(value, str):
+        value = amounts.seconds_of(value)
+    if isinstance(value, bool) or not isinstance(value, (int, float)) or not math.isfinite(value):
+        raise ValueError(SPAN)
+    if not 0 < value <= amounts.LONGEST:
+        raise ValueError(SPAN)
+    return float(value)
+
+
+def pauses_of(value: Any) -> tuple[float, ...]:
+    """One span, or one for each pause. Raises ValueError."""
+    return tuple(map(span_of, value)) if isinstance(value, list) else (span_of(value),)
+
+
+def tries_of(value: Any) -> int:
+    """How often a job is tried. Raises ValueError."""
+    if not is_number(value, 1, MOST_TRIES):
+        raise ValueError(f"a number from 1 to {MOST_TRIES} is wanted")
+    return int(value)
+
+
+def complete_of(value: Any) -> tuple[int, ...]:
+    """Exit statuses. Raises ValueError."""
+    if not isinstance(value, list) or not value or not all(is_number(one, 0, MOST_STATUS) for one in value):
+        raise ValueError("a list of exit statuses is wanted, as [0, 4]")
+    return tuple(value)
+
+
+def class_of(value: Any) -> str:
+    """The name of a class. Raises ValueError."""
+    if not CLASS.fullmatch(text_of(value)):
+        raise ValueError("the name of a class is wanted, as \"db\"")
+    return text_of(value)
+
+
+# by the key of the file: the field of Job, and what reads it
+READERS: dict[str, tuple[str, Callable[[Any], Any]]] = {
+    "command": ("command", command_of), "user": ("user", text_of), "folder": ("folder", folder_of),
+    "environment": ("environment", environment_of), "limit": ("limit", span_of), "tries": ("tries", tries_of),
+    "pauses": ("pauses", pauses_of), "complete": ("complete", complete_of), "class": ("group", class_of),
+    "where": ("where", text_of)}

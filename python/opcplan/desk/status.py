@@ -1,0 +1,123 @@
+"""How a desk's plan is: what needs somebody, when the plans end, the agents, and the nodes of etcd.
+
+A process of its own finds what needs somebody, of a copy of the plan. It is found again once the plan or the minute has
+changed, but takes no more than a quarter of the time."""
+
+import asyncio
+import contextlib
+import json
+import os
+import sys
+import time
+from typing import Any, NamedTuple, TYPE_CHECKING
+
+from aiohttp import web
+
+from opcplan.desk import page, snapshot
+from opcplan.desk.held_files import FileReplaced
+from opcplan.errors import Unreadable
+from opcplan.plans import tempfiles
+from opcplan.plans.entry import moment_now
+from opcplan.plans.program import PYTHON
+from opcplan.rules import moments
+
+if TYPE_CHECKING:
+    from opcplan.desk.core import Desk
+
+PROCESS = [sys.executable, "-E", "-B", "-m", "opcplan.desk.needs_process"]
+LONGEST_MAKING = 120
+# how many times what it took passes before it is found again
+PAUSES = 3
+# seconds for which counts wait for what isn't found yet
+PATIENCE = 5
+
+
+class Found(NamedTuple):
+    """What was found: as of which moment it was asked for, in which minute of the clock, when that ended and how long
+    it took by the steady clock, when by the clock, and the state of the plan."""
+
+    now: int | None
+    minute: int
+    ended: float
+    took: float
+    at: str
+    position: int
+    tag: str
+    facts: dict[str, Any]
+
+
+class Status:
+    """The status of a desk's plan, whose journal has a path."""
+
+    def __init__(self, desk: "Desk", path: str, journal: str) -> None:
+        self.desk, self.path, self.journal = desk, path, journal
+        self.making = asyncio.Lock()
+        self.found: Found | None = None
+        self.last: Found | None = None  # of the clock
+        self.counting: asyncio.Task[Found] | None = None
+
+    async def handle(self, request: web.Request) -> web.StreamResponse:
+        """GET /status."""
+        found = await self.latest(page.moment_asked(request))
+        log = self.desk.log.standing(self.desk.position)
+        members = log.get("etcd", {}).get("members", [])
+        values = {"at": found.at, "position": found.position, **found.facts, "agents": self.desk.agents.values(),
+                  "etcd": members, "trouble": self.desk.trouble}
+        heads = {"ETag": f'"{found.tag}"', "X-Opcplan-Position": str(found.position)}
+        return web.json_response(values, headers=heads)
+
+    async def latest(self, now: int | None = None) -> Found:
+        """What is found as of a moment, or of the clock. Raises HTTPServiceUnavailable."""
+        async with self.making:
+            found = self.found
+            if found is None or found.now != now or not self.is_fresh(found):
+                self.found = found = await self.find(now)
+                self.last = found if now is None else self.last
+        return found
+
+    def is_fresh(self, found: Found) -> bool:
+        """Whether what was found will do still."""
+        if found.tag == self.desk.tag() and (found.now is not None or found.minute == moments.now()):
+            return True
+        return found.now is None and time.monotonic() < found.ended + PAUSES * found.took
+
+    async def find(self, now: int | None) -> Found:
+        """What needs somebody, of a copy of the plan. Raises HTTPServiceUnavailable."""
+        begun, minute = time.monotonic(), moments.now()
+        with tempfiles.folder("desk-") as folder:
+            copy = os.path.join(folder, "plan.db")
+            try:
+                stands = await snapshot.copied(self.desk, self.path, copy)
+            except (OSError, Unreadable, FileReplaced) as error:
+                raise web.HTTPServiceUnavailable(text=f"there is no copy of the plan: {error}\n") from None
+            facts = await facts_of(copy, "-" if now is None else str(now), self.journal)
+        ended = time.monotonic()
+        return Found(now, minute, ended, ended - begun, moment_now(), stands.position, stands.tag, facts)
+
+    async def counted(self) -> Found | None:
+        """What is found as of the clock, for counts: after a while what was found last, or None."""
+        if self.counting is None or self.counting.done():
+            self.counting = asyncio.create_task(self.latest())
+        with contextlib.suppress(asyncio.TimeoutError, web.HTTPServiceUnavailable):
+            return await asyncio.wait_for(asyncio.shield(self.counting), PATIENCE)
+        return self.last
+
+
+async def facts_of(copy: str, now: str, journal: str) -> dict[str, Any]:
+    """What the process says of a copy. Raises HTTPServiceUnavailable."""
+    process = await asyncio.create_subprocess_exec(
+        *PROCESS, copy, now, os.path.abspath(journal), cwd=PYTHON, stdin=asyncio.subprocess.DEVNULL,
+        stdout=asyncio.subprocess.PIPE, stderr=asyncio.subprocess.PIPE)
+    try:
+        out, said = await asyncio.wait_for(process.communicate(), LONGEST_MAKING)
+    except asyncio.TimeoutError:
+        raise web.HTTPServiceUnavailable(text="to find what needs somebody takes too long\n") from None
+    finally:
+        with contextlib.suppress(ProcessLookupError):
+            if process.returncode is None:
+                process.kill()
+    if process.returncode:
+        why = said.decode("utf-8", "replace").strip().split("\n")[-1]
+        raise web.HTTPServiceUnavailable(text=f"what needs somebody isn't found: {why}\n")
+    found: dict[str, Any] = json.loads(out)
+    return found

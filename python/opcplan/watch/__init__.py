@@ -1,0 +1,1 @@
+"""Calls somebody when a plan needs it."""

@@ -1,0 +1,279 @@
+"""A watch from its beginning to its end: it asks desks, keeps its state and calls."""
+
+import contextlib
+import dataclasses
+import fcntl
+import json
+import os
+import shutil
+import signal
+import sys
+import threading
+import time
+import urllib.parse
+from collections.abc import Callable, Iterator, Sequence
+from typing import Any
+
+from opcplan.cli import output
+from opcplan.desk import client
+from opcplan.errors import Error, UsageError
+from opcplan.watch import calls, conditions, rulebook
+from opcplan.watch.rulebook import Rulebook
+from opcplan.watch.sightings import Sightings
+from opcplan.watch.state import Call, InvalidState, State, of_kept
+
+# seconds for which an answer of a desk is waited for
+PATIENCE = 30
+TAIL, LOCK = ".state", ".lock"
+MOST_BYTES = 1 << 20
+
+
+class WatchNotStarted(Error):
+    """Why a watch doesn't begin."""
+
+
+@dataclasses.dataclass(frozen=True)
+class Settings:
+    """What a watch is given: desks of one plan, the file of its rules and that of its state, how long it rests between
+    two looks, and perhaps a moment in place of the desk's clock."""
+
+    desk: str
+    rules: str
+    state: str
+    every: float = 30.0
+    now: str | None = None
+
+
+class Quick(client.Client):
+    """A client of one desk, which doesn't wait long for it."""
+
+    def connection(self) -> Any:
+        """A connection to the desk."""
+        return self.places[0].connection(PATIENCE)
+
+
+class Watch:
+    """Looks, and calls somebody. `clock` tells seconds since 1970; `moment`, where there is one, as of when desks are
+    asked, as statements have a moment."""
+
+    def __init__(self, given: Settings, rules: Rulebook, token: str | None, clock: Callable[[], float] = time.time,
+                 moment: Callable[[], str | None] | None = None) -> None:
+        self.given, self.rules, self.clock = given, rules, clock
+        self.moment = moment or (lambda: given.now)
+        self.desks = [Quick(name, token) for name in client.BETWEEN.split(given.desk)]
+        self.state, self.sightings = State(), Sightings()
+        self.said: dict[str, str] = {}  # what is wrong for now, by what it is of
+
+    def load(self) -> None:
+        """Takes what a watch before this one kept. Raises WatchNotStarted."""
+        try:
+            with open(self.given.state, encoding="utf-8") as file:
+                kept = json.load(file)
+            self.state, self.sightings = of_kept(kept["watch"]), Sightings.of_kept(kept["sightings"])
+        except FileNotFoundError:
+            return
+        except (InvalidState, KeyError, TypeError, ValueError, AttributeError) as error:
+            why = str(error) if isinstance(error, InvalidState) else "it isn't what a watch keeps"
+            raise WatchNotStarted(f"{self.given.state}: {why}; take it away, and calls that it has are sent "
+                                  "anew") from None
+        except OSError as error:
+            raise WatchNotStarted(f"{self.given.state}: it can't be read: {error.strerror}") from None
+        self.state.settle(self.rules.calls())
+
+    # One look.
+
+    def look(self) -> None:
+        """Looks once, and notes what is new, worse or over."""
+        answers = {desk.name: self.ask(desk) for desk in self.desks}
+        now = self.clock()
+        self.sightings.take(now, answers)
+        good = [one for one in answers.values() if not isinstance(one, str)]
+        status = max(good, key=lambda one: int(one["position"]), default=None)
+        disks = {rule.path: used_of(rule.path) for rule in self.rules.rules if rule.on == "disk"}
+        seen = conditions.Seen(status, self.sightings, disks)
+        for rule in self.rules.rules:
+            self.state.take(now, rule.name, rule.call, conditions.looked(rule, seen, now))
+        for name, one in answers.items():
+            self.say(name, one if isinstance(one, str) else "")
+
+    def ask(self, desk: Quick) -> dict[str, Any] | str:
+        """How the plan of a desk is, or why the desk doesn't say it."""
+        moment = self.moment()
+        query = f"?now={urllib.parse.quote(moment)}" if moment else ""
+        try:
+            found: dict[str, Any] = json.loads(desk.asked("GET", f"/status{query}")[1])
+            checked(found)
+        except (client.DeskUnreachable, client.RequestRefused) as why:
+            return str(why)
+        except (ValueError, TypeError, KeyError, AttributeError):
+            return "it doesn't answer as a desk does"
+        return found
+
+    def say(self, what: str, wrong: str) -> None:
+        """Says once what is wrong with something, and that it isn't any more."""
+        if wrong != self.said.get(what, ""):
+            print_message(f"{what}: {wrong}" if wrong and not wrong.startswith(what)
+                          else wrong or f"{what}: it is well again")
+        self.said[what] = wrong
+
+    # Calls.
+
+    def keep(self) -> None:
+        """Has the disk keep all; where it doesn't, that is said, and calls may be sent again after a stop."""
+        kept = {"watch": self.state.kept(), "sightings": self.sightings.kept()}
+        try:
+            output.put(os.path.realpath(self.given.state), json.dumps(kept, indent=1).encode(), True)
+            self.say(self.given.state, "")
+        except OSError as error:
+            self.say(self.given.state, f"it can't be written: {error.strerror}; where the watch is stopped now, calls "
+                     "are sent twice")
+        self.state.is_changed = False
+
+    def step(self, is_over: Callable[[], bool] = lambda: False) -> None:
+        """Looks, and calls."""
+        self.look()
+        self.keep()
+        self.call_all(is_over)
+
+    def call_all(self, is_over: Callable[[], bool] = lambda: False) -> None:
+        """Sends the calls that are to be sent now. The state is kept before each one and after it."""
+        while not is_over() and (call := self.state.call(self.clock())) is not None:
+            if self.state.is_changed:
+                self.keep()
+            self.send(call)
+        if self.state.is_changed:
+            self.keep()
+
+    def send(self, call: Call) -> None:
+        """Sends a call once, and notes what came of it."""
+        try:
+            calls.deliver(self.rules.targets[call.target], call, self.given.desk, self.rules.sendmail)
+        except calls.Undelivered as why:
+            self.state.failed(call.target, self.clock())
+            self.say(call.target, f"{why}; it is tried again")
+            return
+        self.state.sent(call.target)
+        self.say(call.target, "")
+        print_message(f"called {call.target}: {calls.subject(call)}")
+
+    def shown(self) -> list[str]:
+        """What would be sent now, to whom and how, in lines; nothing is sent."""
+        lines = []
+        while (call := self.state.call(self.clock())) is not None:
+            target = self.rules.targets[call.target]
+            way = f"mail to {target.mail}" if target.mail else f"POST {target.webhook}" if target.webhook else \
+                f"run {target.command[0]}"
+            lines += [f"{call.target}: {way}", *(f"  {line}" for line in calls.lines(call))]
+            self.state.sent(call.target)
+        return lines
+
+
+def checked(found: Any) -> None:
+    """Asks that an answer has what a desk tells. Raises KeyError, TypeError and ValueError."""
+    int(found["position"])
+    conditions.moment_of(found["now"])
+    for name, one in found["agents"].items():
+        int(one["looks"])
+    for one in found["etcd"]:
+        str(one["endpoint"]), bool(one["answers"])
+    for row in found["rows"]:
+        conditions.moment_of(row["deadline"]), row["app"], row["ia"], row["state"], row["late"], row["at_risk"]
+        row["serial"], row["waits_for"], row["expected"], row["or_later"]
+    bool(found["is_whole"])
+    if found["plan_end"] is not None:
+        conditions.moment_of(found["plan_end"])
+
+
+def used_of(path: str) -> float | str:
+    """How much of the disk of a path is used, in percent, or why that isn't known."""
+    try:
+        found = shutil.disk_usage(path)
+    except OSError as error:
+        return error.strerror or str(error)
+    return 100.0 * found.used / max(1, found.used + found.free)
+
+
+# A watch as a service.
+
+
+def rules_of(path: str) -> Rulebook:
+    """The rules that a file has. Raises UsageError and WatchNotStarted."""
+    try:
+        with open(path, encoding="utf-8") as file:
+            return rulebook.of_text(file.read(MOST_BYTES))
+    except OSError as error:
+        raise WatchNotStarted(f"watch: {path}: it can't be read: {error.strerror}") from None
+    except UnicodeDecodeError:
+        raise rulebook.InvalidRules(f"watch: {path}: it is no text in UTF-8") from None
+    except rulebook.InvalidRules as why:
+        raise rulebook.InvalidRules(f"watch: {path}: {why}") from None
+
+
+def made(given: Settings) -> Watch:
+    """A Watch that has what the one before it kept. Raises UsageError and WatchNotStarted."""
+    rules = rules_of(given.rules)
+    try:
+        found = Watch(given, rules, client.token())
+    except client.InvalidAddress as why:
+        raise UsageError(f"watch: {why}") from None
+    except OSError as error:
+        raise WatchNotStarted(f"watch: {error.filename}: the token can't be read: {error.strerror}") from None
+    found.load()
+    return found
+
+
+@contextlib.contextmanager
+def locked(path: str) -> Iterator[None]:
+    """A context in which this watch alone has a file of a state. Raises WatchNotStarted."""
+    try:
+        number = os.open(f"{path}{LOCK}", os.O_WRONLY | os.O_CREAT | os.O_CLOEXEC | os.O_NOFOLLOW, 0o600)
+    except OSError as error:
+        raise WatchNotStarted(f"watch: {path}: it can't be kept there: {error.strerror}") from None
+    try:
+        fcntl.flock(number, fcntl.LOCK_EX | fcntl.LOCK_NB)
+        yield
+    except BlockingIOError:
+        raise WatchNotStarted(f"watch: {path}: another watch has it") from None
+    finally:
+        os.close(number)
+
+
+def tried(given: Settings) -> Sequence[str]:
+    """What a watch would send now, in lines. Raises UsageError and WatchNotStarted."""
+    found = made(given)
+    found.look()
+    return found.shown()
+
+
+def once(given: Settings) -> bool:
+    """Looks once and calls; whether all calls were delivered. Raises UsageError and WatchNotStarted."""
+    with locked(given.state):
+        found = made(given)
+        found.step()
+        return found.state.next_try() is None
+
+
+def run(given: Settings) -> None:
+    """Watches until it is to end. Raises UsageError and WatchNotStarted."""
+    stop = threading.Event()
+    for one in (signal.SIGTERM, signal.SIGINT):
+        signal.signal(one, lambda *_: stop.set())
+    with locked(given.state):
+        found = made(given)
+        print_message(f"watches {given.desk} by the rules of {given.rules}")
+        next_look = time.monotonic()
+        while not stop.is_set():
+            if time.monotonic() >= next_look:
+                found.step(stop.is_set)
+                next_look = time.monotonic() + given.every
+            else:
+                found.call_all(stop.is_set)
+            again = found.state.next_try()
+            rest = next_look - time.monotonic()
+            stop.wait(max(0.1, rest if again is None else min(rest, again - found.clock())))
+
+
+def print_message(text: str) -> None:
+    """Says something on standard error, where that takes it."""
+    with contextlib.suppress(OSError):
+        print(f"watch: {text}", file=sys.stderr, flush=True)

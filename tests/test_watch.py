@@ -1,0 +1,521 @@
+"""./plan watch: what rules may have, what they find, how somebody is called, and a watch that is killed, refused, begun
+twice and asked to end."""
+
+import contextlib
+import http.server
+import io
+import json
+import os
+import signal
+import subprocess
+import tempfile
+import threading
+import time
+import unittest
+from pathlib import Path
+
+from support import desks, plans
+from support.webhooks import Webhook
+
+from opcplan.watch import calls, conditions, rulebook, service
+from opcplan.watch.rulebook import Rule, Target
+from opcplan.watch.sightings import Sightings
+from opcplan.watch.state import Call, Mention, State
+
+WHO = '[who.me]\ncommand = ["true"]\n'
+GOOD = f'{WHO}[[rule]]\non = "error"\ncall = "me"\n'
+STATUS = {"position": 3, "now": "2024-01-02/12.00", "plan_end": "2024-01-02/18.00", "rows": [], "is_whole": True,
+          "agents": {}, "etcd": [], "trouble": ""}
+
+
+def row(serial, state, deadline="2024-01-02/18.00", **more):
+    return {"serial": serial, "app": "PAY", "ia": "2024-01-02/08.00", "deadline": deadline, "state": state,
+            "late": False, "at_risk": False, "expected": None, "or_later": False, "waits_for": None, **more}
+
+
+class Rules(unittest.TestCase):
+    def test_each_word_has_its_place(self):
+        text = """
+            sendmail = "/bin/cat"
+            [who.night]
+            mail = "night@example.org"
+            [who.chat]
+            webhook = "https://chat.example.org:8443/hook?x=1"
+            secret = "/etc/secret"
+            [who.pager]
+            command = ["page", "now"]
+            [[rule]]
+            on = "error"
+            apps = ["PAY*", "bill"]
+            call = ["night", "chat", "night"]
+            [[rule]]
+            name = "late-1"
+            on = "late"
+            minutes = 15
+            call = "pager"
+            [[rule]]
+            on = "disk"
+            path = "/var"
+            percent = 85.5
+            call = "chat"
+            [[rule]]
+            on = "agent"
+            minutes = 2
+            names = "batch*"
+            call = "chat"
+            [[rule]]
+            on = "plan-end"
+            hours = 6
+            call = "chat"
+            """
+        found = rulebook.of_text(text)
+        self.assertEqual(found.sendmail, "/bin/cat")
+        self.assertEqual(found.targets["chat"], Target("chat", webhook="https://chat.example.org:8443/hook?x=1",
+                                                       secret="/etc/secret"))
+        self.assertEqual(found.targets["pager"].command, ("page", "now"))
+        error, late, disk, agent, end = found.rules
+        self.assertEqual((error.name, error.apps, error.call), ("error", ("PAY*", "BILL"), ("night", "chat")))
+        self.assertEqual((late.name, late.on, late.minutes, late.call), ("late-1", "late", 15, ("pager",)))
+        self.assertEqual((disk.path, disk.percent), ("/var", 85.5))
+        self.assertEqual((agent.minutes, agent.names, end.hours), (2, ("batch*",), 6))
+        self.assertEqual(found.calls()["late-1"], ("pager",))
+
+    def test_what_is_wrong_is_reported(self):
+        for text, reason in (
+            ("x", "no TOML"), ("", "[who.NAME]"), (WHO, "[[rule]]"), ('rules = 1\n' + GOOD, "is rule meant?"),
+            (GOOD.replace('"me"\n', '"you"\n'), "there is no [who.you]"),
+            (GOOD.replace('"error"', '"errors"'), "is error"),
+            (GOOD.replace('on = "error"', 'on = "late"'), "lacks `minutes`"),
+            (GOOD.replace('call = "me"\n', ""), "lacks `call`"),
+            (GOOD + "minutes = 3\n", "has no word `minutes`"), (GOOD + 'apps = []\n', "`apps` has to be"),
+            (GOOD + 'name = ""\n', "`name` has to be a text"), (GOOD + 'name = "a b"\n', "its name is 'a b'"),
+            (GOOD + '[[rule]]\non = "error"\ncall = "me"\n', "that no other rule has"),
+            (GOOD.replace('["true"]', '[]'), "`command` has to be"),
+            (GOOD.replace('["true"]', '["a\\u0000"]'), "`command`"),
+            (GOOD.replace("command", "comand"), "is command meant?"),
+            (GOOD.replace('command = ["true"]', ""), "one of command"),
+            (GOOD.replace('command = ["true"]', 'mail = "a b"'), "no address of a mail"),
+            (GOOD.replace('command = ["true"]', 'mail = "-oQ/tmp"'), "no address of a mail"),
+            *((GOOD.replace('command = ["true"]', f'webhook = "{url}"'), "no address of a webhook")
+              for url in ("chat", "ftp://a/b", "http:///x", "http://a:b@c/", "http://a:99999/", "http://a/ b",
+                          "http://a/#x")),
+            (GOOD.replace('command = ["true"]', 'mail = "a@b"\nsecret = "/x"'), "a secret goes with a webhook"),
+            (GOOD.replace("who.me", 'who."a b"'), "a name has"),
+            *((f'{WHO}[[rule]]\non = "late"\ncall = "me"\nminutes = {value}\n', "a number from 0")
+              for value in ('"1"', "true", "-1", "inf", "nan", "1000001")),
+            (f'{WHO}rule = 3\n', "[[rule]]"), (f'rule = [1]\n{WHO}', "has to be one of"),
+        ):
+            with self.subTest(text), self.assertRaises(rulebook.InvalidRules) as why:
+                rulebook.of_text(text)
+            self.assertIn(reason, str(why.exception))
+            self.assertEqual(str(why.exception).count("\n"), 0)
+
+
+class Conditions(unittest.TestCase):
+    def found(self, rule, now=0.0, status=None, sightings=None, disks=None):
+        """What a rule finds: levels by event; None where it can't be looked at."""
+        seen = conditions.Seen(status, sightings or Sightings(), disks or {})
+        looked = conditions.looked(rule, seen, now)
+        return None if looked is None else {one.key: one.level for one in looked.found}
+
+    def test_what_cannot_be_looked_at(self):
+        for on in ("error", "late", "risk", "plan-end", "agent", "etcd"):
+            self.assertIsNone(self.found(Rule("r", on, ())), on)
+        self.assertEqual(self.found(Rule("r", "desk", ())), {})
+
+    def test_rows(self):
+        status = {**STATUS, "rows": [
+            row(1, "in error"), row(2, "in error", "2024-01-02/10.00", late=True),
+            row(3, "ready", "2024-01-02/11.46", late=True), row(4, "blocked", "2024-01-02/11.00", late=True),
+            row(5, "blocked", at_risk=True), row(6, "in error", app="BILL")]}
+        self.assertEqual(self.found(Rule("e", "error", (), ("P*",)), 0, status), {"e:1": 0, "e:2": 1})
+        self.assertEqual(self.found(Rule("e", "error", (), ("BILL", "X")), 0, status), {"e:6": 0})
+        # late by 120, 14 and 60 minutes
+        self.assertEqual(self.found(Rule("l", "late", (), minutes=15), 0, status), {"l:2": 3, "l:4": 2})
+        self.assertEqual(self.found(Rule("l", "late", (), minutes=60), 0, status), {"l:2": 1, "l:4": 0})
+        self.assertEqual(self.found(Rule("l", "late", (), minutes=0), 0, status), {"l:2": 6, "l:3": 3, "l:4": 5})
+        seen = conditions.Seen(status, Sightings(), {})
+        risks = conditions.looked(Rule("r", "risk", ()), seen, 0).found
+        self.assertEqual([(one.key, one.level, one.opens) for one in risks],
+                         [("r:3", 1, False), ("r:4", 1, False), ("r:5", 0, True)])
+        part = conditions.looked(Rule("e", "error", ()), seen._replace(status={**status, "is_whole": False}), 0)
+        self.assertFalse(part.is_whole)
+
+    def test_the_end_of_the_plan(self):
+        for end, hours, level in (
+            ("2024-01-02/18.00", 5, None), ("2024-01-02/18.00", 6, 0), ("2024-01-02/18.00", 12, 1),
+            ("2024-01-02/12.01", 6, 8), ("2024-01-02/12.00", 0, 10), ("2024-01-01/12.00", 6, 10),
+        ):
+            found = self.found(Rule("p", "plan-end", (), hours=hours), 0, {**STATUS, "plan_end": end})
+            self.assertEqual(found, {} if level is None else {"p:plan": level}, (end, hours))
+        self.assertEqual(self.found(Rule("p", "plan-end", (), hours=9), 0, {**STATUS, "plan_end": None}), {})
+
+    def test_disks(self):
+        for used, level in ((89.9, None), (90, 0), (94.9, 0), (95, 1), (97.6, 2), (100, 6), ("no such file", 0)):
+            found = self.found(Rule("d", "disk", (), path="/x"), disks={"/x": used})
+            self.assertEqual(found, {} if level is None else {"d:/x": level}, used)
+
+    def test_who_does_not_answer(self):
+        seen, down = Sightings(), {**STATUS, "etcd": [{"endpoint": "e1", "answers": False, "why": "gone"},
+                                                      {"endpoint": "e2", "answers": True}]}
+        desk, etcd = Rule("d", "desk", (), minutes=2), Rule("e", "etcd", (), minutes=2)
+        seen.take(0, {"a": "away", "b": down})
+        self.assertEqual(self.found(desk, 119, sightings=seen), {})
+        self.assertEqual(self.found(desk, 120, sightings=seen), {"d:a": 0})
+        self.assertEqual(self.found(etcd, 120, STATUS, seen), {"e:e1": 0})
+        seen.take(240, {"a": "away", "b": {**STATUS, "trouble": "the disk is full"}})
+        self.assertEqual(self.found(desk, 240, sightings=seen), {"d:a": 1})
+        self.assertEqual(self.found(desk, 360, sightings=seen), {"d:a": 1, "d:b": 0})
+        seen.take(400, {"a": STATUS, "b": STATUS})
+        self.assertEqual((seen.desks, seen.members), ({}, {}))
+
+    def test_agents(self):
+        """One is seen where a desk has counted another look; while no desk answers its time stands still."""
+        rule, seen = Rule("a", "agent", (), minutes=1), Sightings()
+
+        def look(now, **counts):
+            answers = {name: {**STATUS, "agents": {"batch": {"looks": count, "age": 0}}} if count is not None
+                       else "away" for name, count in counts.items()}
+            seen.take(now, answers)
+            return self.found(rule, now, STATUS, seen)
+
+        self.assertEqual(look(0, a=5), {})
+        self.assertEqual(look(59, a=5), {})
+        self.assertEqual(look(60, a=5), {"a:batch": 0})
+        self.assertEqual(look(120, a=5), {"a:batch": 1})
+        self.assertEqual(look(130, a=6), {})
+        self.assertEqual(look(160, a=0), {})  # the desk was begun again: no look yet
+        self.assertEqual(look(190, a=0), {"a:batch": 0})
+        self.assertEqual(look(200, a=0, b=1), {})  # it asks another desk of the log
+        self.assertEqual(look(220, a=None, b=None), {})
+        seen.take(820, {"a": "away", "b": "away"})
+        self.assertEqual(look(850, a=0, b=1), {})  # ten minutes of which nothing is known don't count
+        self.assertEqual(look(880, a=0, b=1), {"a:batch": 0})
+        self.assertEqual(self.found(rule._replace(names=("other*",)), 880, STATUS, seen), {})
+        again = Sightings.of_kept(json.loads(json.dumps(seen.kept())))
+        self.assertEqual(again.kept(), seen.kept())
+
+
+def call_of(kind="new", texts=("PAY is in error",)):
+    return Call("life-1", "me", tuple(Mention(f"e:{place}", "e", kind, 0, text, 60.0, 120.0)
+                                      for place, text in enumerate(texts)))
+
+
+class Calls(unittest.TestCase):
+    def setUp(self):
+        room = tempfile.TemporaryDirectory(prefix="watch-test-")
+        self.addCleanup(room.cleanup)
+        self.room = Path(room.name)
+
+    def deliver(self, target, call=None, sendmail="/nowhere/sendmail"):
+        calls.deliver(target, call or call_of(), "the desk", sendmail)
+
+    def undelivered(self, target, **how):
+        with self.assertRaises(calls.Undelivered) as why:
+            self.deliver(target, **how)
+        return str(why.exception)
+
+    def test_a_command(self):
+        script = self.room / "script"
+        script.write_text(f'#!/bin/sh\ncat > {self.room}/in\n'
+                          f'echo "$OPCPLAN_CALL $1 $OPCPLAN_TEXT" > {self.room}/words\n')
+        script.chmod(0o755)
+        self.deliver(Target("me", (str(script), "a word")), call_of("over", ("one", "two")))
+        self.assertEqual((self.room / "words").read_text(), "life-1 a word over: one (and 1 more)\n")
+        self.assertEqual(json.loads((self.room / "in").read_text()), {
+            "id": "life-1", "rule": "e", "kind": "over", "desk": "the desk", "text": "over: one (and 1 more)",
+            "events": [{"event": f"e:{place}", "level": 0, "text": text, "since": "1970-01-01T00:01:00.000Z",
+                        "at": "1970-01-01T00:02:00.000Z"} for place, text in enumerate(("one", "two"))]})
+        self.assertIn("it can't be run: No such file", self.undelivered(Target("me", ("/nowhere/x",))))
+        failing = Target("me", ("sh", "-c", "echo no luck >&2; exit 3"))
+        self.assertIn("with status 3: no luck", self.undelivered(failing))
+        self.assertIn("by signal 9", self.undelivered(Target("me", ("sh", "-c", "kill -9 $$"))))
+
+    def test_a_mail(self):
+        sendmail = self.room / "sendmail"
+        sendmail.write_text(f'#!/bin/sh\necho "$@" > {self.room}/words\ncat > {self.room}/mail\n')
+        sendmail.chmod(0o755)
+        self.deliver(Target("me", mail="ops@example.org"), call_of("worse", ("é\n\x1b[31mred",)), str(sendmail))
+        self.assertEqual((self.room / "words").read_text(), "-i -- ops@example.org\n")
+        text = (self.room / "mail").read_text()
+        self.assertRegex(text, "(?m)^To: ops@example.org$")
+        self.assertEqual(text.count("\nSubject: "), 1)
+        self.assertNotIn("\x1b", text)
+        self.assertIn("it can't be run", self.undelivered(Target("me", mail="a@b")))
+
+    def test_a_webhook(self):
+        hook = Webhook(refuses=1, drops=1)
+        self.addCleanup(hook.close)
+        secret = self.room / "secret"
+        target = Target("me", webhook=hook.url, secret=str(secret))
+        self.assertIn("the secret can't be read: No such file", self.undelivered(target))
+        secret.write_text("\n")
+        self.assertIn("there is no secret in it", self.undelivered(target))
+        secret.write_text("key\n")
+        self.assertIn("it answers with status 503", self.undelivered(target))
+        self.assertIn("there is no whole answer", self.undelivered(target))
+        self.deliver(target)
+        self.assertEqual([body for _, body in [*hook.refused, *hook.taken]], [calls.payload(call_of(), "the desk")] * 3)
+        # the HMAC of RFC 2104 over the body, by openssl
+        if os.path.exists("/usr/bin/openssl"):
+            words = ["openssl", "dgst", "-sha256", "-hmac", "key"]
+            ran = subprocess.run(words, input=hook.taken[1][1], capture_output=True, check=False)
+            self.assertEqual(hook.taken[1][0]["X-Opcplan-Signature"], f"sha256={ran.stdout.decode().split()[-1]}")
+        self.deliver(target._replace(secret=""))
+        self.assertIsNone(hook.taken[2][0]["X-Opcplan-Signature"])
+        hook.server.shutdown()
+        hook.server.server_close()
+        self.assertIn("there is no whole answer: ", self.undelivered(target))
+
+    def test_a_webhook_that_leads_elsewhere(self):
+        class Elsewhere(http.server.BaseHTTPRequestHandler):
+            def do_POST(self):
+                self.send_response(302)
+                self.send_header("Location", "http://127.0.0.1:1/")
+                self.end_headers()
+
+            def log_message(self, *_):
+                pass
+
+        with http.server.HTTPServer(("127.0.0.1", 0), Elsewhere) as server:
+            threading.Thread(target=server.serve_forever, daemon=True).start()
+            target = Target("me", webhook=f"http://127.0.0.1:{server.server_port}")
+            self.assertIn("status 302", self.undelivered(target))
+            server.shutdown()
+
+
+RULES = """
+[who.me]
+command = ["sh", "-c", "cat >> %(room)s/calls; %(then)s"]
+[[rule]]
+on = "late"
+minutes = 15
+call = "me"
+[[rule]]
+on = "desk"
+minutes = 0
+call = "me"
+"""
+NOW = "2024-01-02/09.00"  # REPORT of Monday was due an hour before
+
+
+@unittest.skipIf(desks.why_not(), desks.why_not())
+class Watches(desks.Case):
+    TEXT = plans.stream("monday")
+
+    def setUp(self):
+        super().setUp()
+        self.rules, self.state = self.room / "rules.toml", self.room / "state"
+        self.write()
+
+    def write(self, then="true"):
+        self.rules.write_text(RULES % {"room": self.room, "then": then})
+
+    def words(self, desk, *more):
+        return ["watch", "--desk", desk, "--rules", self.rules, "--state", self.state, "--now", NOW, *more]
+
+    def calls(self):
+        """What was called: kind and event."""
+        path = self.room / "calls"
+        sent = map(json.loads, path.read_text().splitlines()) if path.exists() else ()
+        return [(one["kind"], event["event"]) for one in sent for event in one["events"]]
+
+    def ids(self):
+        return [json.loads(line)["id"] for line in (self.room / "calls").read_text().splitlines()]
+
+    def test_once_and_again(self):
+        desk = self.desk()
+        ran = plans.plan(*self.words(desk.socket, "--try"))
+        self.assertEqual((ran.returncode, ran.stderr), (0, ""))
+        self.assertEqual(ran.stdout, "me: run sh\n  REPORT 2024-01-01 20.00 (serial 2) is late by 1 h, ready\n")
+        self.assertEqual((self.calls(), self.state.exists()), ([], False))
+        for _ in range(2):
+            ran = plans.plan(*self.words(desk.socket, "--once"))
+            self.assertEqual(ran.returncode, 0, ran.stderr)
+        self.assertEqual(self.calls(), [("new", "late:2")])
+        self.assertEqual(plans.plan(*self.words(desk.socket, "--try")).stdout, "Nothing would be sent.\n")
+        desk.posted("cp-start --app REPORT --ia 2024-01-01/20.00\ncp-complete --app REPORT --ia 2024-01-01/20.00\n")
+        plans.plan(*self.words(desk.socket, "--once"))
+        self.assertEqual(self.calls(), [("new", "late:2"), ("over", "late:2")])
+        self.end(desk)
+        for _ in range(2):
+            plans.plan(*self.words(desk.socket, "--once"))
+            time.sleep(0.01)
+        self.assertEqual(self.calls()[2:], [("new", f"desk:{desk.socket}")])
+
+    def test_a_call_that_fails_is_sent_again_under_its_id(self):
+        desk = self.desk()
+        self.write("exit 1")
+        for _ in range(2):
+            ran = plans.plan(*self.words(desk.socket, "--once"))
+            self.assertEqual(ran.returncode, 1)
+            self.assertIn("watch: me: sh: it ended with status 1; it is tried again", ran.stderr)
+        self.write()
+        self.assertEqual(plans.plan(*self.words(desk.socket, "--once")).returncode, 0)
+        self.assertEqual(self.calls(), [("new", "late:2")] * 3)
+        self.assertEqual(len(set(self.ids())), 1)
+        self.end(desk)
+
+    def test_a_watch_that_is_killed_while_it_calls(self):
+        """Between the call and its note: it comes again, under the same id, and not once more."""
+        desk = self.desk()
+        self.write("kill -9 $PPID; sleep 1")
+        ran = plans.plan(*self.words(desk.socket, "--once"))
+        self.assertEqual(ran.returncode, -signal.SIGKILL)
+        self.write()
+        for _ in range(2):
+            self.assertEqual(plans.plan(*self.words(desk.socket, "--once")).returncode, 0)
+        self.assertEqual((self.calls(), len(set(self.ids()))), ([("new", "late:2")] * 2, 1))
+        self.end(desk)
+
+    def test_each_stop_of_the_driver(self):
+        """Killed at each call of what it keeps and sends: nothing is lost, and at most one call comes twice."""
+        desk = self.desk()
+        given = service.Settings(str(desk.socket), str(self.rules), str(self.state), now=NOW)
+        for stop in range(1, 12):
+            for path in (self.state, self.room / "calls"):
+                path.unlink(missing_ok=True)
+            count = 0
+
+            class Killed(BaseException):
+                pass
+
+            class Dying(service.Watch):
+                def tick(self):
+                    nonlocal count
+                    count += 1
+                    if count == stop:
+                        raise Killed
+
+                def keep(self):
+                    self.tick()
+                    super().keep()
+                    self.tick()
+
+                def send(self, call):
+                    self.tick()
+                    super().send(call)
+                    self.tick()
+
+            with contextlib.redirect_stderr(io.StringIO()):
+                watch = Dying(given, service.rules_of(given.rules), None)
+                with contextlib.suppress(Killed):
+                    watch.load()
+                    watch.step()
+                is_over = count < stop
+                again = service.Watch(given, service.rules_of(given.rules), None)
+                again.load()
+                again.step()
+            self.assertEqual(set(self.calls()), {("new", "late:2")}, stop)
+            self.assertLessEqual(len(self.ids()), 2)
+            self.assertEqual(len(set(self.ids())), 1, stop)
+            if is_over:
+                self.assertEqual(len(self.ids()), 1)
+                break
+        else:
+            self.fail("it never came to its end")
+        self.end(desk)
+
+    def begun(self, desk, *more):
+        found = subprocess.Popen([plans.TOP / "plan", *map(str, self.words(desk, "--every", "0.2", *more))],
+                                 stderr=subprocess.PIPE, text=True)
+        self.addCleanup(lambda: found.poll() is None and found.kill())
+        while "watches" not in (line := found.stderr.readline()):  # from then on it heeds signals
+            self.assertTrue(line)
+        return found
+
+    def comes(self, holds):
+        until = time.monotonic() + desks.PATIENCE
+        while not holds():
+            self.assertLess(time.monotonic(), until, self.calls())
+            time.sleep(0.05)
+
+    def test_a_watch_as_a_service(self):
+        desk = self.desk()
+        watch = self.begun(desk.socket)
+        self.comes(lambda: self.calls() == [("new", "late:2")])
+        second = plans.plan(*self.words(desk.socket, "--once"))
+        self.assertEqual((second.returncode, second.stdout), (1, ""))
+        self.assertIn("another watch has it", second.stderr)
+        self.end(desk)
+        self.comes(lambda: self.calls()[1:] == [("new", f"desk:{desk.socket}")])
+        watch.send_signal(signal.SIGKILL)
+        watch.communicate()
+        watch = self.begun(desk.socket)
+        desk = self.desk()
+        self.comes(lambda: self.calls()[2:] == [("over", f"desk:{desk.socket}")])
+        for number in (signal.SIGTERM, signal.SIGINT):
+            watch.send_signal(number)
+            said = watch.communicate(timeout=60)[1]
+            self.assertEqual(watch.returncode, 0, said)
+            watch = self.begun(desk.socket)
+        watch.send_signal(signal.SIGTERM)
+        watch.communicate(timeout=60)
+        self.assertEqual(len(self.calls()), 3)
+        self.end(desk)
+
+    def test_a_disk_that_takes_nothing_is_no_reason_not_to_call(self):
+        desk = self.desk()
+        given = service.Settings(str(desk.socket), str(self.rules), str(self.room / "nowhere" / "state"), now=NOW)
+        printed = io.StringIO()
+        with contextlib.redirect_stderr(printed):
+            watch = service.Watch(given, service.rules_of(given.rules), None)
+            for _ in range(2):
+                watch.step()
+        self.assertEqual(self.calls(), [("new", "late:2")])
+        self.assertEqual(printed.getvalue().count("it can't be written"), 1)
+        self.end(desk)
+
+    def test_what_is_wrong_is_reported(self):
+        for words, status, reason in (
+            (["--rules", self.rules], 2, "--desk is wanted"),
+            (["--desk", "x y", "--rules", self.rules, "--once"], 2, "is no desk"),
+            (["--desk", "/x", "--rules", self.room / "nothing"], 1, "it can't be read: No such file"),
+            (["--desk", "/x", "--rules", self.plan], 2, "no text in UTF-8"),
+            (["--desk", "/x", "--rules", self.rules, "--every", "0"], 2, "no number of seconds"),
+            (["--desk", "/x", "--rules", self.rules, "--state", self.room / "no" / "x"], 1, "it can't be kept there"),
+            (["--desk", "/x"], 2, "--rules"),
+            (["--desk", "/x", "--rules", self.rules, "--try", "--once"], 2, "not allowed"),
+        ):
+            ran = plans.plan("watch", *words)
+            self.assertEqual((ran.returncode, ran.stdout, ran.stderr.count("\n")), (status, "", 1), ran.stderr)
+            self.assertIn(reason, ran.stderr)
+        for text in ("", "{", "[]", '{"watch": {}}', json.dumps({"watch": State().kept()}),
+                     json.dumps({"watch": {**State().kept(), "version": 7}, "sightings": {}})):
+            self.state.write_text(text)
+            ran = plans.plan(*self.words("/x", "--once"))
+            self.assertEqual((ran.returncode, ran.stderr.count("\n")), (1, 1), ran.stderr)
+            self.assertIn("take it away", ran.stderr)
+            self.assertEqual(self.state.read_text(), text)
+        self.rules.write_text('on = "error"\n')
+        ran = plans.plan(*self.words("/x", "--once"))
+        self.assertEqual((ran.returncode, ran.stderr.count("\n")), (2, 1), ran.stderr)
+
+    def test_answers_that_no_desk_gives(self):
+        """Each counts as a desk that doesn't answer, and nothing of the plan is over."""
+        answers = [b"", b"{}", b"[]", b"\xff", json.dumps({**STATUS, "rows": [{}]}).encode(),
+                   json.dumps({**STATUS, "now": "today"}).encode(), json.dumps({**STATUS, "agents": {"a": 1}}).encode(),
+                   json.dumps({**STATUS, "etcd": [1]}).encode()]
+
+        class Odd(http.server.BaseHTTPRequestHandler):
+            def do_GET(self):
+                self.send_response(200)
+                self.end_headers()
+                self.wfile.write(answers[0])
+
+            def log_message(self, *_):
+                pass
+
+        with http.server.HTTPServer(("127.0.0.1", 0), Odd) as server, contextlib.redirect_stderr(io.StringIO()):
+            threading.Thread(target=server.serve_forever, daemon=True).start()
+            given = service.Settings(f"http://127.0.0.1:{server.server_port}", str(self.rules), str(self.state))
+            while answers:
+                watch = service.Watch(given, service.rules_of(given.rules), None)
+                watch.look()
+                self.assertEqual(list(watch.sightings.desks), [given.desk], answers[0])
+                answers.pop(0)
+            server.shutdown()
+
+
+if __name__ == "__main__":
+    unittest.main()
