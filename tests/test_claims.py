@@ -1,0 +1,163 @@
+"""tools/proof/claims: the tables that it makes of small READMEs, and what it reports of those that are wrong."""
+
+import contextlib
+import importlib.machinery
+import importlib.util
+import io
+import tempfile
+import unittest
+from pathlib import Path
+
+from support import plans
+
+
+def load():
+    """The tool as a module."""
+    loader = importlib.machinery.SourceFileLoader("claims", str(plans.TOP / "tools" / "proof" / "claims"))
+    module = importlib.util.module_from_spec(importlib.util.spec_from_loader("claims", loader))
+    loader.exec_module(module)
+    return module
+
+
+claims = load()
+
+DAYS = """# `days`
+
+Days and their order.
+
+**What it promises.** A day is read as it is spelled; see [`more`](../more/README.md) and [a row](data/row.in).
+
+## Claims
+
+| Claim | Contract |
+|---|---|
+| A day is read exactly where it has the spelling | `Day::from_text` |
+| Two days have one order | `before`, law `order`; `Day::from_text` |
+
+## Definitions
+
+| Definition | File | In words | Carried by |
+|---|---|---|---|
+| spelling of a day | `specs/Day.antt` (`IsDay`) | ten digits | `from_text` |
+| day before a day | `specs/Day.antt` (`IsBefore`) | by their numbers | `before` |
+
+## Decisions
+
+| Claim | Contract |
+|---|---|
+| No claim | `nothing` |
+"""
+TRIALS = "# `trials`\n\nTries days.\n\n**What it promises.** Nothing.\n\n## Decisions\n\n- None.\n"
+PAGE = "# Definitions\n\n## By crate\n\n| Crate | What it defines |\n|---|---|\n| old | row |\n\n## Words\n\nLast.\n"
+DAYS_LINK, TRIALS_LINK = ("[`days`](../../crates/days/README.md)", "[`trials`](../../crates/trials/README.md)")
+
+
+class Trees(unittest.TestCase):
+    def setUp(self):
+        folder = tempfile.TemporaryDirectory()
+        self.addCleanup(folder.cleanup)
+        self.top = Path(folder.name)
+        self.write("crates.txt", "# NAME: libraries\n# days: none\ndays: jiff\ntrials: days # last\n")
+        self.write("crates/days/README.md", DAYS)
+        self.write("crates/days/src/day.rt", "impl Day { fn from_text() {} }\nfn before() {}\n")
+        self.write("crates/days/proofs/Laws.antt", "order : Order\n")
+        self.write("crates/trials/README.md", TRIALS)
+        self.write("docs/work/DEFINITIONS.md", PAGE)
+
+    def write(self, name, text):
+        path = self.top / name
+        path.parent.mkdir(parents=True, exist_ok=True)
+        path.write_text(text, encoding="utf-8")
+
+    def text(self, name):
+        return (self.top / name).read_text(encoding="utf-8")
+
+    def run_tool(self, *options):
+        said = io.StringIO()
+        with contextlib.redirect_stdout(said):
+            status = claims.main(list(options), self.top)
+        return status, said.getvalue()
+
+    def fails(self, text):
+        """That a check fails with one line, which has this text."""
+        status, said = self.run_tool()
+        self.assertEqual(status, 1, said)
+        self.assertIn(text, said)
+        self.assertEqual(len(said.splitlines()), 2, said)
+
+
+class Made(Trees):
+    def test_page_of_claims(self):
+        self.assertEqual(self.run_tool("--write"), (0, "4 passed, 0 failed\n"))
+        lines = self.text("docs/work/CLAIMS.md").splitlines()
+        self.assertIn("2 claims in 1 crates, from below as `crates.txt` has them:", lines)
+        self.assertIn(f"| {DAYS_LINK} | A day is read as it is spelled; see [`more`](../../crates/more/README.md) and "
+                      "[a row](../../crates/days/data/row.in). | `Day::from_text`, `before`, `order` |", lines)
+        self.assertIn(f"| {TRIALS_LINK} | Tries days. |", lines)
+
+    def test_table_of_definitions(self):
+        self.run_tool("--write")
+        self.assertEqual(self.text("docs/work/DEFINITIONS.md"),
+                         PAGE.replace("| old | row |", f"| {DAYS_LINK} | spelling of a day; day before a day |"))
+
+    def test_what_is_written_passes_the_check(self):
+        self.run_tool("--write")
+        for options in ([], ["--check"], ["--write"]):
+            self.assertEqual(self.run_tool(*options), (0, "4 passed, 0 failed\n"))
+
+    def test_check_writes_nothing(self):
+        status, said = self.run_tool("--check")
+        self.assertEqual((status, said.splitlines()[-1]), (1, "2 passed, 2 failed"))
+        self.assertFalse((self.top / "docs/work/CLAIMS.md").exists())
+        self.assertEqual(self.text("docs/work/DEFINITIONS.md"), PAGE)
+
+
+class Reported(Trees):
+    def setUp(self):
+        super().setUp()
+        self.run_tool("--write")
+
+    def test_readme_that_changed(self):
+        self.write("crates/days/README.md", DAYS.replace("as it is spelled", "so"))
+        self.fails("docs/work/CLAIMS.md isn't what the READMEs make of it")
+        self.write("crates/days/README.md", DAYS.replace("day before a day", "earlier day"))
+        self.fails("docs/work/DEFINITIONS.md isn't what the READMEs make of it")
+
+    def test_page_that_changed(self):
+        self.write("docs/work/CLAIMS.md", self.text("docs/work/CLAIMS.md").replace("Tries days", "Tests days"))
+        self.fails("docs/work/CLAIMS.md isn't what the READMEs make of it")
+
+    def test_contract_that_no_file_names(self):
+        self.write("crates/days/src/day.rt", "impl Day { fn from_text() {} }\nfn earlier() {}\n")
+        self.fails("days names the contract before, which no file of the crate has")
+
+    def test_claim_without_contract(self):
+        self.write("crates/days/README.md", DAYS.replace("`before`, law `order`; `Day::from_text`", "a law"))
+        self.fails("days names no contract for the claim: Two days have one order")
+
+    def test_table_of_another_form(self):
+        self.write("crates/days/README.md", DAYS.replace("| `Day::from_text` |", "| `Day::from_text` | `before` |"))
+        self.fails("days has a row of 3 cells below ## Claims")
+        self.write("crates/days/README.md", DAYS.replace("| Claim | Contract |", "| Contract | Claim |", 1))
+        self.fails("days needs a table below ## Claims whose columns are Claim, Contract")
+
+    def test_crate_without_readme(self):
+        (self.top / "crates/trials/README.md").unlink()
+        self.fails("trials has no README.md")
+
+    def test_claims_without_promise(self):
+        self.write("crates/days/README.md", DAYS.replace("**What it promises.**", "**Promise.**"))
+        self.fails("days needs a paragraph **What it promises.**")
+
+    def test_definitions_without_table(self):
+        self.write("docs/work/DEFINITIONS.md", "# Definitions\n")
+        self.fails("docs/work/DEFINITIONS.md needs the table: | Crate | What it defines |")
+
+    def test_wrong_words(self):
+        with contextlib.redirect_stderr(io.StringIO()) as said:
+            self.assertEqual(claims.main(["--writ"], self.top), 2)
+        self.assertIn("usage: tools/proof/claims", said.getvalue())
+
+
+if __name__ == "__main__":
+    unittest.main()
