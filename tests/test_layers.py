@@ -1,6 +1,8 @@
 """The layers of the package opcplan: what a module imports is in its own package or in one below it."""
 
 import ast
+import subprocess
+import sys
 import unittest
 
 from support import TOP
@@ -22,6 +24,16 @@ LAYERS = {
 }
 # what opens, makes or runs files and processes
 OF_FILES = {"os", "io", "pathlib", "shutil", "sqlite3", "subprocess", "tempfile", "socket", "fcntl"}
+# loads each file of tests in a Python that has no package beside its own, as the gate's may be; prints what fails
+IMPORTS = """
+import importlib, pathlib, sys
+sys.modules.update(dict.fromkeys(("aiohttp", "icalendar", "dateutil")))
+for path in sorted(pathlib.Path().glob("test_*.py")):
+    try:
+        importlib.import_module(path.stem)
+    except ImportError as error:
+        print(f"{path}: {error}")
+"""
 
 
 def modules():
@@ -78,6 +90,13 @@ class Layers(unittest.TestCase):
         opened = [f"{path.relative_to(TOP)}:{node.lineno}: open" for layer, path, tree in modules()
                   for node in ast.walk(tree) if layer == "rules" and isinstance(node, ast.Name) and node.id == "open"]
         self.assertEqual(found + opened, [])
+
+
+class Tests(unittest.TestCase):
+    def test_each_file_loads_by_python_alone(self):
+        ran = subprocess.run([sys.executable, "-c", IMPORTS], cwd=TOP / "tests", text=True, capture_output=True,
+                             check=True)
+        self.assertEqual(ran.stdout, "")
 
 
 if __name__ == "__main__":

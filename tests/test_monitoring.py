@@ -4,17 +4,23 @@ dashboard of Grafana name what a desk counts, and all of it."""
 import json
 import re
 import secrets
-import types
+import subprocess
 import unittest
 
 from support import TOP, desks
 
-from opcplan.desk import etcd_log
 from opcplan.watch import rulebook
 
 FOLDER = TOP / "docs" / "use" / "monitoring"
 METRIC = re.compile(r"\bopcplan_[a-z_]+")
 TAILS = ("_bucket", "_sum", "_count")
+# prints what several desks count more than one; by itself, since the tests' own Python may lack what a desk needs
+SHARED = """
+import types
+from opcplan.desk import etcd_log
+shared = types.SimpleNamespace(head=types.SimpleNamespace(last=1), members=[], sizes=lambda: {"bytes": 1, "quota": 1})
+print(*etcd_log.EtcdLog.gauges(shared, 0))
+"""
 
 
 def page():
@@ -74,10 +80,9 @@ class Counted(desks.Case):
         desk.posted("cp-start --app APP00 --ia 2024-01-01/08.00\n", Idempotency_Key=f"agent-{secrets.token_hex(12)}")
         text = desk.asked("GET", "/metrics")[2]
         self.end(desk)
-        shared = types.SimpleNamespace(head=types.SimpleNamespace(last=1), members=[],
-                                       sizes=lambda: {"bytes": 1, "quota": 1})
-        return {*re.findall("^# TYPE ([a-z_]+) ", text, re.M),
-                *(f"opcplan_desk_{name}" for name in etcd_log.EtcdLog.gauges(shared, 0))}
+        ran = subprocess.run([desks.python(), "-c", SHARED], env={"PYTHONPATH": str(TOP / "python")}, text=True,
+                             capture_output=True, check=True)
+        return {*re.findall("^# TYPE ([a-z_]+) ", text, re.M), *(f"opcplan_desk_{name}" for name in ran.stdout.split())}
 
     def test_the_page_and_the_files_name_what_is_counted(self):
         counted = self.counted()

@@ -37,15 +37,20 @@ IN_MEMORY = "/dev/shm" if os.access("/dev/shm", os.W_OK) else None
 LISTENS = re.compile(r"desk: listening on http://127\.0\.0\.1:([0-9]+)")
 
 
+def python():
+    """The path of a Python that has what a desk needs, or nothing where there is none."""
+    for one in (sys.executable, "/usr/bin/python3"):
+        with contextlib.suppress(OSError):
+            if not subprocess.run([one, "-c", "import aiohttp"], capture_output=True, check=False).returncode:
+                return one
+    return ""
+
+
 def why_not():
     """Why no desk can be tried here, or nothing."""
     if not plans.PROGRAM.exists():
         return "opcplan is not built"
-    for python in (sys.executable, "/usr/bin/python3"):
-        with contextlib.suppress(OSError):
-            if not subprocess.run([python, "-c", "import aiohttp"], capture_output=True, check=False).returncode:
-                return ""
-    return "there is no aiohttp here: Debian's package python3-aiohttp has it"
+    return "" if python() else "there is no aiohttp here: Debian's package python3-aiohttp has it"
 
 
 class Desk:
