@@ -107,7 +107,7 @@ class Backup(BackupRoom, unittest.TestCase):
 
     def test_a_file_that_is_there_stays_without_force(self):
         self.file.write_bytes(b"something of mine\n")
-        self.refused("--force takes its place")
+        self.refused("--force replaces it")
         self.made("--force")
         self.assertEqual(expected.of_file(self.file), expected.of_stream(MONDAY))
 
@@ -117,8 +117,8 @@ class Backup(BackupRoom, unittest.TestCase):
         for file, message, status in (
             (self.plan, "name another file", 2),
             (Path(f"{self.plan}-wal"), "name another file", 2),
-            (self.kept / "folder", "no file", 1),
-            (self.kept / "pipe", "no file", 1),
+            (self.kept / "folder", "it is not a file", 1),
+            (self.kept / "pipe", "it is not a file", 1),
         ):
             self.file = file
             self.refused(message, "--force", status=status)
@@ -127,12 +127,12 @@ class Backup(BackupRoom, unittest.TestCase):
         for tail, data in (("-wal", b"what a run left" * 9), ("-wal", b"notes"), ("-journal", b"notes")):
             beside = Path(f"{self.file}{tail}")
             beside.write_bytes(data)
-            self.refused(f"backup.db{tail} stands beside it")
-            self.refused(f"backup.db{tail} stands beside it", "--force")
+            self.refused(f"backup.db{tail} is beside it")
+            self.refused(f"backup.db{tail} is beside it", "--force")
             beside.unlink()
         self.made()
         expected.killed(self.file, TUESDAY)
-        self.refused("backup.db-wal stands beside it", "--force")
+        self.refused("backup.db-wal is beside it", "--force")
 
     def test_a_copy_that_a_program_has_open(self):
         self.made()

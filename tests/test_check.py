@@ -114,8 +114,8 @@ class Drops(InRoom):
         self.assertEqual(ran.returncode, 1)
         ran = self.asked("check", "list cp\n" + BASE[BASE.index("define applications") : BASE.index("define run-")])
         self.assertEqual((ran.returncode, ran.stderr), (0, ""))
-        self.assertEqual(ran.stdout, "2 accepted, 0 refused; 1 of them is a job that the plan keeps, answered as "
-                                     "then\n")
+        self.assertEqual(ran.stdout, "2 accepted, 0 refused; 1 of them is a job that the plan keeps, with the same "
+                                     "answer again\n")
 
     def test_each_kind(self):
         text = """define periods --job 20
@@ -143,7 +143,7 @@ define options --job 24
             (4, "changes the period DAY: type A from 2026-01-01 on with intervals of 1 day, then type W from "
                 "2026-01-01 on "
                 "with intervals of 1 work day"),
-            (7, "makes REPORT pending, so that it is planned no more"),
+            (7, "makes REPORT pending, so it is no longer planned"),
             (7, "changes the calendar of REPORT: the default one, then BANK"),
             (8, "changes the calendar of BACKUP: BANK, then the default one"),
             (10, "drops run cycle WEEKLY of BACKUP"),
@@ -192,12 +192,11 @@ SALES,A,
         ran = plans.plan("lint", "/dev/stdin", text=self.PARTIAL)
         said = " ".join(ran.stdout.split())
         self.assertEqual(re.findall("isn't defined(?! in this stream)", said), [])
-        self.assertIn("line 5: SALES waits for REPORT, which isn't defined in this stream: where the plan has "
-                      "none", said)
-        self.assertIn("line 8: SALES is active, and has no run cycles in this stream", said)
-        self.assertIn("line 8: the default calendar DEFAULT isn't defined in this stream, where the plan has none "
-                      "either, "
-                      "each day is a work day for SALES", said)
+        self.assertIn("line 5: SALES waits for REPORT, which isn't defined in this stream; if the plan has "
+                      "none either, it waits for nothing", said)
+        self.assertIn("line 8: SALES is active, but has no run cycles in this stream", said)
+        self.assertIn("line 8: the default calendar DEFAULT isn't defined in this stream, and if the plan has none "
+                      "either, each day is a work day for SALES", said)
         self.assertEqual(self.findings("lint", self.PARTIAL), [])
 
     def test_what_neither_defines(self):
@@ -217,18 +216,18 @@ undefine applications --name SALES --job 24
 """
         lacks = [said for said in self.findings("lint", text) if "isn't defined" in said[1]]
         self.assertEqual(lacks, [
-            (2, "ADHOC has run cycles, and isn't defined as an application, so it isn't planned"),
+            (2, "ADHOC has run cycles, but isn't defined as an application, so it isn't planned"),
             (2, "run cycle ONCE of ADHOC names the period YEAR, which isn't defined"),
-            (3, "SALES has run cycles, and isn't defined as an application, so it isn't planned"),
+            (3, "SALES has run cycles, but isn't defined as an application, so it isn't planned"),
             (3, "run cycle DAILY of SALES names the period YEAR, which isn't defined"),
-            (6, "SALES has a list of predecessors, and isn't defined as an application"),
-            (6, "SALES waits for NOBODY, which isn't defined, and so for nothing"),
-            (7, "NONE has a list of predecessors, and isn't defined as an application"),
-            (7, "NONE waits for SALES, which isn't defined, and so for nothing"),
+            (6, "SALES has a list of predecessors, but isn't defined as an application"),
+            (6, "SALES waits for NOBODY, which isn't defined, so it waits for nothing"),
+            (7, "NONE has a list of predecessors, but isn't defined as an application"),
+            (7, "NONE waits for SALES, which isn't defined, so it waits for nothing"),
             (10, "LEDGER names the calendar WEST, which isn't defined: planning is refused 22 LEDGER"),
             (12, "run cycle MONTHLY of REPORT names the period MONTH, which isn't defined: planning is refused 23 "
                  "REPORT"),
-            (13, "LEDGER waits for SALES, which isn't defined, and so for nothing"),
+            (13, "LEDGER waits for SALES, which isn't defined, so it waits for nothing"),
         ])
         planner = plans.planner_of(BASE).copy()
         replies = plain.run((text + "ltp-modify-all --job 30\n").encode(), planner)
@@ -249,20 +248,22 @@ define options --job 23
 default_calendar = "DEFALT"
 /*
 """
-        found = [said for said in self.findings("lint", text) if "meant?" in said[1]]
+        found = [said for said in self.findings("lint", text) if "did you mean" in said[1]]
         self.assertEqual(found, [
-            (2, "SALLES has run cycles, and isn't defined as an application (is SALES meant?), so it isn't planned"),
-            (2, "run cycle DAILY of SALLES names the period DAYS, which isn't defined (is DAY meant?)"),
-            (5, "LEDGER waits for SALSE, which isn't defined (is SALES meant?), and so for nothing"),
-            (6, "SALLES has a list of predecessors, and isn't defined as an application (is SALES meant?)"),
-            (9, "REPORT names the calendar BNAK, which isn't defined (is BANK meant?): planning is refused 22 REPORT"),
-            (11, "the default calendar DEFALT isn't defined (is DEFAULT meant?), so each day is a work day for LEDGER, "
-                 "SALES"),
+            (2, "SALLES has run cycles, but isn't defined as an application (did you mean SALES?), so it isn't "
+                "planned"),
+            (2, "run cycle DAILY of SALLES names the period DAYS, which isn't defined (did you mean DAY?)"),
+            (5, "LEDGER waits for SALSE, which isn't defined (did you mean SALES?), so it waits for nothing"),
+            (6, "SALLES has a list of predecessors, but isn't defined as an application (did you mean SALES?)"),
+            (9, "REPORT names the calendar BNAK, which isn't defined (did you mean BANK?): planning is refused 22 "
+                "REPORT"),
+            (11, "the default calendar DEFALT isn't defined (did you mean DEFAULT?), so each day is a work day for "
+                 "LEDGER, SALES"),
         ])
 
     def test_a_predecessor_that_is_pending(self):
         text = "define applications --job 20\nREPORT,P,\n/*\n"
-        said = (2, "BACKUP waits for REPORT, which is pending, so that no more of it is planned")
+        said = (2, "BACKUP waits for REPORT, which is pending, so it is no longer planned")
         self.assertNotIn(said, self.findings("lint", "ltp-modify-all --job 21\n"))
         self.assertIn(said[1], [text for _, text in self.findings("lint", text)])
         planner = plans.planner_of(BASE).copy()
@@ -271,10 +272,11 @@ default_calendar = "DEFALT"
 
     def test_lint_says_what_it_did_not_look_at(self):
         for text, said in (
-            ("", "nothing that is likely a slip"),
-            ("nonsense\n", "nothing that is likely a slip; line 1 is refused as it stands: `./plan check` tells why"),
-            ("list cp\nnonsense\ndefine calendars --job 20\nC,SAT\n/*\n", "nothing that is likely a slip; 2 "
-             "statements, the first at line 2, are refused as they stand: `./plan check` tells why"),
+            ("", "no likely mistakes"),
+            ("nonsense\n", "no likely mistakes; line 1 is refused in any plan; `./plan check` says why"),
+            ("list cp\nnonsense\ndefine calendars --job 20\nC,SAT\n/*\n",
+             "no likely mistakes; 2 statements, the first at line 2, are refused in any plan; `./plan "
+             "check` says why"),
         ):
             ran = self.asked("lint", text)
             self.assertEqual((ran.returncode, ran.stdout), (0, ""))
@@ -296,7 +298,7 @@ default_calendar = "DEFALT"
         self.assertEqual(self.findings("lint", "define calendars --job 20\nNEW,SUN,FREE\n/*\n", base=base), [])
         again = "define predecessors --job 20\nLEDGER,NOBODY\n/*\n"
         self.assertEqual(self.findings("lint", again, base=base),
-                         [(2, "LEDGER waits for NOBODY, which isn't defined, and so for nothing")])
+                         [(2, "LEDGER waits for NOBODY, which isn't defined, so it waits for nothing")])
 
 
 class Loops(InRoom):
@@ -359,7 +361,7 @@ class Limits(InRoom):
             ("dp-extend --to 2026-11-04/06.00 --job 40", "isn't later than the old one, 2026-11-04 06.00"),
             ("dp-extend --to 2026-11-06/06.01 --job 40", "is more than 48 hours (option max_extension_hours) after"),
             ("dp-extend --to 2027-01-01/00.01 --job 40", "is past the end of the long-term plan, 2027-01-01 00.00"),
-            ("ltp-extend --to 2026-12-31 --job 40", "the plan goes to 2026-12-31, and 2026-12-31 isn't later"),
+            ("ltp-extend --to 2026-12-31 --job 40", "the plan already goes to 2026-12-31, and 2026-12-31 isn't later"),
             ("ltp-extend --to 2030-11-05 --job 40", "from 2026-11-04 to 2030-11-05 are more than 1,461 days"),
             ("days --app SALES --from 2026-11-02 --to 2026-11-01", "2026-11-01, is before the first one, 2026-11-02"),
             ("days --app SALES --from 2066-01-01 --to 2066-01-01", "is after 2065-12-31, the last that is planned"),
@@ -368,18 +370,17 @@ class Limits(InRoom):
             ("cp-complete --app LEDGER --ia 2026-11-02/20.00 --job 40", "it has the status W (waiting)"),
             ("cp-complete --app SALES --ia 2026-11-02/18.00 --job 40", "it has the status C (complete)"),
             ("cp-start --app SALES --ia 2026-11-03/18.00 --job 40", "it has the status E (in error)"),
-            ("cp-start --app SALES --ia 2026-11-04/18.00 --job 40", "it stands in the long-term plan"),
+            ("cp-start --app SALES --ia 2026-11-04/18.00 --job 40", "it is in the long-term plan"),
             ("cp-start --app SALES --ia 2026-11-03/18.01 --job 40", "on that day SALES arrives at 18.00 (ended in "
                                                                     "error"),
             ("cp-start --app REPORT --ia 2026-11-03/18.01 --job 40", "REPORT doesn't arrive on that day"),
             ("cp-start --app SALSE --ia 2026-11-03/18.00 --job 40",
-             "the application SALSE isn't defined (is SALES meant?)"),
+             "the application SALSE isn't defined (did you mean SALES?)"),
             ("cp-start --app NOBODY --ia 2026-11-03/18.00 --job 40", "the application NOBODY isn't defined"),
             ("cp-start --app LEDGER --ia 2026-11-03/20.00 --job 40", "serial 4, SALES 2026-11-03 18.00;"),
-            ("ltp-add --app SALES --ia 2026-11-04/18.00 --job 40", "SALES 2026-11-04 18.00 stands in the long-term "
-                                                                   "plan"),
-            ("ltp-add --app SALLES --ia 2026-11-05/18.00 --job 40", "SALLES isn't defined (is SALES meant?)"),
-            ("ltp-modify-all --job 9", "job 9 was asked in an earlier run over the same file, with other words"),
+            ("ltp-add --app SALES --ia 2026-11-04/18.00 --job 40", "SALES 2026-11-04 18.00 is in the long-term plan"),
+            ("ltp-add --app SALLES --ia 2026-11-05/18.00 --job 40", "SALLES isn't defined (did you mean SALES?)"),
+            ("ltp-modify-all --job 9", "job 9 was used in an earlier run over the same file with other words"),
         ):
             with self.subTest(text):
                 reply = plain.run(f"{text}\n".encode(), plans.planner_of(BASE).copy())[-1]
@@ -428,7 +429,7 @@ class Limits(InRoom):
         now, (item,) = stream_state.Known(is_whole=True), plans.items_of(b"ltp-extend --to 2027-01-31 --job 40\n")
         now.sizes = (199_990, 1_234_567)
         said = refusals.sentences(item, 31, "", now)[-1]
-        self.assertEqual(said, "they have 199,990 rows, so 10 more are taken; 1,234,567 serials were given")
+        self.assertEqual(said, "they have 199,990 rows, so 10 more fit; 1,234,567 serials were given")
         self.assertEqual(len(refusals.sentences(item, 31, "", stream_state.Known())), 1)
 
     def test_explain_reports_the_plan_too(self):
@@ -443,13 +444,13 @@ class Limits(InRoom):
             output.write_text(f"{reply}\n", encoding="ascii")
             body = " ".join(self.asked("explain", f"{text}\n", output).stdout.split())
             self.assertIn(said, body)
-            self.assertNotIn("is kept with this answer", body)
+            self.assertNotIn("keeps this answer", body)
         # the plan after the stream keeps its jobs
         after = BASE + f"{text}\n"
         body = " ".join(self.asked("explain", f"{text}\n", output, base=after).stdout.split())
         self.assertIn("serial 4, SALES 2026-11-03 18.00;", body)
-        self.assertIn("(job 40 is kept with this answer, and another try takes a new number; the plan is told as it is "
-                      "now)",
+        self.assertIn("(the plan keeps this answer for job 40, so give another try a new number; the reason is by the "
+                      "plan as it is now)",
                       body)
 
 
@@ -497,7 +498,7 @@ class Slips(unittest.TestCase):
             (hints.of_day, "2026-06-31", "there is no 31 June in 2026: the month has 30 days"),
             (hints.of_day, "2026-06-00", "there is no 0 June in 2026: the month has 30 days"),
             (hints.of_day, "2026-13-01", "there is no month 13"),
-            (hints.of_day, "2072-01-01", "the year 2072 is none from 1972 to 2071"),
+            (hints.of_day, "2072-01-01", "the year 2072 isn't from 1972 to 2071"),
             (hints.of_day, "2026-6-1", "month and day have two digits: 2026-06-01"),
             (hints.of_day, "2026-06-30", ""), (hints.of_day, "", ""),
             (hints.of_day, "1.6.2026", "as YYYY-MM-DD it is 2026-06-01"),
@@ -505,12 +506,12 @@ class Slips(unittest.TestCase):
             (hints.of_day, "01.06.26", ""), (hints.of_day, "6/1/2026", ""),
             (hints.of_minute, "24.00", "a day ends at 23.59: what is due at 24.00 is due at 00.00 of the next day"),
             (hints.of_minute, "23.60", "there is no 23.60: a day goes from 00.00 to 23.59"),
-            (hints.of_minute, "8.00", "it is written 08.00"), (hints.of_minute, "08:00", "it is written 08.00"),
+            (hints.of_minute, "8.00", "write it as 08.00"), (hints.of_minute, "08:00", "write it as 08.00"),
             (hints.of_minute, "08.00", ""), (hints.of_minute, "noon", ""),
             (hints.of_moment, "2026-02-30/08.00", "there is no 30 February in 2026: the month has 28 days"),
-            (hints.of_moment, "2026-02-03T08:00", "it is written 2026-02-03/08.00"),
-            (hints.of_moment, "2026-02-03/8.00", "it is written 2026-02-03/08.00"),
-            (hints.of_moment, "3.2.2026/8.00", "it is written 2026-02-03/08.00"),
+            (hints.of_moment, "2026-02-03T08:00", "write it as 2026-02-03/08.00"),
+            (hints.of_moment, "2026-02-03/8.00", "write it as 2026-02-03/08.00"),
+            (hints.of_moment, "3.2.2026/8.00", "write it as 2026-02-03/08.00"),
             (hints.of_moment, "30.02.2026/08.00", "there is no 30 February in 2026: the month has 28 days"),
             (hints.of_moment, "03.02.2026", "it lacks its time: 2026-02-03/00.00 is the midnight that begins the day"),
             (hints.of_moment, "2026-02-03", "it lacks its time: 2026-02-03/00.00 is the midnight that begins the day"),
@@ -521,16 +522,16 @@ class Slips(unittest.TestCase):
     def test_characters(self):
         for text, said in (
             (b"list cp", ""), (b"list\tcp", ""),
-            ("list cp \u2014app A".encode(), "character 9 is `\u2014` U+2014 (em dash), which isn't ASCII (-- is "
-                                             "meant?)"),
+            ("list cp \u2014app A".encode(), "character 9 is `\u2014` U+2014 (em dash), which isn't ASCII (did you "
+                                             "mean --?)"),
             ("--app \u00dcBER".encode(), "character 7 is `\u00dc` U+00DC (latin capital letter u with diaeresis), "
                                          "which "
                                          "isn't ASCII"),
             (b"--app \xdcBER", "byte 7 is DC hexadecimal, `\u00dc` U+00DC (latin capital letter u with diaeresis) in "
-                               "Latin-1: ASCII alone may stand there"),
-            (b"a\x1b[2J", "character 2 is U+001B, which is no printable character"),
-            (b"list cp\rlist ltp", "character 8 is U+000D, which is no printable character: a line ends by a line "
-                                  "feed, with at most one carriage return before it"),
+                               "Latin-1: only ASCII is allowed there"),
+            (b"a\x1b[2J", "character 2 is U+001B, which isn't a printable character"),
+            (b"list cp\rlist ltp", "character 8 is U+000D, which isn't a printable character: a line ends with a line "
+                                   "feed, and at most one carriage return before it"),
             ("a\u202e".encode(), "character 2 is U+202E (right-to-left override), which isn't ASCII"),
             (b"\xef\xbb\xbflist cp", "it begins with the bytes EF BB BF, a byte order mark, which an editor put there: "
                                      "save "
@@ -544,18 +545,18 @@ class Slips(unittest.TestCase):
              "a byte order mark, which an editor put there: save the file as UTF-8 without it it isn't read as "
              "`define`, so "
              "each line of its data is read as a statement, and refused too"),
-            (b"days --app A --from 2026-02-01 --to 2026-02-30\n", "and not `2026-02-30`: there is no 30 February in "
-                                                                  "2026"),
+            (b"days --app A --from 2026-02-01 --to 2026-02-30\n",
+             "not `2026-02-30`: there is no 30 February in 2026"),
             (b"cp-start --app A --ia 2026-02-01 08.00 --job 1\n", "a day and its time are one word, 2026-11-25/06.00"),
             (b"cp-start --app sales --ia 2026-02-01/08.00 --job 1\n", "in capital letters it would be one, SALES"),
             (b'cp-start --app "SALES" --ia 2026-02-01/08.00 --job 1\n', "without the quotes it would be one, SALES"),
-            (b"ltp-modify-all -job 7\n", "`-job` is neither an option `--name` nor a word (is `--job` meant?)"),
+            (b"ltp-modify-all -job 7\n", "`-job` is neither an option `--name` nor a word (did you mean `--job`?)"),
             (b"# the holidays\n", "there is no statement `#`: a comment is a line of its own, which begins with `*`"),
-            (b"ltp-modify-all --job 7 * at night\n", "and `*` is one: a comment is a line of its own, which begins"),
-            (b"list cp # all\n", "and `#` is one more: a comment is a line of its own, which begins with `*`"),
-            (b"define calendars --job 1\nC;SAT;FREE\n/*\n", "they are parted by semicolons, and commas are wanted"),
-            (b'define calendars --job 1\n"C,SAT,FREE\n/*\n', "a double quote on that line has no end there"),
-            (b"define options --job 1\ndefault_calendar = WEST\n/*\n", "a name stands in double quotes"),
+            (b"ltp-modify-all --job 7 * at night\n", "but `*` is one: a comment is a line of its own, which begins"),
+            (b"list cp # all\n", "but `#` is one more: a comment is a line of its own, which begins with `*`"),
+            (b"define calendars --job 1\nC;SAT;FREE\n/*\n", "separate them by commas, not by semicolons"),
+            (b'define calendars --job 1\n"C,SAT,FREE\n/*\n', "a double quote in that line isn't closed there"),
+            (b"define options --job 1\ndefault_calendar = WEST\n/*\n", "write a name in double quotes"),
             (b"ltp-modify-all --job 007\n", "without the zeros it would be one, 7"),
             (b"define calendars --job 1\nC,2026-02-30,FREE\n/*\n", "the field `entry` is `2026-02-30`: there is no 30 "
                                                                    "Feb"),

@@ -141,7 +141,7 @@ class Commands(unittest.TestCase):
             self.assertTrue(ran.stderr.startswith("plan: ") and ran.stderr.count("\n") == 1, ran.stderr)
 
     def test_a_subcommand_that_is_nearly_one_is_guessed(self):
-        for word, message in (("whatif", " (is what-if meant?)"), ("Page", " (is page meant?)"), ("xyz", "")):
+        for word, message in (("whatif", " (did you mean what-if?)"), ("Page", " (did you mean page?)"), ("xyz", "")):
             self.assertEqual(plans.plan(word).stderr,
                              f"plan: there is no subcommand {word!r}{message}; ./plan --help lists all\n")
 

@@ -129,7 +129,7 @@ class Cal(unittest.TestCase):
     def test_what_is_not_there(self):
         ran = plans.plan_in_here("cal", plans.of_stream(BASE), "MONHT")
         self.assertEqual((ran.returncode, ran.stdout), (1, ""))
-        self.assertIn("no calendar and no period MONHT (is MONTH meant?)", ran.stderr)
+        self.assertIn("no calendar and no period MONHT (did you mean MONTH?)", ran.stderr)
         self.assertEqual(plans.plan_in_here("cal", plans.of_stream(BASE), "MONTH", "27").returncode, 2)
 
 

@@ -152,7 +152,7 @@ class Dump(unittest.TestCase):
             self.assertEqual((ran.returncode, ran.stdout), (2, ""), word)
         ran = plans.plan("dump", file, "--job", 999_999_999)
         self.assertEqual((ran.returncode, ran.stdout), (1, ""))
-        self.assertIn("no job numbers are left", ran.stderr)
+        self.assertIn("there is no job number above", ran.stderr)
 
     def test_what_is_no_plan_is_reported(self):
         nowhere = Path(self.room.name) / "nowhere.db"

@@ -142,7 +142,7 @@ REFUSED = [
     ("calendar DEFAULT 2027-02-03", 2, "STATUS"),
     ("calendar DEFAULT,X 2027-02-03 free", 2, "name"),
     ("calendar DEFAULT 1972-01-01..2071-12-31 free", 1, "at most 262144"),
-    ("calendar ONE 2027-03-01 unlist", 1, "SHOP goes by it"),
+    ("calendar ONE 2027-03-01 unlist", 1, "SHOP uses it"),
     ("application SALSE pending", 1, "no application SALSE"),
     ("application SALES active", 1, "nothing would change"),
     ("application SALES sleeping", 2, "active, pending"),
@@ -153,7 +153,7 @@ REFUSED = [
     ("run-cycle SALES WEEKLY offset=1", 1, "no run cycle WEEKLY of SALES"),
     ("run-cycle NOBODY DAILY offset=1", 1, "no run cycle DAILY of NOBODY"),
     ("run-cycle SALES DAILY offset=1", 1, "nothing would change"),
-    ("run-cycle SALES DAILY offset=0", 2, "no offset"),
+    ("run-cycle SALES DAILY offset=0", 2, "isn't an offset"),
     ("run-cycle SALES DAILY offset=2000", 2, "1999"),
     ("run-cycle SALES DAILY offset=", 2, "offset"),
     ("run-cycle SALES DAILY deadline=24.00", 2, "00.00 of the next day"),
@@ -166,7 +166,7 @@ REFUSED = [
     ("run-cycle SALES DAILY period=YEAR", 1, "no period YEAR"),
     ("run-cycle SALES DAILY in-effect=2027-02-29", 2, "there is no 29 February in 2027"),
     ("run-cycle SALES DAILY colour=red", 2, "no field 'colour'"),
-    ("run-cycle SALES DAILY offset", 2, "key=value"),
+    ("run-cycle SALES DAILY offset", 2, "KEY=VALUE"),
     ("predecessor LEDGER add SALES", 1, "nothing would change"),
     ("predecessor LEDGER add SALSE", 1, "no application SALSE"),
     ("predecessor LEDGRE add SALES", 1, "no application LEDGRE"),
@@ -178,7 +178,7 @@ REFUSED = [
     ("predecessor LEDGER drop SALES", 2, "add nor remove"),
     ("period YEAR add 2027-01-01", 1, "no period YEAR"),
     ("period MONTH add 2027-01-01", 1, "already"),
-    ("period MONTH add 2027-04-05 2027-04-04", 2, "before its own origin"),
+    ("period MONTH add 2027-04-05 2027-04-04", 2, "before its origin"),
     ("period MONTH remove 2027-01-02", 1, "no interval from 2027-01-02"),
     ("period MONTH end 2027-03-01 2027-03-31", 1, "nothing would change"),
     ("period MONTH remove", 2, "origin"),
@@ -190,15 +190,15 @@ REFUSED = [
     ("period DAY interval=1", 1, "nothing would change"),
     ("period DAY type=Q", 2, "one of A, W, N"),
     ("period DAY length=5", 2, "'length'"),
-    ("period DAY grow", 2, "key=value"),
+    ("period DAY grow", 2, "KEY=VALUE"),
     ("options max_extension_hours=505", 2, "1 to 504"),
     ("options max_extension_hours=504", 1, "nothing would change"),
     ("options default_calendar=BNAK", 1, "no calendar BNAK"),
     ("options default_calendar=", 2, "name"),
     ("options colour=red", 2, "no such option"),
     ("options max_extension_hours=1 max_extension_hours=2", 2, "twice"),
-    ("options max_extension_hours=5 --job 7", 2, "job 7 is kept"),
-    ("options max_extension_hours=5 --job 0", 2, "no job number"),
+    ("options max_extension_hours=5 --job 7", 2, "job 7 is used"),
+    ("options max_extension_hours=5 --job 0", 2, "is not a job number"),
     ("calendars DEFAULT 2027-01-06 free", 2, "invalid choice"),
     ("", 2, "WHAT"),
 ]
@@ -336,10 +336,10 @@ class Edit(unittest.TestCase):
         for given, says in (
             ("calendar DEFAULT 2027-01-04 free",
              ["2027-01-04 (MON), not listed, a work day -> free", "Its 4 other entries stay",
-              "By DEFAULT go BACKUP, SALES, TRIAL", "before 2027-01-05 06.00"]),
+              "BACKUP, SALES, TRIAL use DEFAULT", "before 2027-01-05 06.00"]),
             ("calendar DEFAULT SUN unlist", ["SUN, free -> not listed, a work day"]),
             ("calendar DEFAULT 2027-01-08..2027-01-10 work",
-             ["in 2 entries", "2027-01-10 (SUN), not listed, free by its weekday", "1 of this stood so already"]),
+             ["in 2 entries", "2027-01-10 (SUN), not listed, free by its weekday", "1 of this was so already"]),
             ("application SALES pending", ["active -> pending", "2 run cycles", "(LEDGER)"]),
             ("run-cycle SALES DAILY deadline=17.00", ["deadline time: 20.00 -> 17.00", "before it arrives", "NOT",
                                                       "`ltp-modify-one --app SALES --job 14`"]),
@@ -365,7 +365,7 @@ class Edit(unittest.TestCase):
         file = self.written(plans.planner_of(BASE.partition(b"ltp-create")[0]))
         status, text, message = edited(file, "calendar DEFAULT 2027-01-06 free")
         self.assertEqual((status, text.count("\n")), (0, 7))
-        self.assertIn("`ltp-create` will go by it", message)
+        self.assertIn("`ltp-create` will use this", message)
 
 
 if __name__ == "__main__":

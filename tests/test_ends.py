@@ -214,12 +214,12 @@ class Ends(unittest.TestCase):
             for turn, name in enumerate(sorted(PRINTERS.keys() - reads_none)):
                 for file in (files[turn % 6], files[(turn + 3) % 6]):
                     with self.subTest(name, plan=file):
-                        self.check_reported(self.ran(self.words(name, PRINTERS[name], PLAN=file)), f"{file}: it is no "
-                                            "file")
+                        self.check_reported(self.ran(self.words(name, PRINTERS[name], PLAN=file)),
+                                            f"{file}: it is not a file")
             for file in files:
                 with self.subTest("journal", journal=file):
                     self.check_reported(self.ran(self.words("journal", PRINTERS["journal"], JOURNAL=file)),
-                                        f"{file}: it is no file")
+                                        f"{file}: it is not a file")
             for name, given in OF_STREAMS.items():
                 for file in (folder, place):
                     with self.subTest(name, stream=file):
@@ -229,8 +229,8 @@ class Ends(unittest.TestCase):
         log = Path(f"{self.plan}-wal")
         log.unlink(missing_ok=True)
         os.symlink("/dev/zero", log)
-        self.check_reported(self.bounded(self.words("late", PRINTERS["late"])), str(self.plan), "plan.db-wal is no "
-                            "file")
+        self.check_reported(self.bounded(self.words("late", PRINTERS["late"])), str(self.plan),
+                            "plan.db-wal beside it is not a file")
 
     def test_a_stream_from_a_pipe(self):
         os.mkfifo(self.room / "pipe")

@@ -147,10 +147,10 @@ class Worked(unittest.TestCase):
         seen[number] += 1
         if number == 10:
             self.assertIsNone(statement)
-            self.assertTrue(text.startswith("it is no statement: "))
+            self.assertTrue(text.startswith("it isn't a statement: "))
             return
         _, word, values = statement
-        if "is answered as then" in text:
+        if "gets the same answer again" in text:
             self.assertIn(values["job"], planner.jobs)
             return
         getattr(self, f"check_{number}", lambda *_: None)(planner, word, values, block, detail, text)
@@ -161,7 +161,7 @@ class Worked(unittest.TestCase):
         else:
             self.assertIn(f"record {detail[0]} of its data", text)
             self.assertNotIn("the output names", text)
-            self.assertNotIn("read without a fault", text)
+            self.assertNotIn("finds no fault in it", text)
 
     def check_12(self, planner, _word, values, *_):
         self.assertIn(values["job"], planner.jobs)
@@ -207,7 +207,7 @@ class Worked(unittest.TestCase):
             self.assertEqual("(by this stream alone, " in text, not self.is_whole and "long-term plan: " in text)
 
     def check_25(self, planner, _word, values, _block, detail, text):
-        ring, lists = text.partition("stands: ")[2].split(" waits for "), planner.defined["predecessors"]
+        ring, lists = text.partition(f"includes {detail[0]}: ")[2].split(" waits for "), planner.defined["predecessors"]
         if "app" in values:  # a modification of one puts its list alone into force
             lists = {**planner.in_force, values["app"]: lists.get(values["app"], {})}
         self.assertGreater(len(ring), 2)
@@ -377,7 +377,7 @@ class Command(unittest.TestCase):
     def test_an_output_of_another_stream(self):
         for text, output in (("list cp", "ok rows 0\nok rows 0"), ("list cp", "ok undefined"), ("list", "ok rows 0"),
                              ("list cp", "refused 10"), ("list cp", "refused 12"), ("", "ok undefined")):
-            said = self.ask(f"{text}\n".encode(), f"{output}\n".encode(), 1, "is no output of")
+            said = self.ask(f"{text}\n".encode(), f"{output}\n".encode(), 1, "isn't the output of")
             self.assertEqual(said, "")
 
     def test_replies_that_no_statement_of_the_kind_gets(self):

@@ -255,7 +255,7 @@ class Import(unittest.TestCase):
     @unittest.skipUnless(has_library(), "python3-icalendar isn't there")
     def test_what_is_no_calendar_is_reported(self):
         for data, says in ((b"", "no calendar"), (b"no calendar", "iCalendar"), (b"\xff\xfe\x00", "iCalendar"),
-                           (b"END:VCALENDAR\n", "iCalendar"), (b"BEGIN:VCALENDAR\nBEGIN:VEVENT\n", "midst"),
+                           (b"END:VCALENDAR\n", "iCalendar"), (b"BEGIN:VCALENDAR\nBEGIN:VEVENT\n", "in the middle"),
                            (b"DTSTART:20270101\n", "iCalendar"), (b"BEGIN:VCALENDAR\nEND:VCALENDAR\n", "no day"),
                            (b"SQLite format 3\0" * 100, "iCalendar"),
                            (b"BEGIN:VCALENDAR\nBEGIN:VEVENT\nDTSTART:20270101\nRRULE:FREQ=YEARLY;BYMO\r\n NTH\n"
@@ -290,9 +290,9 @@ class Import(unittest.TestCase):
                            (b"01.05.2027\n", "line 1: as YYYY-MM-DD it is 2027-05-01"),
                            (b"2027-05-01;free\n", "semicolons"), (b"2027-05-01,closed\n", "'closed'"),
                            (b"2027-05-01,free,a,b\n", "4 fields"), (b"2027-05-01\n\n2027-05-01,work\n", "line 3:"),
-                           (b'"2027-05-01\n', "no CSV"), ("2027-05-01\n".encode("utf-16"), "UTF-16"),
+                           (b'"2027-05-01\n', "isn't CSV"), ("2027-05-01\n".encode("utf-16"), "UTF-16"),
                            (b"2027-05-01,\x1b[2J\n", "neither free nor work"), (b"2027-05-0\xff\n", "byte"),
-                           (b"2072-01-01\n", "2071"), (b'2027-05-01,"' + b"x" * 200_000 + b'"\n', "no CSV"),
+                           (b"2072-01-01\n", "2071"), (b'2027-05-01,"' + b"x" * 200_000 + b'"\n', "isn't CSV"),
                            (b"x\n" * 9, "and 4 more lines")):
             self.check_error(self.asked(data, "--csv", "given", "--calendar", "DEFAULT"), 2, says)
         self.check_error(self.asked(b"\n\n", "--csv", "given", "--calendar", "DEFAULT"), 1, "no day")
@@ -368,9 +368,9 @@ class Import(unittest.TestCase):
                 ran = self.asked(data, "--cron", "given")
                 self.assertEqual(self.cron_planner(ran, 0), ["FIRST", "SECOND", "THIRD"])
                 self.assertEqual(sorted(self.planner.defined["periods"]), "DAY MONTH QUARTER WEEK".split())
-                self.assertIn(f"MONTH of the plan is taken; its months go from {max(begin[:7], f'{first}-01')}-01 to "
-                              f"{last}-12-31", ran.stderr)
-                self.assertEqual("DAY of the plan is taken; it begins" in ran.stderr, first > year and not planned)
+                self.assertIn(f"MONTH of the plan is used; its months go from {max(begin[:7], f'{first}-01')}-01 "
+                              f"to {last}-12-31", ran.stderr)
+                self.assertEqual("DAY of the plan is used; it begins" in ran.stderr, first > year and not planned)
                 for app, line in zip(("FIRST", "SECOND", "THIRD"), lines):
                     self.ask_runs([line], app, begin, end)
 
@@ -435,7 +435,7 @@ class Import(unittest.TestCase):
             ("--csv given --cron given --calendar DEFAULT", 2, "not allowed"), ("--cron given --new", 2, "--new"),
             ("--csv given --calendar DEFAULT --system", 2, "--system"), ("--csv given --calendar 9", 2, "name"),
             ("--csv given --calendar DEFAULT --from 2027-05-02 --to 2027-05-01", 2, "before"),
-            ("--csv given --calendar DEFAULT --job 4", 2, "job 4 is kept"),
+            ("--csv given --calendar DEFAULT --job 4", 2, "job 4 is used"),
             ("--csv /dev/zero --calendar DEFAULT", 1, "16 MiB"), ("--cron given --calendar NONE", 1, "NONE"),
             ("--csv given --calendar DEFAULT --from 2027-5-2", 2, "2027-05-02"),
         ):

@@ -72,7 +72,7 @@ class Jobs(unittest.TestCase):
     def test_a_user_runs_a_line_of_a_system_crontab(self):
         me = getpass.getuser()
         ran = self.asked(f"0 4 * * * {me} id -un\n", "--system", "--jobs", self.jobs)
-        self.assertIn(f"a user ({me}) runs its command by `runuser`", ran.stderr)
+        self.assertIn(f"a user ({me}) run their command by `runuser`", ran.stderr)
         self.assertEqual(self.output("ID", PATH=os.environ["PATH"]), (0, f"{me}\n"))
         if os.geteuid() == 0:
             self.jobs.chmod(0o755)
@@ -92,7 +92,7 @@ class Jobs(unittest.TestCase):
         (self.jobs / "CAT").write_text("mine")
         ran = self.asked("0 4 * * * echo\n1 4 * * * cat\n", "--jobs", self.jobs)
         self.assertEqual((ran.returncode, ran.stdout), (1, ""))
-        self.assertIn("there is a file CAT in it already", ran.stderr)
+        self.assertIn("nothing was written, because CAT is there already", ran.stderr)
         self.assertEqual([*os.listdir(self.jobs), (self.jobs / "CAT").read_text()], ["CAT", "mine"])
         for words in (["--jobs", self.room / "crontab"], ["--jobs", "/dev/null/jobs"]):
             self.assertEqual(self.asked("0 4 * * * echo\n", *words).stdout, "")

@@ -82,7 +82,7 @@ class Init(unittest.TestCase):
         before = plans.prints(self.plan)
         ran = plans.plan(*words, "--yes", text="")
         self.assertEqual((ran.returncode, ran.stdout, ran.stderr.count("\n")), (1, "", 1))
-        self.assertIn("`./plan edit` changes it", ran.stderr)
+        self.assertIn("`./plan edit` changes an old one", ran.stderr)
         self.assertEqual(plans.prints(self.plan), before)
 
     def test_what_it_says_comes_next_makes_a_plan_that_is_extended(self):
@@ -184,26 +184,26 @@ ltp-create --from 2027-01-04 --to 2027-01-31 --job 5
     def test_a_new_application_comes_into_the_plan(self):
         words = "application PAY new period=MONTH rule=3 offsets=25 ia=08.00 deadline=0/16.00".split()
         status, text, message = self.edited(*words)
-        self.assertIn("`ltp-modify-one --app PAY --job 8` for PAY alone,", message)
+        self.assertIn("`ltp-modify-one --app PAY --job 8` for PAY only,", message)
         text += "ltp-modify-one --app PAY --job 8\nlist ltp --app PAY\n"
         self.assertEqual(expected.asked(self.plan, text.encode())[0],
                          plans.plain.run(text.encode(), plans.planner_of(self.BASE).copy()))
 
     def test_what_can_not_be_made_is_reported(self):
         for words, status, said in (
-            ("application LEDGER new", 1, "LEDGER is there already"),
-            ("application LEGDER active", 1, "(is LEDGER meant?); `./plan edit PLAN.db application LEGDER new"),
-            ("application PAY new period=MONTH ia=08.00", 2, "deadline= is wanted too"),
-            ("application PAY new ia=08.00 deadline=0/09.00", 2, "period= is wanted too"),
-            ("application PAY new period=MONHT ia=08.00 deadline=0/09.00", 1, "is MONTH meant?"),
-            ("application PAY new calendar=UAS", 1, "is USA meant?"),
+            ("application LEDGER new", 1, "LEDGER exists already"),
+            ("application LEGDER active", 1, "(did you mean LEDGER?); `./plan edit PLAN.db application LEGDER new"),
+            ("application PAY new period=MONTH ia=08.00", 2, "deadline= is missing"),
+            ("application PAY new ia=08.00 deadline=0/09.00", 2, "period= is missing"),
+            ("application PAY new period=MONHT ia=08.00 deadline=0/09.00", 1, "did you mean MONTH?"),
+            ("application PAY new calendar=UAS", 1, "did you mean USA?"),
             ("application LEDGER period=MONTH", 2, "`./plan edit PLAN.db run-cycle LEDGER NAME period=..`"),
             ("run-cycle LEDGER DAILY new period=MONTH ia=08.00 deadline=0/09.00", 1, "has a run cycle DAILY already"),
-            ("run-cycle LEDGER DIALY offsets=2", 1, "(is DAILY meant?)"),
+            ("run-cycle LEDGER DIALY offsets=2", 1, "(did you mean DAILY?)"),
             ("run-cycle NOBODY X new period=MONTH ia=08.00 deadline=0/09.00", 1, "`application NOBODY new` makes one"),
-            ("period MONTH new months 2027-01..2027-02", 1, "MONTH is there already"),
+            ("period MONTH new months 2027-01..2027-02", 1, "MONTH exists already"),
             ("period YEAR new months ..2027-02", 2, "FIRST..LAST"),
-            ("period YEAR new type=A", 2, "is wanted too"),
+            ("period YEAR new type=A", 2, "type A needs origin= too"),
         ):
             with self.subTest(words):
                 found, text, message = self.edited(*words.split())

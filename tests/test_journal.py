@@ -59,7 +59,7 @@ class Shown(unittest.TestCase):
                     db.execute(f"UPDATE {table} SET {change} WHERE seq = 1")
                 ran = plans.plan("journal", self.plan, "--journal", f"{file}.other")
                 self.assertEqual((ran.returncode, ran.stdout, ran.stderr.count("\n")), (1, "", 1), ran.stderr)
-                self.assertIn("entry 1 is none of a desk", ran.stderr)
+                self.assertIn("no desk writes what entry 1 has", ran.stderr)
                 os.remove(f"{file}.other")
 
     def test_no_text_of_it_moves_the_cursor(self):

@@ -244,7 +244,8 @@ class WithADesk(desks.Case):
         desk = self.desk()
         ran = self.pruned("--yes")
         self.assertEqual((ran.returncode, ran.stdout, ran.stderr.count("\n")), (1, "", 1))
-        self.assertIn("a desk has it; end the desk, prune, and begin it again: nothing was done", ran.stderr)
+        self.assertIn("nothing was done, because a desk has it; end the desk, prune, and start the desk "
+                      "again", ran.stderr)
         self.end(desk)
 
 
@@ -265,7 +266,8 @@ class Words(Room):
         old = lists(self.path)
         ran = self.pruned()
         self.assertEqual(ran.returncode, 1)
-        self.assertIn("no terminal to ask on; --yes prunes without asking: nothing was done", ran.stderr)
+        self.assertIn("nothing was done, because there is no terminal to ask on; --yes prunes without "
+                      "asking", ran.stderr)
         for part in ("2,000 entries go, up to entry 2000", "2,000 entries stay, from entry 2001 on",
                      "because the last 2,000 always stay", "the keys of their streams"):
             self.assertIn(part, ran.stdout)

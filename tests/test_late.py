@@ -138,7 +138,7 @@ REPORT 2024-01-02 20.00  blocked  due 2024-01-03 08.00  late by 30 min      seri
     def test_a_moment_outside_of_the_plan_is_said(self):
         ran = plans.plan("late", self.file)
         self.assertEqual(ran.returncode, 0)
-        self.assertIn("the plan goes from 2024-01-01 to 2024-01-31; --now names a moment", ran.stderr)
+        self.assertIn("the plan goes from 2024-01-01 to 2024-01-31; --now sets the moment", ran.stderr)
 
     def test_no_plan_yet(self):
         ran = plans.plan("late", plans.of_worked("first-days"))
@@ -181,7 +181,7 @@ REPORT 2024-01-02 20.00  blocked  due 2024-01-03 08.00  late by 30 min      seri
         for given in ("today", "yesterday"):
             ran = plans.plan("late", self.file, "--now", given)
             self.assertEqual(ran.returncode, 2)
-            self.assertIn(f"`{given}` is no day: a day is written YYYY-MM-DD", ran.stderr)
+            self.assertIn(f"`{given}` isn't a day: write it as YYYY-MM-DD", ran.stderr)
 
     def test_a_minute_is_one_of_today(self):
         for given in ("06.30", "06:30"):

@@ -382,13 +382,13 @@ class Command(unittest.TestCase):
         lines = [int(number) for number in re.findall(r"(?m)^line ([0-9]+): ", ran.stdout)]
         self.assertEqual(lines, [line for line, _, _ in FOUND])
         self.assertLessEqual(max(map(len, ran.stdout.split("\n"))), 104)
-        self.assertIn("at 2024-01-02 23.45: so it waits for the one of 2024-01-01 23.45", " ".join(ran.stdout.split()))
+        self.assertIn("at 2024-01-02 23.45; so it waits for the one of 2024-01-01 23.45", " ".join(ran.stdout.split()))
 
     def test_nothing(self):
         for text in ("", "list cp\n", (plans.DATA / "monday.in").read_text(encoding="utf-8")):
             ran = self.ask(text)
             self.assertEqual((ran.returncode, ran.stdout), (0, ""))
-            self.assertIn("nothing that is likely a slip", ran.stderr)
+            self.assertIn("no likely mistakes", ran.stderr)
 
     def test_wrong_words_and_files(self):
         for given in ((), ("a", "b")):

@@ -109,7 +109,7 @@ class Words(unittest.TestCase):
         with mock.patch.object(output, "umask", side_effect=lambda: out.write_bytes(b"mine") and 0o22):
             with self.assertRaises(Unwritable) as raised:
                 output.write(str(out), b"a page", False)
-        self.assertIn("by now", str(raised.exception))
+        self.assertIn("somebody made this file meanwhile; --force", str(raised.exception))
         self.assertEqual(out.read_bytes(), b"mine")
 
     def test_where_it_cannot_be_written(self):

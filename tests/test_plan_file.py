@@ -83,7 +83,7 @@ class PlanFile(unittest.TestCase):
 
     def test_no_file(self):
         os.mkdir(Path(self.folder) / "folder.db")
-        self.refused(Path(self.folder) / "folder.db", "it is no file")
+        self.refused(Path(self.folder) / "folder.db", "it is not a file")
 
     def test_an_empty_file(self):
         path = Path(self.folder) / "empty.db"
@@ -104,15 +104,15 @@ class PlanFile(unittest.TestCase):
         self.refused(self.made("some.db", *texts, meta), "no table application")
 
     def test_a_plan_meta_of_another(self):
-        self.refused(self.made("foreign.db", "CREATE TABLE plan_meta (key TEXT)"), "no plan")
-        self.refused(self.made("void.db", *plans.schema()), "no plan")
+        self.refused(self.made("foreign.db", "CREATE TABLE plan_meta (key TEXT)"), "it is not a plan")
+        self.refused(self.made("void.db", *plans.schema()), "it is not a plan")
 
     def test_another_version(self):
         path = self.plan()
         with closing(sqlite3.connect(path)) as db:
             db.execute("UPDATE plan_meta SET version = 9")
             db.commit()
-        self.refused(path, "of version 9")
+        self.refused(path, "its tables have version 9")
 
     def test_a_file_that_is_cut(self):
         path = self.plan()
@@ -141,7 +141,7 @@ class PlanFile(unittest.TestCase):
         path = self.plan()
         with mock.patch.object(shutil, "disk_usage", return_value=mock.Mock(free=path.stat().st_size - 1)):
             with mock.patch.object(shutil, "copyfile", side_effect=AssertionError("it was copied")):
-                self.refused(path, "a private copy of it takes", "free")
+                self.refused(path, "a private copy of it needs", "free")
 
     def test_a_begin_of_no_database_is_not_copied(self):
         path = Path(self.folder) / "zeros.db"
@@ -188,7 +188,7 @@ class PlanFile(unittest.TestCase):
         numbers_behind = b"".join(end.to_bytes(4, "big") for end in ends)
         names = ((1 << 30) // 4096 + 1).to_bytes(4, "big") + name + numbers_behind + magic
         Path(f"{path}-journal").write_bytes(head + bytes(512 - len(head)) + names)
-        self.refused(path, "plan.db-journal stands beside it")
+        self.refused(path, "plan.db-journal is beside it")
         self.assertTrue(other.exists())
         # one that SQLite leaves where nothing is to go back
         for left in (b"", bytes(512)):
@@ -235,7 +235,7 @@ class PlanFile(unittest.TestCase):
         with mock.patch.object(plan_file, "take", written_to), self.assertRaises(Unreadable) as raised:
             with plan_file.opened(path):
                 self.fail("it was opened")
-        self.assertIn("written to", str(raised.exception))
+        self.assertIn("kept writing to it", str(raised.exception))
 
     def test_beside_a_writer(self):
         """While another process writes all the while, what is read is a state that stood, or nothing is read."""
@@ -256,7 +256,7 @@ class PlanFile(unittest.TestCase):
                         self.assertEqual(a, b)
                         self.assertEqual(plan.db.execute("PRAGMA integrity_check").fetchone()[0], "ok")
                 except Unreadable as error:
-                    self.assertIn("written to", str(error))
+                    self.assertIn("kept writing to it", str(error))
         finally:
             done.set()
             writer.join()

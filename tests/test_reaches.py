@@ -43,12 +43,12 @@ OLD,PAYDAY,N,MONTH,1,25,2027-01-01,,18.00,0,20.00
 ltp-create --from 2027-01-01 --to 2027-02-28 --job 5
 """
 EXTEND = "ltp-extend --to 2027-12-31 --job 6\n"
-MONTH = ("MONTH ends 2027-02-28 and the plan goes to 2027-12-31: BALANCE, WAGES have no occurrence after it, and CLOSE "
-         "of LEDGER names no day after it. `./plan edit PLAN.db period MONTH months ..2027-12` adds the rest.")
-DATES = ("DEFAULT lists no date after 2027-01-01 and the plan goes to 2027-12-31: SALES goes by it. `./plan edit "
-         "PLAN.db calendar DEFAULT DAY free` adds a holiday, `./plan import --ics FILE --calendar DEFAULT PLAN.db` "
-         "those of a file.")
-OVER = ("run cycle DAILY of SALES is out of effect from 2027-07-01 on and the plan goes to 2027-12-31: SALES has no "
+MONTH = ("MONTH ends 2027-02-28, but the plan goes to 2027-12-31: BALANCE, WAGES have no occurrence after it, and "
+         "CLOSE of LEDGER names no day after it. `./plan edit PLAN.db period MONTH months ..2027-12` adds the rest.")
+DATES = ("DEFAULT lists no date after 2027-01-01, but the plan goes to 2027-12-31: SALES uses it. `./plan edit PLAN.db "
+         "calendar DEFAULT DAY free` adds a holiday, `./plan import --ics FILE --calendar DEFAULT PLAN.db` those of a "
+         "file.")
+OVER = ("run cycle DAILY of SALES is out of effect from 2027-07-01 on, but the plan goes to 2027-12-31: SALES has no "
         "occurrence after 2027-06-30. `./plan edit PLAN.db run-cycle SALES DAILY out-of-effect=` keeps it in effect.")
 ALL = [DATES, MONTH, OVER]
 
@@ -175,14 +175,14 @@ WAGES,NOTFIRST,X,MONTH,3,1,2027-01-01,,18.00,,
             now.take(item)
         first, last = moments.day_of("2027-01-01"), moments.day_of("2027-12-31")
         self.assertEqual([one.text for one in horizons.shortfalls(now.defined, first, last)], [
-            "MONTH ends 2027-02-28 and the plan goes to 2027-12-31: WAGES has no occurrence after it, and NOTLAST of "
+            "MONTH ends 2027-02-28, but the plan goes to 2027-12-31: WAGES has no occurrence after it, and NOTLAST of "
             "LEDGER excludes no day after it. `./plan edit PLAN.db period MONTH months ..2027-12` adds the rest."])
         days = defined_by(text.encode()).named("LEDGER", first, last)
         gone = {day for day in range(first, last + 1)} - {day for day, _ in days}
         self.assertEqual(sorted(map(moments.day_text, gone)), ["2027-01-31", "2027-02-28"])
         (august,) = [one for one in horizons.shortfalls(now.defined, first, moments.day_of("2028-12-31"))
                      if one.text.startswith("AUGUST")]
-        self.assertIn("and the plan goes to 2028-12-31: HOLIDAYS of SALES excludes no day after it. ", august.text)
+        self.assertIn(", but the plan goes to 2028-12-31: HOLIDAYS of SALES excludes no day after it. ", august.text)
 
     def test_at_random(self):
         first, last, seen = moments.day_of("2027-01-01"), moments.day_of("2027-06-30"), 0
@@ -197,7 +197,7 @@ WAGES,NOTFIRST,X,MONTH,3,1,2027-01-01,,18.00,,
             for one in found:
                 for apps, end in re.findall(r"(?:: | and )([A-C, ]+) ha(?:s|ve) no occurrence after (\S+?)[.,]? ",
                                             one.text + " "):
-                    ended = re.search(r" ends (\S+)", one.text)
+                    ended = re.search(r" ends (\S+),", one.text)
                     day = moments.day_of(ended[1] if end == "it" else end)
                     said |= {app: day for app in apps.split(", ")}
             for app in "ABC":

@@ -101,7 +101,7 @@ class Ready(unittest.TestCase):
         self.assertEqual(ran.stdout, asked(plans.of_stream(data_centre.whole()), "--now", data_centre.NOW)[1])
 
     def test_a_moment_outside_of_the_plan_is_said(self):
-        self.assertIn("--now names a moment", asked(plans.of_worked("monday"), "--now", "2030-01-01/00.00")[2])
+        self.assertIn("--now sets the moment", asked(plans.of_worked("monday"), "--now", "2030-01-01/00.00")[2])
         status, shown, stderr = asked(plans.of_worked("first-days"))
         self.assertEqual((status, shown), (1, ""))
         self.assertIn("there is no long-term plan yet", stderr)

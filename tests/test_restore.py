@@ -67,7 +67,7 @@ class Restore(BackupRoom, unittest.TestCase):
         self.assertEqual(expected.of_file(self.plan), expected.of_stream(MONDAY))
         beside = sorted(os.listdir(self.room))
         self.assertEqual([name for name in beside if not name.startswith("plan.db.")], ["plan.db"])
-        return [self.room / name for name in re.findall(r"stood there is (\S+)(?: and \S+)*, in", ran.stdout)]
+        return [self.room / name for name in re.findall(r"was there is now (\S+)(?: and \S+)*, in", ran.stdout)]
 
     def test_a_log_of_a_killed_run_is_set_aside_with_its_file(self):
         expected.killed(self.plan, TUESDAY)
@@ -141,7 +141,7 @@ class Restore(BackupRoom, unittest.TestCase):
         self.refused("one file", status=2)
         self.file, self.plan = before, self.room / "folder"
         self.plan.mkdir()
-        self.refused("no file")
+        self.refused("it is not a file")
         self.plan = self.room / "none" / "plan.db"
         ran = self.restore()
         self.assertEqual((ran.returncode, ran.stdout, ran.stderr.count("\n")), (1, "", 1))

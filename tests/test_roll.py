@@ -83,8 +83,9 @@ class Roll(unittest.TestCase):
             now = ("--now", "2024-01-02/09.00", "--at", "06.00") if what != "in error" else WORDS
             ran = self.roll(*now, "--stop-on", *words)
             self.assertEqual(ran.returncode, 1, words)
-            self.assertTrue(ran.stderr.startswith(f"plan: {row}: {what}, and --stop-on "), ran.stderr)
-            self.assertTrue(ran.stderr.endswith("the daily plan is due, and nothing was done\n"), ran.stderr)
+            kind = "error" if what == "in error" else "late"
+            self.assertEqual(ran.stderr, "plan: nothing was done: the daily plan is due, but --stop-on "
+                                         f"{kind} stops it for {row}, {what}\n")
             self.assertEqual(expected.of_file(self.plan), before)
         for words in (["error:LEDGER"], ["late"]):  # its deadline is still to come
             self.assertEqual(self.roll(*WORDS, "--try", "--stop-on", *words).returncode, 0, words)
@@ -146,7 +147,7 @@ class Roll(unittest.TestCase):
         before = expected.of_file(self.plan)
         ran = self.roll(*WORDS)
         self.assertEqual(ran.returncode, 1)
-        self.assertIn("plan: the trial refuses `ltp-extend --to 2024-03-31", ran.stderr)
+        self.assertIn("plan: nothing was done, because the trial refuses `ltp-extend --to 2024-03-31", ran.stderr)
         self.assertIn("refused 22 REPORT", ran.stderr)
         self.assertEqual((expected.of_file(self.plan), jobs(self.plan)), (before, []))
 
@@ -170,7 +171,7 @@ class Roll(unittest.TestCase):
         path = plans.copy_of(plans.of_stream(MONDAY.split(b"ltp-create")[0]), self.room, "bare.db")
         ran = self.roll(*WORDS, plan=path)
         self.assertEqual((ran.returncode, ran.stdout, ran.stderr),
-                         (1, "", "plan: there is no long-term plan yet: `ltp-create` makes one\n"))
+                         (1, "", "plan: there is no long-term plan yet; `ltp-create` makes one\n"))
 
     def test_wrong_words(self):
         for words in (["--ahead", "1w"], ["--ahead", "61d"], ["--ahead", "-1h"], ["--at", "6"], ["--at", "24.00"],
@@ -213,7 +214,8 @@ class ByDesk(desks.Case):
         desk = self.desk()
         ran = plans.plan("roll", self.plan, "--program", plans.PROGRAM, "--wait", "0", *WORDS)
         self.assertEqual(ran.returncode, 8)
-        self.assertIn(f"{self.plan}: a desk has it: `./plan roll --desk DESK` asks that; nothing was sent", ran.stderr)
+        self.assertIn(f"{self.plan}: nothing was sent, because a desk has it; `./plan roll --desk DESK` has the desk "
+                      "do it\n", ran.stderr)
         self.end(desk)
         self.assertEqual(jobs(self.plan), [])
 

@@ -118,28 +118,30 @@ class Filters(unittest.TestCase):
 
     def test_late_goes_by_the_clock_and_says_where_it_is_outside(self):
         stderr = asked(plans.of_worked("monday"), "--late")[2]
-        self.assertIn("the plan goes from 2024-01-01 to 2024-01-31; --now names a moment", stderr)
+        self.assertIn("the plan goes from 2024-01-01 to 2024-01-31; --now sets the moment", stderr)
 
     def test_an_application_that_is_not_there(self):
         status, lines, stderr = asked(self.path, "--app", "nosuch")
         self.assertEqual((status, lines), (1, ["ok rows 0"]))
-        self.assertIn("there is no application NOSUCH in it", stderr)
-        self.assertIn("in it (is MERGERTEST meant?)", asked(self.path, "--app", "mergertset")[2])
-        self.assertIn("there is no application NOSUCH", asked(self.path, "--late", "--app", "nosuch")[2])
+        self.assertIn("it has no application NOSUCH", stderr)
+        self.assertIn("it has no application MERGERTSET (did you mean "
+                      "MERGERTEST?)", asked(self.path, "--app", "mergertset")[2])
+        self.assertIn("it has no application NOSUCH", asked(self.path, "--late", "--app", "nosuch")[2])
         self.assertEqual(asked(self.path, "--app", "MERGERTEST")[2], "")
 
     def test_words_that_do_not_go_together(self):
         for given, said in (
             (["ltp", "--status", "W"], "rows of ltp have no status"),
             (["deletions", "--status", "W"], "rows of deletions have no status"),
-            (["history", "--late"], "of the current plan alone"),
-            (["--now", data_centre.NOW], "it goes with --late"),
+            (["history", "--late"], "goes with the current plan only"),
+            (["--now", data_centre.NOW], "it needs --late"),
             (["--from", "2026-11-26", "--to", "2026-11-25"], "--to is before --from"),
-            (["--from", "2026-11-31"], "is no day like"),
-            (["--status", "X"], "'x' is no status"),
-            (["--status", "errors"], "it is one of waiting (W), started (S), in-error (E), complete (C), deleted (D);"),
-            (["--status", "late"], "deleted (D); what is late `--late` shows;"),
-            (["--status", ""], "'' is no status"),
+            (["--from", "2026-11-31"], "is neither a day such as"),
+            (["--status", "X"], "'x' is not a status"),
+            (["--status", "errors"],
+             "a status is one of waiting (W), started (S), in-error (E), complete (C), deleted (D);"),
+            (["--status", "late"], "deleted (D); `--late` shows what is late;"),
+            (["--status", ""], "'' is not a status"),
             (["links"], "invalid choice"),
             (["--csv", "--json"], "not allowed"),
         ):

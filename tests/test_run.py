@@ -72,13 +72,13 @@ class Run(unittest.TestCase):
         # the 25th of November is a Wednesday; that of December is free, and rule 1 goes to the 23rd, since the 24th is
         for day, due in (("2026-11-25", "2026-11-26"), ("2026-12-23", "2026-12-24")):
             self.assertIn(f"{day} 08.00  long-term plan  long-term plan  {day} 16.00, then {due} 12.00\n", ran.stdout)
-        self.assertIn("2  long-term plan, due or named otherwise\n", ran.stdout)
+        self.assertIn("2  long-term plan, with another deadline or run cycle\n", ran.stdout)
 
     def test_refusals_stand_below_their_answers(self):
         text = "cp-start --app LEDGER --ia 2026-11-03/20.00 --job 20\nlist cp --app SALES\nquit\n"
         ran = self.asked(text, "--yes")
         self.assertEqual((ran.returncode, ran.stderr), (4, ""))
-        answers = ran.stdout.partition("\n\nNothing would be different but the jobs that are kept.\n\n")[2]
+        answers = ran.stdout.partition("\n\nNothing would be different except the kept jobs.\n\n")[2]
         planner = plans.planner_of(BASE).copy()
         first, *rows, last = plain.run(text.encode(), planner)
         self.assertEqual((first, last), ("refused 30 4", "refused 10"))
@@ -90,15 +90,15 @@ class Run(unittest.TestCase):
             *rows,
             last,
             "    line 3: quit",
-            "    it is no statement: there is no statement `quit`",
+            "    it isn't a statement: there is no statement `quit`",
         ])
 
     def test_without_a_terminal_and_yes_nothing_is_done(self):
         before = plans.prints(self.file)
         ran = self.asked(HOLIDAY)
         self.assertEqual(ran.returncode, 1)
-        self.assertEqual(ran.stderr, "plan: there is no terminal to ask on; --yes runs it without asking: nothing was "
-                                     "done\n")
+        self.assertEqual(ran.stderr, "plan: nothing was done, because there is no terminal to ask on; --yes runs it "
+                                     "without asking\n")
         self.assertIn("line 1: drops 20 entries", ran.stdout)
         self.assertEqual({name: seen for name, seen in plans.prints(self.file).items() if name != "x.in"}, before)
 
@@ -141,9 +141,8 @@ class Run(unittest.TestCase):
         file = self.room / "plna.db"
         ran = self.asked(BASE, "--yes", file=file)
         self.assertEqual((ran.returncode, ran.stdout), (1, ""))
-        self.assertEqual(ran.stderr, f"plan: {file}: there is no such file (is {self.file} meant?); --new makes a new "
-                                     f"plan "
-                                     "there\n")
+        self.assertEqual(ran.stderr, f"plan: {file}: there is no such file (did you mean {self.file}?); --new makes a "
+                                     "new plan there\n")
         self.assertFalse(file.exists())
         self.assertEqual(self.asked(BASE, "--new", file=file).returncode, 1)
         self.assertFalse(file.exists())
@@ -155,12 +154,12 @@ class Run(unittest.TestCase):
         self.assertEqual(self.lists(file)[-1], f"ok rows {sum(map(len, planner.in_force.values()))}")
         ran = self.asked(BASE, "--new", "--yes", file=file)
         self.assertEqual((ran.returncode, ran.stdout), (1, ""))
-        self.assertIn("it is there already; without --new the stream goes on with it", ran.stderr)
+        self.assertIn("the file exists already; leave --new away to run the stream over it", ran.stderr)
 
     def test_a_plan_alone_lacks_its_stream(self):
         ran = plans.plan("run", self.file, stdin=subprocess.DEVNULL)
         self.assertEqual((ran.returncode, ran.stdout), (2, ""))
-        self.assertEqual(ran.stderr, f"plan: {self.file} is a database, and the stream is missing: ./plan run "
+        self.assertEqual(ran.stderr, f"plan: {self.file} is a database, so the stream is missing: ./plan run "
                                      f"{self.file} STREAM; ./plan run --help says more\n")
 
     def test_the_program_gets_the_stream_byte_for_byte(self):
@@ -178,9 +177,8 @@ class Run(unittest.TestCase):
             db.execute("SELECT count(*) FROM job").fetchone()
             ran = self.asked("list cp\n", "--yes")
         self.assertEqual(ran.returncode, 8)
-        self.assertTrue(ran.stdout.endswith("\nfault 50\n    the file can't be opened or made, or is no plan; nothing "
-                                            "else may "
-                                            "hold it open meanwhile\n"), ran.stdout)
+        self.assertTrue(ran.stdout.endswith("\nfault 50\n    the file can't be opened or made, isn't a plan, or "
+                                            "another program has it open\n"), ran.stdout)
         self.assertIn("opcplan: fault 50:", ran.stderr)
 
     def test_a_plan_that_is_written_to_meanwhile(self):
@@ -189,7 +187,7 @@ class Run(unittest.TestCase):
         (self.room / "other.in").write_text("ltp-add --app SALES --ia 2026-12-30/09.00 --job 90\n", encoding="ascii")
         ran = self.asked(HOLIDAY, "--yes", program=program)
         self.assertEqual(ran.returncode, 1)
-        self.assertIn("was written to meanwhile; ask again: nothing was done", ran.stderr)
+        self.assertIn("nothing was done, because another program wrote to it meanwhile; run it again", ran.stderr)
         self.assertEqual((self.room / "other").read_text(encoding="ascii"), "ok serial 151\n")
 
     def test_what_cannot_be_run_is_reported(self):
@@ -201,7 +199,7 @@ class Run(unittest.TestCase):
             self.assertEqual({name: plans.prints(self.file)[name] for name in before}, before)
         ran = self.asked("list cp\n", "--new", "--yes", file=self.room / "new.db", program=self.script("exit 3"))
         self.assertEqual((ran.returncode, ran.stdout, (self.room / "new.db").exists()), (1, "", False))
-        self.assertIn("makes no new plan; it ended with status 3", ran.stderr)
+        self.assertIn("doesn't make a new plan; it ended with status 3", ran.stderr)
         with open("/dev/full", "w", encoding="ascii") as full:
             given = [plans.TOP / "plan", "run", self.file, self.room / "x.in", "--program", plans.PROGRAM, "--yes"]
             (self.room / "x.in").write_text(HOLIDAY, encoding="ascii")
@@ -215,7 +213,7 @@ class Run(unittest.TestCase):
         for name in ("check", "run", "what-if"):
             ran = plans.plan(name, self.room / "x.in", self.file, "--program", plans.PROGRAM)
             self.assertEqual((ran.returncode, ran.stdout), (1, ""))
-            self.assertIn(f"it is no plan, and {self.file} may be one: are they exchanged?", ran.stderr)
+            self.assertIn(f"it is not a plan, but {self.file} may be one; did you swap them?", ran.stderr)
 
     def test_a_stream_from_standard_input(self):
         given = [plans.TOP / "plan", "run", self.file, "-", "--program", plans.PROGRAM]
@@ -255,7 +253,8 @@ class ByADesk(desks.Case):
         self.assertEqual(ran.returncode, 1, ran.stderr)
         self.assertIn("applications new: MORE", ran.stdout)
         self.assertIn("line 5: refused 29:", ran.stdout)
-        self.assertIn("--yes runs it without asking: nothing was done", ran.stderr)
+        self.assertIn("nothing was done, because there is no terminal to ask on; --yes runs it without "
+                      "asking", ran.stderr)
         ran = self.asked(self.plan, "--yes")
         self.assertEqual((ran.returncode, ran.stdout), (1, ""))
         self.assertIn("a desk has it; `./plan run --desk DESK STREAM`", ran.stderr)

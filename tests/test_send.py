@@ -86,7 +86,7 @@ class Send(unittest.TestCase):
     def test_a_refusal_is_explained_on_standard_error(self):
         ran = self.send("complete", "REPORT", "2024-01-01/20.00")
         self.assertEqual((ran.returncode, ran.stdout), (4, "refused 29\n"))
-        self.assertIn("wants an occurrence that is started (S) or in error (E)", ran.stderr)
+        self.assertIn("needs an occurrence that is started (S) or in error (E)", ran.stderr)
         self.assertEqual(ran.stderr[-2:].count("\n"), 1)
 
     def test_a_refusal_is_explained_by_the_plan(self):
@@ -100,7 +100,7 @@ class Send(unittest.TestCase):
         ia = next(row[2] for row in planner.planned.values() if row[1] == "LEDGER")
         ran = self.send("delete", "LEDGER", moments.moment_word(ia))
         self.assertEqual(ran.stdout, "refused 28\n")
-        self.assertIn("it stands in the long-term plan: `ltp-delete` deletes it there", ran.stderr)
+        self.assertIn("it is in the long-term plan: `ltp-delete` deletes it there", ran.stderr)
 
     def test_a_name_that_is_not_defined_takes_no_number(self):
         before = self.jobs()
@@ -108,8 +108,8 @@ class Send(unittest.TestCase):
                       ["cp-start", "--app", "REPROT", "--ia", "2024-01-01/20.00"]):
             ran = self.send(*words)
             self.assertEqual((ran.returncode, ran.stdout), (2, ""), words)
-            self.assertEqual(ran.stderr, "plan: the application REPROT isn't defined (is REPORT meant?); nothing was "
-                                         "sent\n")
+            self.assertEqual(ran.stderr, "plan: the application REPROT isn't defined (did you mean REPORT?); nothing "
+                                         "was sent\n")
         self.assertEqual(self.jobs(), before)
 
     def test_words_as_people_type_them(self):
@@ -135,12 +135,12 @@ class Send(unittest.TestCase):
         for words, says in (
             ("start LEDGER 20.00", "it lacks its day: YYYY-MM-DD/20.00"),
             ("start LEDGER 8:30", "it lacks its day: YYYY-MM-DD/08.30"),
-            ("start LEDGER today/20.00", "`today` is no day: a day is written YYYY-MM-DD"),
-            ("cp-start --app LEDGER --ia today", "`today` is no day: a day is written YYYY-MM-DD"),
+            ("start LEDGER today/20.00", "`today` isn't a day: write it as YYYY-MM-DD"),
+            ("cp-start --app LEDGER --ia today", "`today` isn't a day: write it as YYYY-MM-DD"),
             ("start LEDGER 2027-01-05", "it lacks its time: 2027-01-05/00.00 is the midnight that begins the day"),
             ("start LEDGER 05.01.2027", "it lacks its time: 2027-01-05/00.00 is the midnight that begins the day"),
-            ("start LEDGER 05.01.2027/20.00", "it is written 2027-01-05/20.00"),
-            ("start LEDGER 2027-01-05/8.00", "it is written 2027-01-05/08.00"),
+            ("start LEDGER 05.01.2027/20.00", "write it as 2027-01-05/20.00"),
+            ("start LEDGER 2027-01-05/8.00", "write it as 2027-01-05/08.00"),
         ):
             ran = self.send(*words.split())
             self.assertEqual((ran.returncode, ran.stdout), (2, ""), words)
@@ -289,7 +289,7 @@ class ToADesk(desks.Case):
         self.assertEqual((ran.returncode, ran.stdout, ran.stderr), (0, "ok serial 2 status S\n", ""))
         ran = self.send("--desk", f"http://127.0.0.1:{desk.port}", *begun)
         self.assertEqual((ran.returncode, ran.stdout), (4, "refused 29\n"))
-        self.assertIn("`cp-start` wants an occurrence that is waiting (W)", ran.stderr)
+        self.assertIn("`cp-start` needs an occurrence that is waiting (W)", ran.stderr)
         text = "list cp\ndefine applications\nA,A,\nB,Z,\n/*\nx\nlist links\n"
         ran = self.send(text=text, env={**os.environ, "OPCPLAN_DESK": f"127.0.0.1:{desk.port}"})
         planner = plans.plain.Planner()
@@ -367,7 +367,7 @@ class ToADesk(desks.Case):
         where = ["--desk", desk.socket]
         ran = self.send(*where, "start", "REPROT", "2024-01-01/20.00")
         self.assertEqual((ran.returncode, ran.stdout), (2, ""))
-        self.assertIn("the application REPROT isn't defined, or is pending (is REPORT meant?); nothing was sent",
+        self.assertIn("the application REPROT isn't defined, or is pending (did you mean REPORT?); nothing was sent",
                       ran.stderr)
         ran = self.send(*where, "start", "REPORT", "2024-01-01/20.00")
         self.assertEqual(ran.stdout, "ok serial 2 status S\n")
@@ -401,18 +401,18 @@ class ToADesk(desks.Case):
         ran = self.send(*where, "start", "REPORT", "2024-01-01/20.00")
         who = pwd.getpwuid(os.geteuid()).pw_name
         self.assertIn("it has the status S (started)\n", ran.stderr)
-        self.assertRegex(ran.stderr, rf"    it is so since [0-9]{{4}}-[0-9]{{2}}-[0-9]{{2}} [0-9.]{{8}}, by {who} "
-                                     r"\(`cp-start`, job 500000001\)\n$")
+        self.assertRegex(ran.stderr, rf"    {who} made it so at [0-9]{{4}}-[0-9]{{2}}-[0-9]{{2}} [0-9.]{{8}}, "
+                                     r"by `cp-start`, job 500000001\n$")
         ran = self.send(*where, "start", "REPORT", "2024-01-01/21.00")
         self.assertIn("on that day REPORT arrives at 20.00 (is started, in the current plan)", ran.stderr)
         ran = self.send(*where, "delete", "REPORT", "2024-01-19/20.00")
-        self.assertIn("it stands in the long-term plan: `ltp-delete` deletes it there", ran.stderr)
+        self.assertIn("it is in the long-term plan: `ltp-delete` deletes it there", ran.stderr)
         self.end(desk)
         ran = self.send("--db", self.plan, "--program", plans.PROGRAM, "start", "REPORT", "2024-01-01/20.00")
-        self.assertIn(f", by {who} (`cp-start`, job 500000001)\n", ran.stderr)
+        self.assertRegex(ran.stderr, rf"    {who} made it so at [0-9. -]+, by `cp-start`, job 500000001\n")
         os.remove(f"{self.plan}.journal")
         ran = self.send("--db", self.plan, "--program", plans.PROGRAM, "start", "REPORT", "2024-01-01/20.00")
-        self.assertIn("    it is so by `cp-start`, job 500000001\n", ran.stderr)
+        self.assertIn("    `cp-start`, job 500000001, made it so\n", ran.stderr)
 
 
 if __name__ == "__main__":

@@ -33,35 +33,38 @@ DAYS = "date,status\n2027-05-06,free,Ascension Day\n"
 # words, with names of files in the room, and what is said of them
 SAID = (
     (["why-day", "plan.db", "LEDGER", "24.12.2027"], "as YYYY-MM-DD it is 2027-12-24"),
-    (["rows", "cp", "plan.db"], "PLAN.db is the first word: ./plan rows plan.db cp;"),
+    (["rows", "cp", "plan.db"], "PLAN.db comes first: ./plan rows plan.db cp;"),
     (["why", "LEDGER", "2027-01-05/20.00", "plan.db"],
-     "PLAN.db is the first word: ./plan why plan.db LEDGER 2027-01-05/20.00;"),
+     "PLAN.db comes first: ./plan why plan.db LEDGER 2027-01-05/20.00;"),
     (["edit", "calendar", "plan.db", "DEFAULT", "2027-12-24", "free"],
-     "PLAN.db is the first word: ./plan edit plan.db calendar DEFAULT 2027-12-24 free;"),
+     "PLAN.db comes first: ./plan edit plan.db calendar DEFAULT 2027-12-24 free;"),
     (["rows", "plan.db", "list"], "invalid choice: 'list'"),
     (["edit", "plan.db", "calendar", "2027-12-24", "free"],
      "the calendar's name is missing before 2027-12-24: the plan has DEFAULT, USA;"),
     (["edit", "plan.db", "run-cycle", "LEDGER", "deadline=18.00"],
      "the run cycle's name is missing before deadline=18.00: LEDGER has DAILY;"),
-    (["edit", "plan.db", "run-cycle", "LEGDER", "deadline=18.00"], "there is no application LEGDER (is LEDGER meant?)"),
+    (["edit", "plan.db", "run-cycle", "LEGDER", "deadline=18.00"],
+     "there is no application LEGDER (did you mean LEDGER?)"),
     (["edit", "plan.db", "holiday", "2027-12-24"],
      "`./plan edit PLAN.db calendar DEFAULT 2027-12-24 free` makes a day a holiday;"),
-    (["edit", "plan.db", "predecessor", "LEDGER", "add", "SALS"], "there is no application SALS (is SALES meant?)"),
-    (["edit", "plan.db", "period", "MONHT", "months", "..2027-06"], "there is no period MONHT (is MONTH meant?)"),
-    (["page", "--hlep"], "there is no option --hlep (is --help meant?);"),
-    (["late", "plan.db", "--nwo", "06.00"], "there is no option --nwo (is --now meant?);"),
-    (["list", "plan.db"], "there is no subcommand 'list' (is rows meant?);"),
-    (["holidays"], "there is no subcommand 'holidays' (is import meant?);"),
-    (["help", "pgae"], "there is no subcommand 'pgae' (is page meant?);"),
-    (["run", "plan.bd", "base.in"], "plan.bd: there is no such file (is plan.db meant?); --new makes a new plan there"),
+    (["edit", "plan.db", "predecessor", "LEDGER", "add", "SALS"], "there is no application SALS (did you mean SALES?)"),
+    (["edit", "plan.db", "period", "MONHT", "months", "..2027-06"], "there is no period MONHT (did you mean MONTH?)"),
+    (["page", "--hlep"], "there is no option --hlep (did you mean --help?);"),
+    (["late", "plan.db", "--nwo", "06.00"], "there is no option --nwo (did you mean --now?);"),
+    (["list", "plan.db"], "there is no subcommand 'list' (did you mean rows?);"),
+    (["holidays"], "there is no subcommand 'holidays' (did you mean import?);"),
+    (["help", "pgae"], "there is no subcommand 'pgae' (did you mean page?);"),
+    (["run", "plan.bd", "base.in"], "plan.bd: there is no such file (did you mean plan.db?); --new makes a new plan "
+                                    "there"),
     (["run", "other/plann", "base.in"], "other/plann: there is no such file; --new makes a new plan there"),
-    (["import", "--cron", "days.ics", "plan.db"], "days.ics: it is an iCalendar file, and no crontab: is --ics meant?"),
+    (["import", "--cron", "days.ics", "plan.db"], "days.ics: it is an iCalendar file, not a crontab; did you mean "
+                                                  "--ics?"),
     (["import", "--csv", "days.ics", "--calendar", "USA", "plan.db"],
-     "days.ics: it is an iCalendar file, and no file of days: is --ics meant?"),
-    (["import", "--cron", "days.csv", "plan.db"], "days.csv: it is a file of days, and no crontab: is --csv meant?"),
+     "days.ics: it is an iCalendar file, not a file of days; did you mean --ics?"),
+    (["import", "--cron", "days.csv", "plan.db"], "days.csv: it is a file of days, not a crontab; did you mean --csv?"),
     (["import", "--csv", "crontab", "--calendar", "USA", "plan.db"],
-     "crontab: it is a crontab, and no file of days: is --cron meant?"),
-    (["explain", "base.out", "base.in"], "base.in is no output of base.out"),
+     "crontab: it is a crontab, not a file of days; did you mean --cron?"),
+    (["explain", "base.out", "base.in"], "base.in isn't the output of base.out"),
     (["days", "plan.db", "LEDGER", "2027-01-05", "2027-01-07"],
      "2027-01-05 and 2027-01-07 need their options: ./plan days plan.db LEDGER --from 2027-01-05 --to 2027-01-07;"),
     (["days", "plan.db", "2027-01-05", "LEDGER"],
@@ -82,17 +85,18 @@ SAID = (
     (["lint", "base.in", "plan.db"], "plan.db needs its option: ./plan lint base.in --plan plan.db;"),
     (["run", "http://127.0.0.1:7411", "base.in"], ": ./plan run base.in --desk http://127.0.0.1:7411;"),
     (["run", "base.in", "http://127.0.0.1:7411"], ": ./plan run base.in --desk http://127.0.0.1:7411;"),
-    (["page", "http://127.0.0.1:7411"], "'http://127.0.0.1:7411' is the address of a desk, and no file;"),
+    (["page", "http://127.0.0.1:7411"], "'http://127.0.0.1:7411' is the address of a desk, not a file;"),
     (["edit", "plan.db", "calendar", "DEFAULT", "2027-01-05", "2027-01-06", "free"],
-     "'2027-01-06' is none of free, work and unlist (days are given as FIRST..LAST);"),
+     "'2027-01-06' is not one of free, work and unlist (give days as FIRST..LAST);"),
     (["why", "plan.db", "LEDGER", "2027-01-05/20.00", "06.00"],
-     "LEDGER 2027-01-05/20.00 is the whole key, and 06.00 is too much (is --now 06.00 meant?)"),
+     "LEDGER 2027-01-05/20.00 is the whole key, so 06.00 is too much (did you mean --now 06.00?)"),
     (["why-day", "plan.db", "LEDGER", "2027-01-05", "2027-01-06"],
-     "LEDGER 2027-01-05 is the whole key, and 2027-01-06 is too much; `./plan days PLAN.db LEDGER --from D --to D`"),
+     "LEDGER 2027-01-05 is the whole key, so 2027-01-06 is too much; `./plan days PLAN.db LEDGER --from D --to D`"),
     (["send", "plan.db", "start", "LEDGER", "2027-01-05/20.00"],
      "plan.db needs its option: ./plan send --db plan.db start LEDGER 2027-01-05/20.00; nothing was sent"),
-    (["send", "--db", "plan.db", "dp-extend", "2027-01-05"], "(is `--to 2027-01-05/00.00` meant?); nothing was sent"),
-    (["send", "--db", "plan.db", "list", "cp", "LEDGER"], "(is `--app LEDGER` meant?); nothing was sent"),
+    (["send", "--db", "plan.db", "dp-extend", "2027-01-05"],
+     "(did you mean `--to 2027-01-05/00.00`?); nothing was sent"),
+    (["send", "--db", "plan.db", "list", "cp", "LEDGER"], "(did you mean `--app LEDGER`?); nothing was sent"),
 )
 
 
@@ -121,8 +125,8 @@ class Slips(unittest.TestCase):
         self.assertEqual(plans.prints(self.plan), before)
 
     def test_exchanged_files_are_reported_by_explain(self):
-        self.assertTrue(plans.plan_in_here("explain", "base.out", "base.in").stderr.endswith("are they exchanged?\n"))
-        self.assertNotIn("exchanged", plans.plan_in_here("explain", "base.in", "crontab").stderr)
+        self.assertTrue(plans.plan_in_here("explain", "base.out", "base.in").stderr.endswith("did you swap them?\n"))
+        self.assertNotIn("swap", plans.plan_in_here("explain", "base.in", "crontab").stderr)
 
     def test_help_of_a_subcommand(self):
         for name in ("page", "send"):
@@ -141,8 +145,8 @@ class Slips(unittest.TestCase):
         answers = [*["ok defined 2"] * 3, "ok defined 1", "refused 23 LEDGER", "refused 13", ""]
         (self.room / "slip.out").write_text("\n".join(answers))
         output = plans.plan_in_here("explain", "slip.in", "slip.out").stdout
-        self.assertIn("DAILY names the period DYA (line 14) (is DAY meant?)", " ".join(output.split()))
-        self.assertIn("of calendars the name USB isn't defined (is USA meant?)", output)
+        self.assertIn("DAILY names the period DYA (line 14) (did you mean DAY?)", " ".join(output.split()))
+        self.assertIn("the name USB isn't defined in calendars (did you mean USA?)", output)
 
     def test_a_field_with_a_blank_before_it(self):
         (self.room / "blank.in").write_text("define calendars --job 7\nDEFAULT, 2027-12-24,FREE\n/*\n")
@@ -153,7 +157,7 @@ class Slips(unittest.TestCase):
 
     def test_a_calendar_that_nobody_goes_by(self):
         ran = plans.plan_in_here("edit", "plan.db", "calendar", "USA", "2027-12-24", "free")
-        self.assertIn("plan: No application goes by USA.\n", ran.stderr)
+        self.assertIn("plan: No application uses USA.\n", ran.stderr)
 
 
 class Numbers(unittest.TestCase):
@@ -185,7 +189,7 @@ class Numbers(unittest.TestCase):
         self.assertEqual(self.edit("2027-12-24"), [6])
         self.assertEqual(self.numbers("dump", self.plan), [6, 7, 8, 9, 10])
         ran = plans.plan_in_here("next-job", self.plan)
-        self.assertEqual(ran.stdout, "greatest used: 5, a desk's own numbers aside\nnext: 7\n")
+        self.assertEqual(ran.stdout, "greatest used: 5, apart from a desk's own numbers\nnext: 7\n")
         self.keep(499_999_999)
         self.assertEqual(self.numbers("dump", self.plan), [500_000_000, *range(600_000_000, 600_000_004)])
         self.keep(500_000_000)

@@ -70,7 +70,7 @@ class Status(unittest.TestCase):
         path = plans.copy_of(plans.of_worked("monday"), self.room)
         number = os.open(path, os.O_RDWR)
         self.addCleanup(os.close, number)
-        for span, said in ((None, "no program has it open"), (locks.OF_A_RUN, "opcplan has it open"),
+        for span, said in ((None, "no program has it open"), (locks.OF_A_RUN, "opcplan or another program has it open"),
                            (locks.OF_A_DESK, "a desk has it")):
             if span:
                 self.assertTrue(locks.set_lock(number, fcntl.F_WRLCK, *span))
@@ -84,7 +84,7 @@ class Status(unittest.TestCase):
             b"define applications --job 51\nENDS,A,\n/*\n" \
             b"define run-cycles --job 52\nENDS,RC,N,END,3,1 2,2024-01-01,,08.00,0,09.00\n/*\n"
         ran = plans.plan_in_here("status", plans.of_stream(text), "--now", "2024-01-01/12.00")
-        self.assertIn("  END ends 2024-01-07 and the plan goes to 2024-01-31: ENDS has no occurrence after it.",
+        self.assertIn("  END ends 2024-01-07, but the plan goes to 2024-01-31: ENDS has no occurrence after it.",
                       ran.stdout)
         self.assertEqual(ran.returncode, 1)
 

@@ -82,9 +82,9 @@ class Rules(unittest.TestCase):
 
     def test_what_is_wrong_is_reported(self):
         for text, reason in (
-            ("x", "no TOML"), ("", "[who.NAME]"), (WHO, "[[rule]]"), ('rules = 1\n' + GOOD, "is rule meant?"),
+            ("x", "no TOML"), ("", "[who.NAME]"), (WHO, "[[rule]]"), ('rules = 1\n' + GOOD, "did you mean rule?"),
             (GOOD.replace('"me"\n', '"you"\n'), "there is no [who.you]"),
-            (GOOD.replace('"error"', '"errors"'), "is error"),
+            (GOOD.replace('"error"', '"errors"'), "did you mean error?"),
             (GOOD.replace('on = "error"', 'on = "late"'), "lacks `minutes`"),
             (GOOD.replace('call = "me"\n', ""), "lacks `call`"),
             (GOOD + "minutes = 3\n", "has no word `minutes`"), (GOOD + 'apps = []\n', "`apps` has to be"),
@@ -92,7 +92,7 @@ class Rules(unittest.TestCase):
             (GOOD + '[[rule]]\non = "error"\ncall = "me"\n', "that no other rule has"),
             (GOOD.replace('["true"]', '[]'), "`command` has to be"),
             (GOOD.replace('["true"]', '["a\\u0000"]'), "`command`"),
-            (GOOD.replace("command", "comand"), "is command meant?"),
+            (GOOD.replace("command", "comand"), "did you mean command?"),
             (GOOD.replace('command = ["true"]', ""), "one of command"),
             (GOOD.replace('command = ["true"]', 'mail = "a b"'), "no address of a mail"),
             (GOOD.replace('command = ["true"]', 'mail = "-oQ/tmp"'), "no address of a mail"),
@@ -468,11 +468,11 @@ class Watches(desks.Case):
 
     def test_what_is_wrong_is_reported(self):
         for words, status, reason in (
-            (["--rules", self.rules], 2, "--desk is wanted"),
+            (["--rules", self.rules], 2, "give --desk DESK"),
             (["--desk", "x y", "--rules", self.rules, "--once"], 2, "is no desk"),
             (["--desk", "/x", "--rules", self.room / "nothing"], 1, "it can't be read: No such file"),
             (["--desk", "/x", "--rules", self.plan], 2, "no text in UTF-8"),
-            (["--desk", "/x", "--rules", self.rules, "--every", "0"], 2, "no number of seconds"),
+            (["--desk", "/x", "--rules", self.rules, "--every", "0"], 2, "is not a number of seconds"),
             (["--desk", "/x", "--rules", self.rules, "--state", self.room / "no" / "x"], 1, "it can't be kept there"),
             (["--desk", "/x"], 2, "--rules"),
             (["--desk", "/x", "--rules", self.rules, "--try", "--once"], 2, "not allowed"),

@@ -37,7 +37,7 @@ def texts():
 
 def all_rows(planner):
     """Each occurrence with what its line has to say."""
-    found = [(row, "stands in the long-term plan") for row in planner.planned.values()]
+    found = [(row, "is in the long-term plan") for row in planner.planned.values()]
     found += [(row, PLACES[status]) for row, status in planner.current.values()]
     found += [(row, "is complete, in history") for row in planner.history.values()]
     return found + [(row, REASONS[reason]) for row, reason in planner.deleted.values()]
@@ -79,7 +79,7 @@ class Rows(unittest.TestCase):
                         with self.subTest(name, serial=row[0]):
                             self.check(waiting, plan, row, where)
                     seen.add(where)
-        wanted = {"stands in the long-term plan", "is complete, in history", *PLACES.values(), *REASONS.values()}
+        wanted = {"is in the long-term plan", "is complete, in history", *PLACES.values(), *REASONS.values()}
         self.assertEqual(seen, wanted)
 
     def check(self, waiting, plan, row, where):
@@ -100,7 +100,7 @@ class Rows(unittest.TestCase):
         text = "\n".join(lines)
         seen = re.search(r"It waits for ([0-9]+) that (?:is|are) not complete:", text)
         self.assertEqual(int(seen.group(1)) if seen else 0, len(found) - 1)
-        self.assertEqual("Nothing is in its way" in text, len(found) == 1)
+        self.assertEqual("Nothing holds it up" in text, len(found) == 1)
         if not seen:
             return
         tree, _, ends = text.partition(" not complete:\n\n")[2].partition("\n\nOf these,")
@@ -159,11 +159,11 @@ class Nowhere(unittest.TestCase):
         self.assertEqual(waits.rows_of_key(plan, app, ia), [])
         lines = why.nowhere_lines(plan, app, ia)
         if app not in planner.defined["applications"] and not any(row[1] == app for row, _ in all_rows(planner)):
-            self.assertRegex(lines[0], rf"\AThe application {app} isn't defined( \(is \w+ meant\?\))?, and the plan "
-                                       r"has no occurrence of it\.\Z")
+            self.assertRegex(lines[0], rf"\AThe application {app} isn't defined( \(did you mean \w+\?\))?, and the "
+                                       r"plan has no occurrence of it\.\Z")
             self.assertEqual(len(lines), 1)
             return {"isn't defined"}
-        self.assertEqual(lines[0], f"{app} {plain.moment_text(ia)} stands nowhere, and never did.")
+        self.assertEqual(lines[0], f"{app} {plain.moment_text(ia)} is nowhere, and never was.")
         text, named = "\n".join(lines[1:]), False
         if app in planner.active():
             try:
@@ -171,11 +171,11 @@ class Nowhere(unittest.TestCase):
                 named = (ia // plain.DAY, ia % plain.DAY) in planner.named(app, ia // plain.DAY, ia // plain.DAY)
             except plain.Refusal:
                 pass
-        self.assertEqual("now nothing names it" not in text, named)
+        self.assertEqual("By the current definitions nothing names it" not in text, named)
         is_unknown = app not in planner.defined["applications"]
-        self.assertEqual("isn't defined, so nothing names a day of it" in text, is_unknown)
+        self.assertEqual("isn't defined, so no day is named for it" in text, is_unknown)
         is_pending = not planner.defined["applications"].get(app, (True, None))[0]
-        self.assertEqual("is pending, and only active ones" in text, is_pending)
+        self.assertEqual("is pending, and only active applications are planned" in text, is_pending)
         self.assertEqual("There is no long-term plan yet" in text, planner.bounds is None)
         found = {"pending": is_pending, "no long-term plan": planner.bounds is None, "isn't defined": is_unknown}
         return {"names" if named else "nothing names", *(text for text, holds in found.items() if holds)}
@@ -216,8 +216,8 @@ class Command(unittest.TestCase):
 
     def test_a_name_that_is_like_another(self):
         self.assertEqual(self.ask("LEGDER", "2024-01-13/18.00", status=1),
-                         "The application LEGDER isn't defined (is LEDGER meant?), and the plan has no occurrence of "
-                         "it.\n")
+                         "The application LEGDER isn't defined (did you mean LEDGER?), and the plan has no occurrence "
+                         "of it.\n")
 
     def test_nowhere(self):
         self.assertIn("a free day (DEFAULT lists Saturdays as free)", self.ask("LEDGER", "2024-01-13/18.00", status=1))

@@ -299,7 +299,7 @@ class Command(unittest.TestCase):
         output = self.ask("PAYROLL", "2024-02-23", 0)
         raw = "offset 25 gives Sunday 2024-02-25, the 25th day of MONTH's interval 2024-02-01 to 2024-02-29"
         for text in ("named at 08.00.", "by WAGES, due 2024-02-23 16.00", raw,
-                     "It stands in the long-term plan (serial ", "by rule 1 it goes to the work day before"):
+                     "It is in the long-term plan (serial ", "by rule 1 it goes to the work day before"):
             self.assertIn(text, output)
 
     def test_small_letters_of_an_application(self):
@@ -313,7 +313,7 @@ class Command(unittest.TestCase):
 
     def test_a_day_that_an_excluding_run_cycle_takes(self):
         output = self.ask("REPORT", "2024-12-02", 1)
-        self.assertIn("07.00 taken away by CLOSED, though MORNING names it", output)
+        self.assertIn("07.00 excluded by CLOSED, though MORNING names it", output)
 
     def test_a_pending_application_and_an_unknown_one(self):
         self.assertIn("ARCHIVE is pending", self.ask("ARCHIVE", "2024-12-02", 1))

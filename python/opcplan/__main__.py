@@ -28,7 +28,7 @@ if TYPE_CHECKING:
             """Does what the words ask for; the exit status."""
 
 GROUPS = {
-    "What stands in a plan:": ("status", "page", "late", "ready", "rows", "why", "why-day", "cal", "days", "export"),
+    "What is in a plan:": ("status", "page", "late", "ready", "rows", "why", "why-day", "cal", "days", "export"),
     "Job streams, before they are run and after:": ("lint", "check", "what-if", "run", "send", "explain", "next-job"),
     "Definitions of a plan, as job streams:": ("init", "dump", "edit", "import"),
     "One plan for many callers:": ("desk", "log", "journal", "agent"),
@@ -49,9 +49,10 @@ OTHERWISE = {
 WITH_TRACEBACK = "PLAN_TRACEBACK"
 DEFECT = 3
 END = """
-`./plan SUBCOMMAND --help` tells its words. Exit status: 0; 1 where nothing is found, something is to mend, or a file
-can't be read or written; 2 where the words are wrong; 3 where ./plan itself is; run and send have opcplan's. Stopped by
-a signal it ends by it, and leaves nothing behind. python/opcplan/plans/views.sql has views for stock sqlite3."""
+`./plan SUBCOMMAND --help` shows its words. The exit status is 0; 1 if nothing is found, something has to be repaired,
+or a file can't be read or written; 2 if the words are wrong; 3 after a defect of ./plan itself. run and send have those
+of opcplan. If a signal stops ./plan, it ends by that signal and leaves nothing behind. python/opcplan/plans/views.sql
+has views for sqlite3."""
 
 
 def module_name(name: str) -> str:
@@ -105,7 +106,7 @@ def meant_text(word: str) -> str:
     from opcplan.rules import naming_words
 
     other = OTHERWISE.get(word.lower())
-    return f" (is {other} meant?)" if other else naming_words.meant_text(word, SUBCOMMANDS)
+    return f" (did you mean {other}?)" if other else naming_words.meant_text(word, SUBCOMMANDS)
 
 
 def ask(name: str, given: list[str]) -> int:
@@ -126,7 +127,7 @@ def main(given: list[str]) -> int:
         print("\n".join(version.lines()))
         return 0
     if not given or given[0] not in SUBCOMMANDS:
-        problem = f"there is no subcommand {given[0]!r}{meant_text(given[0])}" if given else "a subcommand is wanted"
+        problem = f"there is no subcommand {given[0]!r}{meant_text(given[0])}" if given else "the subcommand is missing"
         raise UsageError(f"{problem}; ./plan --help lists all")
     return ask(given[0], given[1:])
 
@@ -155,7 +156,7 @@ def status_of(given: list[str]) -> int:
         if os.environ.get(WITH_TRACEBACK):
             raise
         what = f"{type(error).__name__}: {error}"
-        print_message(f"this is a defect of ./plan: {what}; with {WITH_TRACEBACK}=1 before it, it tells where")
+        print_message(f"this is a defect of ./plan: {what}; run it with {WITH_TRACEBACK}=1 to see where")
         return DEFECT
     return 1
 

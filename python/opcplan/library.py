@@ -183,14 +183,14 @@ class Desk:
                 if event == "entry":
                     yield answer_of(fields)
                 elif fields.get("tag") == ANEW:
-                    raise client.RequestRefused(410, f"the desk doesn't have all entries behind {since}: look at the "
-                                                "rows")
+                    raise client.RequestRefused(410, f"the desk doesn't have all entries after {since}: look at the "
+                                                     "rows")
 
 
 def check_list(name: str) -> None:
     """Asks that a list has rows. Raises ValueError."""
     if name not in LISTS:
-        raise ValueError(f"there is no list {name!r} of rows, but {', '.join(LISTS)}")
+        raise ValueError(f"there is no list {name!r} of rows; the lists are {', '.join(LISTS)}")
 
 
 def minutes_of(moment: Moment) -> int:
@@ -198,10 +198,10 @@ def minutes_of(moment: Moment) -> int:
     if isinstance(moment, str):
         found = moments.typed_moment(moment)
         if found is None:
-            raise ValueError(f"{moment!r} is no moment like 2026-11-25/06.00")
+            raise ValueError(f"{moment!r} is not a moment such as 2026-11-25/06.00")
         return found
     if moment.tzinfo is not None:
-        raise ValueError(f"{moment} has a time zone, and a plan has none")
+        raise ValueError(f"{moment} has a time zone, but a plan has none")
     return int((moment - moments.EPOCH).total_seconds()) // 60
 
 

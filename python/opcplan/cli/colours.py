@@ -16,7 +16,8 @@ OF_STATE = {"E": "red", "in error": "red", "S": "blue", "started": "blue", "C": 
 def add_words(parser: words.Parser) -> None:
     """The option that says whether there are colours, as `words.color`."""
     parser.add_argument("--color", choices=("auto", "always", "never"), default="auto",
-                        help="colours: always, never, or auto, on a terminal where NO_COLOR isn't set (else auto)")
+                        help="when to use colours: always, never, or auto, which is on a terminal if NO_COLOR isn't "
+                             "set (else auto)")
 
 
 class Paint:

@@ -66,8 +66,8 @@ def add_words(parser: Parser, what: str) -> None:
     from opcplan.cli import words
 
     parser.add_argument("-o", dest="out", metavar="FILE", type=words.file,
-                        help=f"where {what} goes (else standard output)")
-    parser.add_argument("--force", action="store_true", help="also over a file that is there, but no database")
+                        help=f"where to write {what} (else standard output)")
+    parser.add_argument("--force", action="store_true", help="overwrite a file that exists, unless it is a database")
 
 
 def objection(path: str, is_forced: bool, *plans: str) -> str | None:
@@ -75,11 +75,11 @@ def objection(path: str, is_forced: bool, *plans: str) -> str | None:
     none of these plans; another file only by force."""
     real = os.path.realpath(path)
     if real in {os.path.realpath(plan) + tail for plan in plans for tail in ("", *TAILS)} or is_of_database(real):
-        return f"{path}: a database or its log is there, or what may be one; that is never written over"
+        return f"{path}: this is, or may be, a database or its log, which is never overwritten; name another file"
     if os.path.isdir(real):
         return f"{path}: it is a folder"
     if os.path.isfile(real) and not is_forced:
-        return f"{path}: there is such a file; --force writes over it"
+        return f"{path}: the file exists already; --force overwrites it"
     return None
 
 
@@ -115,7 +115,7 @@ def write(path: str, data: bytes, is_forced: bool, *plans: str) -> None:
         else:
             put(os.path.realpath(path), data, is_forced)
     except FileExistsError:
-        raise Unwritable(f"{path}: there is such a file by now; --force writes over it") from None
+        raise Unwritable(f"{path}: somebody made this file meanwhile; --force overwrites it") from None
     except OSError as error:
         raise Unwritable(f"{path}: it can't be written: {error.strerror}") from None
 

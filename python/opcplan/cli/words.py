@@ -48,7 +48,7 @@ class Parser(argparse.ArgumentParser):
             option = word.partition("=")[0]
             if option.startswith("--") and not any(one.startswith(option) for one in known):
                 near = difflib.get_close_matches(option, known, 1)
-                return f"there is no option {option}{f' (is {near[0]} meant?)' if near else ''}"
+                return f"there is no option {option}{f' (did you mean {near[0]}?)' if near else ''}"
         return ""
 
     def plan_behind(self) -> str:
@@ -61,7 +61,7 @@ class Parser(argparse.ArgumentParser):
             return ""
         rest = list(self.typed)
         rest.remove(behind)
-        return f"PLAN.db is the first word: {shlex.join([*self.prog.split(), behind, *rest])}"
+        return f"PLAN.db comes first: {shlex.join([*self.prog.split(), behind, *rest])}"
 
     def without_option(self, message: str) -> str:
         """Which words lack the option that takes them, or nothing where another thing is wrong with the words."""
@@ -119,7 +119,7 @@ def day(text: str) -> int:
     """A day, for `type=`."""
     found = moments.day_of(text)
     if found is None:
-        raise argparse.ArgumentTypeError(f"{text!r} is no day like 2026-11-25{hint_text(hints.of_day(text))}")
+        raise argparse.ArgumentTypeError(f"{text!r} is not a day such as 2026-11-25{hint_text(hints.of_day(text))}")
     return found
 
 
@@ -127,7 +127,7 @@ def moment(text: str) -> int:
     """A moment, for `type=`."""
     found = moments.typed_moment(text)
     if found is None:
-        raise argparse.ArgumentTypeError(f"{text!r} is no moment like "
+        raise argparse.ArgumentTypeError(f"{text!r} is not a moment such as "
                                          f"2026-11-25/06.00{hint_text(hints.of_moment(text))}")
     return found
 
@@ -146,7 +146,7 @@ def hint_text(slip: str) -> str:
 def name(text: str) -> str:
     """The name of an application, for `type=`; small letters are taken as capitals."""
     if not NAME.fullmatch(text.upper()):
-        raise argparse.ArgumentTypeError(f"{text!r} is no name of an application")
+        raise argparse.ArgumentTypeError(f"{text!r} is not the name of an application")
     return text.upper()
 
 
@@ -154,7 +154,7 @@ def span(text: str) -> int:
     """A span of time in seconds, for `type=`."""
     found = amounts.seconds_of(text)
     if found is None:
-        raise argparse.ArgumentTypeError(f"{text!r} is no span of time like 90d, 12h or 4w")
+        raise argparse.ArgumentTypeError(f"{text!r} is not a span of time such as 90d, 12h or 4w")
     return found
 
 
@@ -162,16 +162,16 @@ def size(text: str) -> int:
     """A size in bytes, 0 too, for `type=`."""
     found = 0 if text == "0" else amounts.bytes_of(text)
     if found is None:
-        raise argparse.ArgumentTypeError(f"{text!r} is no size like 64K, 500M or 2G")
+        raise argparse.ArgumentTypeError(f"{text!r} is not a size such as 64K, 500M or 2G")
     return found
 
 
 def file(text: str) -> str:
     """The name of a file, for `type=`."""
     if not text:
-        raise argparse.ArgumentTypeError("'' is no name of a file")
+        raise argparse.ArgumentTypeError("'' is not the name of a file")
     if text.startswith(("http://", "https://")):
-        raise argparse.ArgumentTypeError(f"{text!r} is the address of a desk, and no file")
+        raise argparse.ArgumentTypeError(f"{text!r} is the address of a desk, not a file")
     return text
 
 
@@ -182,7 +182,7 @@ def add_plan(parser: argparse.ArgumentParser, may_lack: str = "") -> None:
     parser.add_argument("plan", metavar="PLAN.db", type=file, help=f"the file that opcplan --db keeps{may_lack}",
                         **more)
     parser.add_argument("--again", action=Again, nargs=0,
-                        help="check PLAN.db anew, even if it was checked and hasn't changed since")
+                        help="check PLAN.db again, even if it hasn't changed since the last check")
 
 
 class Again(argparse.Action):
@@ -208,4 +208,4 @@ def add_now(parser: argparse.ArgumentParser) -> None:
 def add_journal(parser: argparse.ArgumentParser) -> None:
     """The option that names a journal, as `words.journal`."""
     parser.add_argument("--journal", type=file, metavar="FILE",
-                        help="the journal of the plan's desk: when what happened, and when what waits is likely to end")
+                        help="the journal of the plan's desk, to show when jobs ran and when the rest is likely to end")

@@ -5,7 +5,7 @@ import math
 
 from opcplan.cli import words
 
-SUMMARY = "runs the jobs of what is ready, and tells a desk how they end"
+SUMMARY = "runs the jobs of what is ready, and reports to a desk how they end"
 USUAL_MOST, USUAL_EVERY, USUAL_TAIL = 4, 1.0, 1 << 16
 
 
@@ -13,14 +13,14 @@ def add_words(parser: words.Parser) -> None:
     """Adds its words to a parser."""
     parser.description = (
         "Asks a desk again and again what waits in its current plan, has arrived by the clock of this machine, and "
-        "waits for nothing that isn't complete. Where JOBS has an executable file of the application's name, the "
-        "occurrence is started at the desk, and then the file is run, with the application, the input arrival and the "
-        "serial as its words; its exit status 0 is told as `cp-complete`, any other as `cp-fail`. What it prints goes "
-        "to a log by serial. A job is never begun twice: where this agent, or one before it, was ended, jobs go on, "
-        "and the next agent tells how they ended; of one of which nothing is known that is said, and nothing is "
-        "touched. The file JOBS.toml beside the folder says how the job of an application is run, how often it is "
-        "tried, on which agents, and how many of a class run at once. "
-        "SIGTERM and SIGINT end it, with status 0; status 1 where it can't begin, 2 where the words are wrong."
+        "waits for nothing that isn't complete. If FOLDER has an executable file of the application's name, the agent "
+        "starts the occurrence at the desk and then runs the file, with the application, the input arrival and the "
+        "serial as its words. It reports exit status 0 with `cp-complete`, any other with `cp-fail`. What the job "
+        "prints goes to a log by serial. A job never begins twice. If an agent ends, its jobs go on, and the next "
+        "agent reports how they ended. If nobody knows how a job ended, the agent says so and changes nothing. The "
+        "file FOLDER.toml says how the job of an application is run, how often it is tried, on which agents, and how "
+        "many of a class run at once. SIGTERM and SIGINT end the agent with status 0. The status is 1 if it can't "
+        "begin, 2 if the words are wrong."
     )
     parser.add_argument("--desk", metavar="DESK",
                         help="http://HOST:PORT, or the path of a desk's socket (else what OPCPLAN_DESK has)")
@@ -30,9 +30,9 @@ def add_words(parser: words.Parser) -> None:
     parser.add_argument("--most", type=count, default=USUAL_MOST, metavar="N",
                         help=f"how many jobs run at once (else {USUAL_MOST})")
     parser.add_argument("--limit", type=seconds, metavar="SECONDS",
-                        help="how long a job may run; then it is ended, and that is a failure (else without end)")
+                        help="how long a job may run; then the agent ends it, and it has failed (else without end)")
     parser.add_argument("--name", type=name, metavar="NAME",
-                        help="what this agent is called, for `where` in JOBS.toml (else the name of the machine)")
+                        help="what this agent is called, for `where` in FOLDER.toml (else the name of the machine)")
     parser.add_argument("--tail", type=tail, default=USUAL_TAIL, metavar="SIZE",
                         help="how much of the end of each log the desk gets, for those who may operate (else 64K; 0 "
                         "for nothing)")
@@ -44,7 +44,7 @@ def add_words(parser: words.Parser) -> None:
 def count(text: str) -> int:
     """A number of jobs, for `type=`."""
     if not text.isascii() or not text.isdigit() or not 1 <= int(text) <= 1000:
-        raise argparse.ArgumentTypeError(f"{text!r} is no number from 1 to 1000")
+        raise argparse.ArgumentTypeError(f"{text!r} is not a number from 1 to 1000")
     return int(text)
 
 
@@ -54,7 +54,8 @@ def tail(text: str) -> int:
 
     found = words.size(text)
     if found > job_logs.MOST_OF_A_TRY:
-        raise argparse.ArgumentTypeError(f"{text!r} is more than the {job_logs.MOST_OF_A_TRY >> 10}K that a desk takes")
+        raise argparse.ArgumentTypeError(f"{text!r} is more than the {job_logs.MOST_OF_A_TRY >> 10}K that a desk "
+                                         "accepts")
     return found
 
 
@@ -63,7 +64,7 @@ def name(text: str) -> str:
     from opcplan.agent import executor
 
     if not executor.NAME.fullmatch(text):
-        raise argparse.ArgumentTypeError(f"{text!r} is no name of letters, digits, `.`, `_` and `-`")
+        raise argparse.ArgumentTypeError(f"{text!r} is not a name of letters, digits, `.`, `_` and `-`")
     return text
 
 
@@ -74,7 +75,7 @@ def seconds(text: str) -> float:
     except ValueError:
         found = math.nan
     if not 0 < found <= 10_000_000:
-        raise argparse.ArgumentTypeError(f"{text!r} is no number of seconds, more than 0")
+        raise argparse.ArgumentTypeError(f"{text!r} is not a number of seconds above 0")
     return found
 
 

@@ -20,14 +20,13 @@ class CopyRefused(Error):
 def add_words(parser: words.Parser) -> None:
     """Adds its words to a parser."""
     parser.description = (
-        "Copies PLAN.db into FILE, with what stands in its log, and asks opcplan whether it takes the copy: each page "
-        "and its sum, each row, the plan as a whole. FILE is there whole then, or not at all. PLAN.db stays as it is, "
-        "and a run over it may go on: what it answered so far is in the copy. The exit status is 1 where there is no "
-        "copy."
+        "Copies PLAN.db into FILE, with what is in its log, and has opcplan check the copy: each page and its sum, "
+        "each row, the plan as a whole. FILE is there whole then, or not at all. PLAN.db stays as it is, and a run "
+        "over it may go on: what it answered so far is in the copy. The exit status is 1 if there is no copy."
     )
     words.add_plan(parser)
     parser.add_argument("file", metavar="FILE", type=words.file, help="the copy")
-    parser.add_argument("--force", action="store_true", help="takes the place of a FILE that is there")
+    parser.add_argument("--force", action="store_true", help="replace a FILE that exists")
     add_program(parser)
 
 
@@ -35,7 +34,7 @@ def run(given: argparse.Namespace) -> int:
     """Does what the words ask for; the exit status."""
     target = os.path.realpath(given.file)
     if target in {os.path.realpath(given.plan) + tail for tail in (*plan_file.TAILS, "-shm")}:
-        raise UsageError(f"{given.file}: that is the plan, or stands beside it; name another file")
+        raise UsageError(f"{given.file}: this is the plan, or belongs to it; name another file")
     try:
         check_link(given.file)
         check_place(target, given.force)
@@ -67,14 +66,13 @@ def check_place(target: str, is_forced: bool) -> None:
     """Asks that a copy may stand at a place: no file is there, or may be taken away, and no log that would be read with
     it. Raises CopyRefused."""
     if os.path.lexists(target) and not os.path.isfile(target):
-        raise CopyRefused("it is no file")
+        raise CopyRefused("it is not a file")
     if os.path.exists(target) and not is_forced:
-        raise CopyRefused("there is such a file; --force takes its place")
+        raise CopyRefused("the file exists already; --force replaces it")
     for tail in plan_file.TAILS[1:]:
         if checked_copy.holds_something(target + tail):
-            raise CopyRefused(f"{os.path.basename(target)}{tail} stands beside it, and would be read with the copy; "
-                              "name "
-                              "another file, or take that one away")
+            raise CopyRefused(f"{os.path.basename(target)}{tail} is beside it and would be read with the copy; name "
+                              "another file, or remove that one")
 
 
 def put(copy: str, target: str, plan: str, is_forced: bool) -> None:
@@ -88,7 +86,7 @@ def put(copy: str, target: str, plan: str, is_forced: bool) -> None:
             try:
                 atomic_files.rename_new(part, target)
             except FileExistsError:
-                raise CopyRefused("there is such a file by now; --force takes its place") from None
+                raise CopyRefused("somebody made this file meanwhile; --force replaces it") from None
     output.sync_folder(target)
 
 

@@ -24,15 +24,15 @@ Sign = Callable[[int], str]  # behind a day
 def add_words(parser: words.Parser) -> None:
     """Adds its words to a parser."""
     parser.description = (
-        "Prints a year of a calendar of PLAN.db, with a star behind each free day; or of a period, with ( behind the "
-        "first day of each interval, ) behind the last one, | behind one that is both, and - behind a day in none. The "
-        "work days of a period of type W are those of the default calendar. The exit status is 1 where the plan has no "
+        "Prints a year of a calendar of PLAN.db, with a star after each free day. Or it prints a year of a period: ( "
+        "follows the first day of each interval, ) the last one, | a day that is both, and - a day in no interval. The "
+        "work days of a period of type W are those of the default calendar. The exit status is 1 if the plan has no "
         "such calendar and no such period."
     )
     words.add_plan(parser)
     parser.add_argument("name", metavar="NAME", type=edit_words.name, help="the calendar, or the period")
     parser.add_argument("year", metavar="YEAR", type=year, nargs="?", help="the year (else that of the clock)")
-    parser.add_argument("--period", action="store_true", help="the period, also where a calendar has the same name")
+    parser.add_argument("--period", action="store_true", help="the period, even if a calendar has the same name")
     colours.add_words(parser)
     parser.is_mixed = True
 
@@ -40,7 +40,7 @@ def add_words(parser: words.Parser) -> None:
 def year(text: str) -> int:
     """A year of a plan, for `type=`."""
     if not text.isdecimal() or not moments.FIRST_YEAR <= int(text) <= moments.LAST_YEAR:
-        raise argparse.ArgumentTypeError(f"{text!r} is no year from {moments.FIRST_YEAR} to {moments.LAST_YEAR}")
+        raise argparse.ArgumentTypeError(f"{text!r} is not a year from {moments.FIRST_YEAR} to {moments.LAST_YEAR}")
     return int(text)
 
 

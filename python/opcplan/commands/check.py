@@ -11,7 +11,7 @@ from opcplan.plans.stream_state import Known
 from opcplan.rules import explanations, lint_checks, printable, stream
 from opcplan.rules.stream import Item, Source
 
-SUMMARY = "what a stream drops, what it lacks and what would be refused, over a plan"
+SUMMARY = "what a stream would drop, what it lacks and what would be refused, over a plan"
 
 
 @dataclasses.dataclass
@@ -28,10 +28,11 @@ class Checked:
 def add_words(parser: words.Parser) -> None:
     """Adds its words to a parser."""
     parser.description = (
-        "Runs STREAM over a private copy of PLAN.db, and tells by line what each block drops or changes of what is "
-        "defined (a definition is replaced whole), what stream and plan together don't define, loops of predecessors "
-        "with their members, what else `./plan lint` finds, and each statement that would be refused, with the reason. "
-        "The plan stays as it is. The exit status is 1 where there is something to tell. " + stream.BOUND
+        "Runs STREAM over a private copy of PLAN.db, and reports what it finds by line. It reports what each block "
+        "drops or changes of what is defined, because a definition is replaced whole. It reports what neither stream "
+        "nor plan defines, loops of predecessors with their members, and what else `./plan lint` finds. It reports "
+        "each statement that would be refused, with the reason. The plan stays as it is. The exit status is 1 if there "
+        "is something to report. " + stream.BOUND
     )
     words.add_plan(parser)
     trial_words.add_words(parser, "runs")
@@ -77,5 +78,5 @@ def lines_of(found: Checked) -> list[str]:
     count = f"{found.answered - found.refused} accepted, {found.refused} refused"
     if found.kept:
         jobs = "is a job" if found.kept == 1 else "are jobs"
-        count += f"; {found.kept} of them {jobs} that the plan keeps, answered as then"
+        count += f"; {found.kept} of them {jobs} that the plan keeps, with the same answer again"
     return [*lines, *([""] if lines else []), count, *map(printable.fit, found.end)]

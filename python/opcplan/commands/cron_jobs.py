@@ -17,12 +17,11 @@ USUAL_SHELL, USUAL_PATH = "/bin/sh", "/usr/bin:/bin"
 def ask_folder(folder: str, apps: list[str]) -> None:
     """Asks that a folder is there, or can be made, and has none of some files yet. Raises ChangeRefused."""
     if os.path.lexists(folder) and not os.path.isdir(folder):
-        raise ChangeRefused(f"{folder}: it is no folder", 2)
+        raise ChangeRefused(f"{folder}: it is not a folder", 2)
     there = [app for app in apps if os.path.lexists(os.path.join(folder, app))]
     if there:
-        raise ChangeRefused(f"{folder}: there is a file {there[0]} in it already; no job file is written over, and "
-                            "nothing "
-                            "was written")
+        raise ChangeRefused(f"{folder}: nothing was written, because {there[0]} is there already and no job file is "
+                            "overwritten")
 
 
 def write(folder: str, lines: dict[str, Line]) -> list[str]:
@@ -44,9 +43,8 @@ def write(folder: str, lines: dict[str, Line]) -> list[str]:
         raise Unwritable(f"{error.filename or folder}: it can't be written: {error.strerror}") from None
     users = sorted({line.user for line in lines.values() if line.user})
     if users:
-        notes.append(f"Of the job files each with a user ({', '.join(users)}) runs its command by `runuser`, which "
-                     "root "
-                     "alone may; an agent of that user runs it itself.")
+        notes.append(f"Job files with a user ({', '.join(users)}) run their command by `runuser`, which only root may "
+                     "use; an agent of that user runs the command itself.")
     return notes
 
 

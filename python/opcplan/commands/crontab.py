@@ -86,7 +86,7 @@ def read(number: int, text: str, has_user: bool) -> Line:
     when, rest = timing_of(text)
     parts = rest.split(None, 1) if has_user else ["", rest]
     if len(parts) < 2 or not parts[1].strip():
-        raise UnsupportedLine("it has no command" + (" behind its user" if has_user else ""))
+        raise UnsupportedLine("it has no command" + (" after its user" if has_user else ""))
     sets = [numbers_of(*field, part) for field, part in zip(FIELDS, when)]
     weekdays = {(day - 1) % 7 for day in sets[4]}
     days_given, weekdays_given = not when[2].startswith("*"), not when[4].startswith("*")
@@ -113,12 +113,12 @@ def numbers_of(name: str, low: int, high: int, known: dict[str, int], text: str)
     for part in text.lower().split(","):
         shape = re.fullmatch(r"(?:\*|([0-9a-z]{1,3})-([0-9a-z]{1,3}))(?:/([1-9][0-9]?))?|([0-9a-z]{1,3})", part)
         if shape is None:
-            raise UnsupportedLine(f"{part[:20]!r} is no {name}")
+            raise UnsupportedLine(f"{part[:20]!r} is not a {name}")
         first, last, step, alone = shape.groups()
         begin, end = (number_of(name, low, high, known, word) if word else other
                       for word, other in ((first or alone, low), (last or alone, high)))
         if end < begin:
-            raise UnsupportedLine(f"{part[:20]!r} is no {name}: it ends before it begins")
+            raise UnsupportedLine(f"{part[:20]!r} is not a {name}: it ends before it begins")
         found.update(range(begin, end + 1, int(step or 1)))
     return found
 
@@ -127,5 +127,5 @@ def number_of(name: str, low: int, high: int, known: dict[str, int], text: str) 
     """A number of one field."""
     number = known.get(text, int(text) if text.isdecimal() else -1)
     if not low <= number <= high:
-        raise UnsupportedLine(f"{text[:20]!r} is no {name}")
+        raise UnsupportedLine(f"{text[:20]!r} is not a {name}")
     return number

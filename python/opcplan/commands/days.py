@@ -42,10 +42,10 @@ class Settings:
 def add_words(parser: words.Parser) -> None:
     """Adds its words to a parser."""
     parser.description = (
-        "Prints what the definitions of PLAN.db name, as they are now: application, input arrival, run cycle and "
-        "deadline, by arrival; of all active applications, or of one. With --try the days of a run cycle that isn't "
-        "defined, each with what names it: `--try period=MONTH rule=1 offsets=25`. Nothing is changed. The exit status "
-        "is 1 where no day is named."
+        "Prints what the definitions of PLAN.db name now: application, input arrival, run cycle and deadline, by "
+        "arrival; of all active applications, or of one. With --try it prints the days of a run cycle that you try, "
+        "each with what names it: `--try period=MONTH rule=1 offsets=25`. Nothing changes. The exit status is 1 if no "
+        "day is named."
     )
     words.add_plan(parser)
     parser.add_argument("app", metavar="APP", type=words.name, nargs="?",
@@ -94,7 +94,7 @@ def named_lines(found: Definitions, app: str | None, first: int, last: int) -> l
 
 
 OBSTACLES = {
-    "pending": "{app} is pending, so nothing of it is planned",
+    "pending": "{app} is pending, so none of it is planned",
     "calendar": "{app} names a calendar that isn't defined, so nothing can be planned (22)",
     "periods": "run cycles of {app} name periods that aren't defined, so nothing can be planned (23)",
 }
@@ -117,13 +117,14 @@ def tried_lines(
     """A line for each day that a run cycle names which isn't defined."""
     pairs = dict(fields_given)
     if app or len(pairs) < len(fields_given):
-        raise ChangeRefused("--try takes no APP: it goes by calendar=" if app else "a field is given twice", 2)
+        raise ChangeRefused("--try takes no APP; give a calendar with "
+                            "calendar=" if app else "you gave a field twice", 2)
     name = pairs.pop("calendar", "").upper() or None
     if name is not None and name not in found.calendars:
         raise ChangeRefused(edit_words.lack("calendar", name, found.calendars))
     fields = edit_run_cycle.wanted_fields(pairs.items())
     if not fields.get("period"):
-        raise ChangeRefused(f"period= is wanted too; the plan has {few(found.periods) or 'none'}", 2)
+        raise ChangeRefused(f"--try needs period= too; the plan has {few(found.periods) or 'none'}", 2)
     usual = {"type": "N", "rule": "E", "offsets": "1", "in effect": "1972-01-01", "out of effect": "",
              "input arrival": "00.00", "deadline day": "0", "deadline time": "23.59"}
     cycle = edit_run_cycle.cycle_of({"application": TRIED, "name": TRIED, **usual, **fields})

@@ -28,20 +28,20 @@ def add_words(parser: words.Parser) -> None:
     """Adds its words to a parser."""
     parser.description = (
         "Keeps one opcplan over PLAN.db and answers callers by HTTP: statements, lists, events, a copy of the plan. "
-        "Each change stands in the journal before it is done; with --log in a log that outlives this machine. "
-        "docs/use/DESK.md has what may be asked, who may, and how "
-        "it is run as a service. It ends by SIGTERM or SIGINT, with status 0; what it was asked is answered then, and "
-        "PLAN.db has the plan alone. Status 1 where it can't begin, 2 where the words are wrong."
+        "The desk writes each change to the journal before it does it; with --log to a log that outlives this machine. "
+        "docs/use/DESK.md says what callers may ask, who may, and how to run it as a service. SIGTERM and SIGINT end "
+        "it with status 0: it answers what it has received, and then PLAN.db alone has the plan. The status is 1 if it "
+        "can't begin, 2 if the words are wrong."
     )
     words.add_plan(parser)
     parser.add_argument("--log", type=log_words.address, metavar="LOG",
                         help="a log in etcd that several desks share, each with a plan of its own (else the journal "
                         f"alone): {log_words.EXAMPLE}")
     parser.add_argument("--from", dest="source", metavar="DESK",
-                        help="another desk of the log, whose plan is taken where there is no PLAN.db yet")
+                        help="another desk of the log, whose plan is copied if there is no PLAN.db yet")
     log_words.add_etcd(parser)
     parser.add_argument("--listen", type=address, metavar="HOST:PORT",
-                        help=f"an address (else {USUAL} where there is no --socket); port 0 takes a free one")
+                        help=f"an address (else {USUAL} if there is no --socket); port 0 is a free one")
     parser.add_argument("--socket", type=words.file, metavar="PATH",
                         help="a Unix socket, whose callers are known by their user")
     parser.add_argument("--journal", type=words.file, metavar="FILE",
@@ -51,12 +51,13 @@ def add_words(parser: words.Parser) -> None:
     parser.add_argument("--tokens", type=words.file, metavar="FILE",
                         help="lines `SHA256 USER ROLE`, for callers by the address")
     parser.add_argument("--host", metavar="NAME", action="append", default=[],
-                        help="a name, with its port if it has one, under which pages ask; may stand repeatedly")
+                        help="a name, with its port if it has one, that pages may use for the desk; you may give it "
+                             "repeatedly")
     parser.add_argument("--proxy", metavar="ADDRESS|USER",
-                        help="the proxy: its address, or its user who says by the socket who is logged in")
+                        help="the proxy: its address, or its user, who says over the socket who is logged in")
     parser.add_argument("--limit", type=seconds, default=60.0, metavar="SECONDS",
-                        help="how long opcplan may say nothing while it is asked something; then it is killed and "
-                        "asked again (else 60)")
+                        help="how long opcplan may print nothing while an answer is due; then the desk kills it and "
+                             "asks again (else 60)")
     parser.add_argument("--program", type=words.file, metavar="FILE",
                         help="the planner (else the one that is built here)")
 
@@ -69,7 +70,7 @@ def address(text: str) -> Address:
     except ValueError:
         found = ""
     if not found or not port.isascii() or not port.isdigit() or int(port) > 65535:
-        raise argparse.ArgumentTypeError(f"{text!r} is no address like {USUAL}")
+        raise argparse.ArgumentTypeError(f"{text!r} is not an address such as {USUAL}")
     return Address(found, int(port))
 
 
@@ -78,7 +79,7 @@ def seconds(text: str) -> float:
     with contextlib.suppress(ValueError):
         if 0.1 <= (found := float(text)) <= 100_000:
             return found
-    raise argparse.ArgumentTypeError(f"{text!r} is no number of seconds, 0.1 at least")
+    raise argparse.ArgumentTypeError(f"{text!r} is not a number of seconds, 0.1 at least")
 
 
 def run(given: argparse.Namespace) -> int:
@@ -118,7 +119,7 @@ def wrong_words(given: Settings) -> str | None:
     listen = given.listen
     is_open = listen is not None and not ipaddress.ip_address(listen.host).is_loopback
     if listen and is_open and not (given.tokens and given.proxy):
-        return (f"{listen.host} is an address that other machines reach: it takes --tokens, and --proxy with the "
+        return (f"{listen.host} is an address that other machines reach; it needs --tokens, and --proxy with the "
                 "address of a proxy that speaks TLS")
     if given.log is None and any((given.source, given.etcd_ca, given.etcd_cert, given.etcd_key, given.etcd_user)):
         return "--from and the options of etcd go with --log"

@@ -58,7 +58,7 @@ def answer(desk: client.Client, text: bytes, used: str) -> bytes:
     except client.DeskUnreachable as why:
         advice = "nothing was sent"
         if why.may_be_done:
-            advice = f"it may be done all the same: `./plan send --desk {desk.name} --key {used} < STREAM` sends it "
+            advice = f"it may be done all the same; `./plan send --desk {desk.name} --key {used} < STREAM` sends it "
             advice += "again, and nothing is done twice"
         raise Unreadable(f"{why}; {advice}") from None
 

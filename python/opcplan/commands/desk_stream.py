@@ -80,7 +80,7 @@ def is_refusal(answer: bytes) -> bool:
 
 def advice_of(desk: client.Client, used: str) -> str:
     """What to do where it isn't known what was done."""
-    return (f"it may be done all the same: `./plan send --desk {desk.name} --key {used} < STREAM` sends it again, and "
+    return (f"it may be done all the same; `./plan send --desk {desk.name} --key {used} < STREAM` sends it again, and "
             "nothing is done twice")
 
 

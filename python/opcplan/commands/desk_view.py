@@ -31,8 +31,8 @@ class Done(NamedTuple):
         """Since when something is so, in a sentence."""
         by = f"`{self.name}`, job {self.job}"
         if self.at is None:
-            return f"it is so by {by}"
-        return f"it is so since {journal.local(self.at):%Y-%m-%d %H.%M.%S}, by {self.who} ({by})"
+            return f"{by}, made it so"
+        return f"{self.who} made it so at {journal.local(self.at):%Y-%m-%d %H.%M.%S}, by {by}"
 
 
 class View:

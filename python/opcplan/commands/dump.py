@@ -33,8 +33,8 @@ class Unprintable(Error):
 def add_words(parser: words.Parser) -> None:
     """Adds its words to a parser."""
     parser.description = (
-        "Prints the definitions of PLAN.db as a job stream that gives equal definitions, run over an empty plan. Each "
-        "statement has a job number of its own, counted on from the greatest that the plan has used."
+        "Prints the definitions of PLAN.db as a job stream. Run over an empty plan, it gives equal definitions. Each "
+        "statement has a job number of its own; they begin after the greatest one that the plan has used."
     )
     words.add_plan(parser)
     parser.add_argument("--job", metavar="N", type=job_number, help="the job number of the first statement")
@@ -43,7 +43,7 @@ def add_words(parser: words.Parser) -> None:
 def job_number(text: str) -> int:
     """A job number, for `type=`."""
     if not re.fullmatch(r"[1-9][0-9]{0,8}", text):
-        raise argparse.ArgumentTypeError(f"{text!r} is no job number, 1 to {GREATEST_JOB}")
+        raise argparse.ArgumentTypeError(f"{text!r} is not a job number, 1 to {GREATEST_JOB}")
     return int(text)
 
 
@@ -67,7 +67,7 @@ def stream_of(plan: Plan, first_job: int | None = None) -> str:
         text.append(f"\n* {title}\n")
         for block in blocks:
             if number > GREATEST_JOB:
-                raise Unprintable(f"no job numbers are left after {GREATEST_JOB}; name a smaller one by --job")
+                raise Unprintable(f"there is no job number above {GREATEST_JOB}; give a smaller one with --job")
             text.append(f"define {kind} --job {number}\n{block}/*\n")
             number = job_numbers.following(number)
     return "".join(text)
@@ -101,7 +101,7 @@ def blocks_of(kind: str, records: dict[str, list[str]]) -> list[str]:
     for name, lines in records.items():
         text = "".join(line + "\n" for line in lines)
         if len(text) > MOST_BYTES:
-            raise Unprintable(f"the {kind} of {name} take {len(text)} bytes, and a block holds at most {MOST_BYTES}")
+            raise Unprintable(f"the {kind} of {name} take {len(text)} bytes, but a block has at most {MOST_BYTES}")
         if size + len(text) > MOST_BYTES:
             blocks.append([])
             size = 0

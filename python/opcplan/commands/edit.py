@@ -65,10 +65,10 @@ def add_words(parser: words.Parser) -> None:
     """Adds its words to a parser."""
     parser.description = (
         "Prints the job stream that makes one change of the definitions of PLAN.db: the whole block of what changes, "
-        "as the plan has it, with that change in it. What changes, what stays, and what takes it into the plan is told "
-        "on standard error. The plan itself stays: `./plan edit PLAN.db .. | ./opcplan --db PLAN.db` changes it. The "
-        "exit status is 1 where a name isn't known, nothing would change, or no plan could go by it; 2 where a value "
-        "is wrong; then nothing is printed."
+        "as the plan has it, with that change in it. Standard error says what changes, what stays, and which statement "
+        "puts it into the long-term plan. The plan itself stays as it is: `./plan edit PLAN.db .. | ./opcplan --db "
+        "PLAN.db` changes it. The exit status is 1 if a name isn't known, nothing would change, or planning would be "
+        "refused; 2 if a value is wrong. Then nothing is printed."
     )
     words.add_plan(parser)
     parser.likely = kind_meant

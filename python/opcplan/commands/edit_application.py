@@ -26,9 +26,10 @@ def add_words(parser: Parser) -> None:
     """Adds its words to a parser."""
     parser.add_argument("name", metavar="NAME", type=edit_words.name, help="the application")
     parser.add_argument("changes", metavar="CHANGE", type=change_of, nargs="+",
-                        help="active, pending, calendar=NAME, or calendar= for the default one; new, for one that "
-                        "isn't there yet, and then also period=, ia=, deadline=, rule=, offsets= and other fields of "
-                        "its run cycle, whose name cycle=NAME gives (else that of its period)")
+                        help="active, pending, calendar=NAME, or calendar= for the default one; `new` for an "
+                             "application that doesn't exist yet, and then also period=, ia=, deadline=, rule=, "
+                             "offsets= and other fields of its run cycle, which gets the name of cycle=NAME (else that "
+                             "of its period)")
 
 
 def change_of(text: str) -> tuple[str, bool | str | None]:
@@ -43,7 +44,7 @@ def change_of(text: str) -> tuple[str, bool | str | None]:
     if key.lower() == "cycle" and equals:
         return "cycle", edit_words.short_name(value)
     if not equals or not edit_run_cycle.is_field(key):
-        raise argparse.ArgumentTypeError(f"{text!r} is none of active, pending, new and calendar=NAME")
+        raise argparse.ArgumentTypeError(f"{text!r} is not one of active, pending, new and calendar=NAME")
     return key.lower(), value
 
 
@@ -56,21 +57,20 @@ def change(plan: Plan, found: Definitions, given: Settings) -> Change:
     """The change that is asked for."""
     app, wanted = given.name, dict(given.changes)
     if len(wanted) < len(given.changes):
-        raise ChangeRefused("one thing is given twice", 2)
+        raise ChangeRefused("you gave one thing twice", 2)
     if wanted.pop("new", False):
         return new_application(plan, found, app, wanted)
     if app not in found.applications:
         raise ChangeRefused(f"there is no application {app}{meant_text(app, found.applications)}; `./plan edit PLAN.db "
                             f"application {app} new period=DAY ia=20.00 deadline=0/23.00` makes one")
     if fields := wanted.keys() - {"status", "calendar"}:
-        raise ChangeRefused(f"{app} is there already: `./plan edit PLAN.db run-cycle {app} NAME {min(fields)}=..` "
-                            "changes a "
-                            "run cycle of it", 2)
+        raise ChangeRefused(f"{app} exists already; `./plan edit PLAN.db run-cycle {app} NAME {min(fields)}=..` "
+                            "changes a run cycle of it", 2)
     before = found.applications[app]
     after = Application(wanted.get("status", before.is_active), wanted.get("calendar", before.calendar))
     if after == before:
         is_so = f"{status_text(before)}, {calendar_text(found, before)}"
-        raise ChangeRefused(f"{app} is so already ({is_so}): nothing would change")
+        raise ChangeRefused(f"{app} is already {is_so}; nothing would change")
     if after.calendar is not None and after.calendar not in (before.calendar, *found.calendars):
         raise ChangeRefused(edit_words.lack("calendar", after.calendar, found.calendars))
     ask_plannable(found, app, after)
@@ -82,7 +82,7 @@ def change(plan: Plan, found: Definitions, given: Settings) -> Change:
 def new_application(plan: Plan, found: Definitions, app: str, wanted: dict[str, Any]) -> Change:
     """The change that makes an application, with a run cycle where fields of one are given."""
     if app in found.applications:
-        raise ChangeRefused(f"{app} is there already; without `new` it changes")
+        raise ChangeRefused(f"{app} exists already; leave `new` away to change it")
     after = Application(wanted.pop("status", True), wanted.pop("calendar", None))
     if after.calendar is not None and after.calendar not in found.calendars:
         raise ChangeRefused(edit_words.lack("calendar", after.calendar, found.calendars))
@@ -94,7 +94,7 @@ def new_application(plan: Plan, found: Definitions, app: str, wanted: dict[str, 
         name = cycle or edit_words.short_name(wanted.get("period") or "DAY")
         made.also.append(edit_run_cycle.new_cycle(plan, then, app, name, wanted.items(), True))
     elif not found.run_cycles.get(app):
-        made.sentences.append("It has no run cycles, so no day is named: `run-cycle` gives it one.")
+        made.sentences.append("It has no run cycles, so no day is named; `run-cycle` adds one.")
     ask_plannable(then, app, after)
     return made
 
@@ -105,12 +105,12 @@ def ask_plannable(found: Definitions, app: str, after: Application) -> None:
         return
     name = after.calendar or found.default_calendar
     if name != found.default_calendar and name not in found.calendars:
-        raise ChangeRefused(f"{app} goes by the calendar {name}, which isn't defined: while {app} is active, planning "
+        raise ChangeRefused(f"{app} uses the calendar {name}, which isn't defined; while {app} is active, planning "
                             "statements would be refused (22)")
     lacking = found.lacking_periods(app)
     if lacking:
-        raise ChangeRefused(f"run cycles of {app} name {few(lacking)}, which no period is: while {app} is active, "
-                            "planning statements would be refused (23)")
+        raise ChangeRefused(f"run cycles of {app} name {few(lacking)}, and no such period is defined; while {app} is "
+                            "active, planning statements would be refused (23)")
 
 
 def status_text(application: Application) -> str:
@@ -139,12 +139,12 @@ def others_sentences(plan: Plan, found: Definitions, app: str, before: Applicati
     (planned,) = plan.db.execute(query, (app,)).fetchone()
     sentences = []
     if before.is_active and not after.is_active:
-        sentences.append(f"While it is pending nothing of it is planned or can be added; {planned:,} that "
-                         f"{'is' if planned == 1 else 'are'} planned by its run cycles would be withdrawn.")
+        sentences.append("While it is pending, it isn't planned and nothing of it can be "
+                         f"added; {count_text(planned, 'occurrence')} of its run cycles would be withdrawn.")
     if after.is_active and not found.run_cycles.get(app):
         sentences.append("It has no run cycles, so no day is named.")
     waiting = [name for name, listed in found.predecessors.items() if app in listed and name != app]
     cycles, listed = found.run_cycles.get(app, {}), found.predecessors.get(app, {})
     own = f"{count_text(len(cycles), 'run cycle')} and its {count_text(len(listed), 'predecessor')}"
     lists = f", and so do the lists that have it ({few(waiting)})" if waiting else ""
-    return [*sentences, f"Its {own} stay{lists}."]
+    return [*sentences, f"Its {own} stay as they are{lists}."]

@@ -42,7 +42,7 @@ def add_words(parser: Parser) -> None:
     parser.add_argument("entries", metavar="ENTRY", type=entries,
                         help="a day like 2026-12-24, days like 2026-12-24..2026-12-31, or a weekday, MON to SUN")
     parser.add_argument("status", metavar="STATUS", type=status,
-                        help="free, work, or unlist: what the weekday says counts then")
+                        help="free, work, or unlist; with unlist the weekday decides")
 
 
 def name_lacked(found: Definitions, typed: list[str]) -> str:
@@ -70,7 +70,7 @@ def entries(text: str) -> list[Entry]:
 def status(text: str) -> str:
     """A status, as its word in small letters."""
     if text.lower() not in STATUSES:
-        raise argparse.ArgumentTypeError(f"{text!r} is none of free, work and unlist (days are given as FIRST..LAST)")
+        raise argparse.ArgumentTypeError(f"{text!r} is not one of free, work and unlist (give days as FIRST..LAST)")
     return text.lower()
 
 
@@ -97,14 +97,14 @@ def of_entries(plan: Plan, found: Definitions, name: str, wanted: Wanted) -> Cha
     is_gone = not after.weekdays and not after.dates
     users = [app for app in found.applications if found.calendar_name(app) == name]
     if is_gone and users and name != found.default_calendar:
-        raise ChangeRefused(f"nothing would be left that {name} lists, and it would have to go; but {few(users)} "
-                            f"{'goes' if len(users) == 1 else 'go'} by it. With MON listed as work each day is a work "
-                            "day")
+        raise ChangeRefused(f"{name} would list nothing and would be undefined, "
+                            f"but {few(users)} {'uses' if len(users) == 1 else 'use'} it. List MON as work to make "
+                            "each day a work day")
     sentences = [
         f"{name} changes in {count_text(len(changed), 'entry', 'entries')}: "
         + "; ".join(few_changes(before, after, changed)) + ".",
         staying(before, wanted, changed),
-        *(["It lists nothing then and is undefined: each day is a work day by it."] if is_gone else []),
+        *(["It lists nothing then, so it is undefined, and each day is a work day."] if is_gone else []),
         *users_sentences(found, name, users),
         *early_sentences(plan, changed),
     ]
@@ -157,17 +157,17 @@ def staying(before: Calendar, wanted: Wanted, changed: Wanted) -> str:
     others = len(before.weekdays) + len(before.dates) - sum(listed(before, entry) is not None for entry in changed)
     alike = len(wanted) - len(changed)
     stay = count_text(others, "other entry stays", "other entries stay")
-    so = f" ({alike:,} of this stood so already)" if alike else ""
+    so = f" ({alike:,} of this was so already)" if alike else ""
     return f"{f'Its {stay}' if others else 'It had no others'}{so}."
 
 
 def users_sentences(found: Definitions, name: str, users: list[str]) -> list[str]:
     """Who goes by a calendar, in sentences."""
     is_default = name == found.default_calendar
-    counted = ["`dp-extend --count W` counts by it at once."] if is_default else []
+    counted = ["`dp-extend --count W` uses it at once."] if is_default else []
     if not users:
-        return [f"No application goes by {name}.", *counted]
-    return [f"By {name} {'go' if len(users) > 1 else 'goes'} {few(users)}.", *counted]
+        return [f"No application uses {name}.", *counted]
+    return [f"{few(users)} {'use' if len(users) > 1 else 'uses'} {name}.", *counted]
 
 
 def early_sentences(plan: Plan, changed: Wanted) -> list[str]:
@@ -176,5 +176,5 @@ def early_sentences(plan: Plan, changed: Wanted) -> list[str]:
     if not plan.is_created or len(days) < len(changed) or (max(days) + 1) * DAY > plan.meta["plan_end"]:
         return []
     end = moment_text(plan.meta["plan_end"])
-    return [f"All of this is before {end}, where the current plan ends: these days are planned no more, but days that "
-            "are counted over them or moved from them may be others."]
+    return [f"All of this is before {end}, where the current plan ends. These days aren't planned again, but days that "
+            "are counted over them or moved from them may change."]

@@ -95,14 +95,14 @@ def numbers_of(plan: Plan, count: int, first: int) -> list[int]:
     kept = job_numbers.kept_from(plan.db, first)
     found: list[int] = []
     if first in kept:
-        raise ChangeRefused(f"job {first} is kept already; name one that is free, or leave --job away", 2)
+        raise ChangeRefused(f"job {first} is used already; give a free one, or leave --job away", 2)
     number = first
     while len(found) < count and number <= job_numbers.GREATEST:
         if number not in kept:
             found.append(number)
         number = job_numbers.following(number)
     if len(found) < count:
-        raise ChangeRefused("no job numbers are left behind it; name a smaller one that is free by --job")
+        raise ChangeRefused("there is no job number after it; give a smaller one that is free with --job")
     return found
 
 
@@ -120,14 +120,14 @@ def way_into(plan: Plan, changes: Sequence[Change], job: int) -> list[str]:
     if not any(change.is_modified for change in changes):
         return []
     if not plan.is_created:
-        return ["There is no long-term plan yet: `ltp-create` will go by it."]
+        return ["There is no long-term plan yet; `ltp-create` will use this."]
     try:
         number = str(numbers_of(plan, 1, following_free(plan, job))[0])
     except ChangeRefused:
         number = "N"
     ones = {change.one for change in changes}
     one = ones.pop() if len(ones) == 1 else None
-    alone = f", or `ltp-modify-one --app {one} --job {number}` for {one} alone," if one else ""
+    alone = f", or `ltp-modify-one --app {one} --job {number}` for {one} only," if one else ""
     end = moment_text(plan.meta["plan_end"])
-    return [f"`ltp-modify-all --job {number}`{alone} takes it into the long-term plan, from {end} on, where the "
-            "current plan ends; what stands in the current plan stays there."]
+    return [f"`ltp-modify-all --job {number}`{alone} puts it into the long-term plan from {end} on, where the current "
+            "plan ends. What is in the current plan stays there."]

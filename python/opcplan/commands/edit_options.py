@@ -36,10 +36,10 @@ def change(plan: Plan, found: Definitions, given: Settings) -> Change:
     """The change that is asked for."""
     before: dict[str, str | int] = {"default_calendar": found.default_calendar, "max_extension_hours": found.max_hours}
     if len(dict(given.pairs)) < len(given.pairs):
-        raise ChangeRefused("an option is given twice", 2)
+        raise ChangeRefused("you gave an option twice", 2)
     after = {**before, **{key: value_of(key, value) for key, value in given.pairs}}
     if after == before:
-        raise ChangeRefused("the options are so already: nothing would change")
+        raise ChangeRefused("the options have these values already; nothing would change")
     name = str(after["default_calendar"])
     if name != found.default_calendar and name not in found.calendars:
         raise ChangeRefused(edit_words.lack("calendar", name, found.calendars))
@@ -48,11 +48,11 @@ def change(plan: Plan, found: Definitions, given: Settings) -> Change:
     is_modified = name != found.default_calendar
     if is_modified:
         users = [app for app, application in found.applications.items() if application.calendar is None]
-        going = f"By the default calendar {'goes' if len(users) == 1 else 'go'} {few(users)}" if users \
-            else "No application goes by the default calendar"
-        sentences.append(f"{going}; `dp-extend --count W` counts by it at once.")
+        going = f"{few(users)} {'uses' if len(users) == 1 else 'use'} the default calendar" if users \
+            else "No application uses the default calendar"
+        sentences.append(f"{going}; `dp-extend --count W` uses it at once.")
     if after["max_extension_hours"] != before["max_extension_hours"]:
-        sentences.append("`dp-extend` asks for max_extension_hours at once.")
+        sentences.append("`dp-extend` uses max_extension_hours at once.")
     return Change("options", after, sentences, None, is_modified)
 
 

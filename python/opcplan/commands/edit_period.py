@@ -28,13 +28,12 @@ class Settings:
 def add_words(parser: Parser) -> None:
     """Adds its words to a parser."""
     parser.description = (
-        f"{parser.description} "
-        "Of type N: `add ORIGIN [END]` lists a further interval, `remove ORIGIN` takes one away, `end ORIGIN [END]` "
-        "gives one an end or takes it away; `months FIRST..LAST` lists each month from one YYYY-MM to another, "
-        "`quarters` each quarter, `weeks` each week from one day to another, and without FIRST they go on after the "
-        "last interval. With `new` before these, or before type=, origin= and interval=, the period is one that isn't "
-        "there yet. Else type=, origin= and interval= change what a period of type A or W has; "
-        "with type=N, origin= lists a first interval."
+        f"{parser.description} Of type N: `add ORIGIN [END]` lists another interval, `remove ORIGIN` removes one, `end "
+        "ORIGIN [END]` sets or removes the end of one. `months FIRST..LAST` lists each month from one YYYY-MM to "
+        "another, `quarters` each quarter, `weeks` each week from one day to another; without FIRST they go on after "
+        "the last interval. With `new` before these, or before type=, origin= and interval=, the period is a new one. "
+        "Otherwise type=, origin= and interval= change a period of type A or W; with type=N, origin= lists a first "
+        "interval."
     )
     parser.add_argument("name", metavar="NAME", type=edit_words.short_name, help="the period")
     parser.add_argument("changes", metavar="CHANGE", nargs="+",
@@ -57,22 +56,22 @@ def change(plan: Plan, found: Definitions, given: Settings) -> Change:
     before = found.periods[name]
     if verb in LISTED or verb in horizons.NEXT:
         if before.kind != "N":
-            raise ChangeRefused(f"{name} is of type {before.kind}, which lists no intervals; it has type=, origin=, "
-                                "interval=")
+            raise ChangeRefused(f"{name} is of type {before.kind}, which lists no intervals; change it with type=, "
+                                "origin=, interval=")
         entries = with_span(before, verb, more) if verb in horizons.NEXT else \
             LISTED[verb](name, before.entries, *days_of(verb, more))
         after = dataclasses.replace(before, entries=entries)
     else:
         after = with_fields(name, before, given.changes)
     if after == before:
-        raise ChangeRefused(f"{name} is so already: nothing would change")
+        raise ChangeRefused(f"{name} is so already; nothing would change")
     users = [(app, cycle.name) for app, cycles in found.run_cycles.items() for cycle in cycles.values()
              if cycle.period == name]
     shown = few(f"{cycle} of {app}" for app, cycle in users)
     is_gone = after.kind == "N" and not after.entries
     if is_gone and users:
-        raise ChangeRefused(f"no interval of {name} would be left, and it would have to go; but {shown} "
-                            f"{'counts' if len(users) == 1 else 'count'} in it")
+        raise ChangeRefused(f"no interval of {name} would be left, so it would be undefined, "
+                            f"but {shown} {'counts' if len(users) == 1 else 'count'} in it")
     counting = f"Run cycles that count in it: {shown or 'none'}; they stay as they are."
     return Change("periods", {name: None if is_gone else after}, [*differences(name, before, after), counting])
 
@@ -80,13 +79,13 @@ def change(plan: Plan, found: Definitions, given: Settings) -> Change:
 def new_period(found: Definitions, name: str, words: list[str]) -> Change:
     """The change that makes a period, of intervals that are listed, or of type A or W."""
     if name in found.periods:
-        raise ChangeRefused(f"{name} is there already; without `new` it changes")
+        raise ChangeRefused(f"{name} exists already; leave `new` away to change it")
     if not words:
-        raise ChangeRefused("`new` wants months, quarters or weeks FIRST..LAST, or type=, origin= and interval=", 2)
+        raise ChangeRefused("`new` needs months, quarters or weeks FIRST..LAST, or type=, origin= and interval=", 2)
     verb, *more = words
     if verb in horizons.NEXT:
         if more and more[0].startswith(".."):
-            raise ChangeRefused(f"a new period has no last interval to go on from: `{verb}` wants FIRST..LAST", 2)
+            raise ChangeRefused(f"a new period has no last interval to go on from; `{verb}` needs FIRST..LAST", 2)
         after = Period("N", entries=with_span(Period("N"), verb, more))
     elif verb == "add":
         after = Period("N", entries=added(name, [], *days_of(verb, more)))
@@ -99,7 +98,7 @@ def new_period(found: Definitions, name: str, words: list[str]) -> Change:
 def days_of(verb: str, words: list[str]) -> tuple[int, int | None]:
     """The days that are given with a verb: an origin, and an end or None."""
     if len(words) not in ((1,) if verb == "remove" else (1, 2)):
-        raise ChangeRefused(f"`{verb}` wants an origin{'' if verb == 'remove' else ', and an end where it has one'}", 2)
+        raise ChangeRefused(f"`{verb}` needs an origin{'' if verb == 'remove' else ', and an end if it has one'}", 2)
     try:
         origin, *ends = map(edit_words.day, words)
     except argparse.ArgumentTypeError as wrong:
@@ -140,7 +139,7 @@ def ask_listed(name: str, entries: list[Entry], origin: int) -> None:
 def asked_end(origin: int, end: int | None) -> int | None:
     """An end that isn't before its origin."""
     if end is not None and end < origin:
-        raise ChangeRefused(f"the end {day_text(end)} is before its own origin, {day_text(origin)}", 2)
+        raise ChangeRefused(f"the end {day_text(end)} is before its origin, {day_text(origin)}", 2)
     return end
 
 
@@ -154,7 +153,7 @@ def with_span(before: Period, verb: str, words: list[str]) -> list[Entry]:
     first, dots, last = words[0].partition("..") if len(words) == 1 else ("", "", "")
     form = "FIRST..LAST, as 2027-01-04..2027-12-31" if verb == "weeks" else "FIRST..LAST, as 2027-01..2027-12"
     if not dots or not last:
-        raise ChangeRefused(f"`{verb}` wants {form}; without FIRST it goes on after the last interval", 2)
+        raise ChangeRefused(f"`{verb}` needs {form}; without FIRST it goes on after the last interval", 2)
     begin = after(before.entries[-1].origin) if not first else begin_of(verb, first)
     end = begin_of(verb, last)
     if end < begin:
@@ -174,7 +173,7 @@ def begin_of(verb: str, text: str) -> int:
         day: int = edit_words.day(text if verb == "weeks" else f"{text}-01")
         return day
     except argparse.ArgumentTypeError as wrong:
-        why = str(wrong) if verb == "weeks" else f"{text!r} is no month like 2027-01"
+        why = str(wrong) if verb == "weeks" else f"{text!r} is not a month such as 2027-01"
         raise ChangeRefused(why, 2) from None
 
 
@@ -187,20 +186,20 @@ def with_fields(name: str, before: Period, words: list[str]) -> Period:
     wanted = {key.lower(): value for key, value in pairs}
     strange = [key for key in wanted if key not in KEYS]
     if strange or len(wanted) < len(pairs):
-        raise ChangeRefused(f"{strange[0]!r} is none of {', '.join(KEYS)}" if strange
-                            else "a field is given twice", 2)
+        raise ChangeRefused(f"{strange[0]!r} is not one of {', '.join(KEYS)}" if strange
+                            else "you gave a field twice", 2)
     held = {"type": before.kind} if before.kind else {}
     if before.kind not in ("", "N"):
         held |= {"origin": day_text(before.origin), "interval": str(before.interval)}
     fields = {**held, **wanted}
     if "type" not in fields:
-        raise ChangeRefused("type= is wanted too", 2)
+        raise ChangeRefused("give type= too", 2)
     kind = fields["type"] = fields["type"].upper()
     if before.kind == kind == "N":
         raise ChangeRefused(f"{name} is of type N, whose intervals `add`, `remove` and `end` change", 2)
     lacking = [key for key in KEYS if key not in fields and (key, kind) != ("interval", "N")]
     if lacking or kind == "N" and "interval" in wanted:
-        raise ChangeRefused(f"for type {kind} {lacking[0]}= is wanted too" if lacking
+        raise ChangeRefused(f"type {kind} needs {lacking[0]}= too" if lacking
                             else "type N has no interval=", 2)
     return period_of(name, fields)
 
@@ -225,7 +224,7 @@ def differences(name: str, before: Period, after: Period) -> list[str]:
         gone = [f"- {interval_text(span)}" for span in old if span not in new]
         come = [f"+ {interval_text(span)}" for span in new if span not in old]
         if not gone + come:
-            return [f"The intervals of {name} stay as they are; the record has its end written out or not."]
+            return [f"The intervals of {name} stay the same; only whether a record writes out its end changes."]
         return [f"The intervals of {name}: {'; '.join(gone + come)}; {len(new) - len(come):,} stay."]
     return [f"{name}: {period_text(before)} -> {period_text(after)}."]
 

@@ -32,7 +32,7 @@ def add_words(parser: Parser) -> None:
     parser.add_argument("verb", metavar="add|remove", type=verb, help="add (also for another limit), or remove")
     parser.add_argument("other", metavar="P", type=edit_words.name, help="the application that it waits for")
     parser.add_argument("hours", metavar="HOURS", type=edit_words.hours, nargs="?",
-                        help="how many hours before APP an occurrence of P may arrive at most; none: no limit")
+                        help="how many hours before APP an occurrence of P may arrive at most (else without a limit)")
 
 
 def verb(text: str) -> str:
@@ -55,10 +55,10 @@ def change(plan: Plan, found: Definitions, given: Settings) -> Change:
     else:
         after, sentences = removed(given.app, given.other, given.hours, before)
     others = [name for name in before if name != given.other]
-    sentences.append(f"What else {given.app} waits for stays: {few(others)}." if others
-                     else f"{given.app} waited for no other." if given.other in before
+    sentences.append(f"{given.app} still waits for {few(others)}." if others
+                     else f"{given.app} waited for nothing else." if given.other in before
                      else f"{given.app} waits for nothing else.")
-    sentences.append("What is started by then keeps what it waited for.")
+    sentences.append("An occurrence that has started by then keeps what it waited for.")
     is_active = given.app in found.applications and found.applications[given.app].is_active
     return Change("predecessors", {given.app: after or None}, sentences, given.app if is_active else None)
 
@@ -69,10 +69,10 @@ def added(found: Definitions, app: str, other: str, hours: int | None, before: L
         if name not in found.applications:
             raise ChangeRefused(f"there is no application {name}{meant_text(name, found.applications)}")
     if before.get(other, 0) == hours:
-        raise ChangeRefused(f"{app} waits for {other} already, {limit_text(hours)}: nothing would change")
+        raise ChangeRefused(f"{app} waits for {other} already, {limit_text(hours)}; nothing would change")
     ring = loops.ring_of({**found.predecessors, app: {other: hours}}, app)
     if other not in before and ring:
-        raise ChangeRefused(f"that makes a loop, {' waits for '.join(ring)}, and planning statements would be refused "
+        raise ChangeRefused(f"that makes a loop, {' waits for '.join(ring)}, so planning statements would be refused "
                             "(25)")
     if other in before:
         sentences = [f"{app} waits for {other}: {limit_text(before[other])} -> {limit_text(hours)}."]
@@ -85,12 +85,12 @@ def added(found: Definitions, app: str, other: str, hours: int | None, before: L
 def removed(app: str, other: str, hours: int | None, before: Limits) -> tuple[Limits, list[str]]:
     """The list without a name, and what changes."""
     if hours is not None:
-        raise ChangeRefused("hours are for add alone", 2)
+        raise ChangeRefused("only `add` takes hours", 2)
     if other not in before:
         raise ChangeRefused(f"{app} doesn't wait for {other}{meant_text(other, before)}: its list has "
                             f"{few(before) or 'nothing'}")
     after = {name: within for name, within in before.items() if name != other}
-    return after, [f"{app} waits no more for {other} ({limit_text(before[other])})."]
+    return after, [f"{app} no longer waits for {other} ({limit_text(before[other])})."]
 
 
 def limit_text(hours: int | None) -> str:
@@ -102,4 +102,4 @@ def slips(found: Definitions, app: str, listed: Limits) -> list[str]:
     """What is likely a slip in a list, in sentences."""
     now = stream_state.Known(is_whole=True)
     now.defined = dataclasses.replace(found, predecessors={app: listed})
-    return [f"Likely a slip: {finding.text}." for finding in lint_checks.predecessors(now)]
+    return [f"Likely a mistake: {finding.text}." for finding in lint_checks.predecessors(now)]

@@ -37,10 +37,10 @@ def add_words(parser: Parser) -> None:
     parser.add_argument("app", metavar="APP", type=edit_words.name, help="its application")
     parser.add_argument("name", metavar="NAME", type=edit_words.short_name, help="the run cycle")
     parser.add_argument("pairs", metavar="FIELD=VALUE", type=field_of, nargs="+",
-                        help=f"new, for a run cycle that isn't there yet, and then period=, ia= and deadline=; else "
-                        f"{', '.join(FIELDS)}; offset and ia for short, and deadline=DAYS/HH.MM for both of its "
-                        "fields, deadline=HH.MM for the time alone; offsets are parted by blanks or commas; an empty "
-                        "value is none")
+                        help="`new` for a run cycle that doesn't exist yet, and then period=, ia= and deadline=. "
+                             f"Else {', '.join(FIELDS)}; offset and ia for short. deadline=DAYS/HH.MM sets both of its "
+                             "fields, deadline=HH.MM the time alone. Blanks or commas separate offsets; an empty value "
+                             "is none")
 
 
 def name_lacked(found: Definitions, typed: list[str]) -> str:
@@ -72,7 +72,7 @@ def change(plan: Plan, found: Definitions, given: Settings) -> Change:
     wanted = wanted_fields(given.pairs)
     after = cycle_of({**fields_of(plan, given.app, before), **wanted})
     if after == before:
-        raise ChangeRefused(f"{given.name} of {given.app} is so already: nothing would change")
+        raise ChangeRefused(f"{given.name} of {given.app} is so already; nothing would change")
     if after.period not in found.periods:
         raise ChangeRefused(edit_words.lack("period", after.period, found.periods))
     then = {name: after if name == given.name else cycle for name, cycle in cycles.items()}
@@ -80,7 +80,7 @@ def change(plan: Plan, found: Definitions, given: Settings) -> Change:
                  *slips(plan, found, given.app, then, after)]
     is_active = given.app in found.applications and found.applications[given.app].is_active
     if not is_active:
-        sentences.append(f"{given.app} isn't an active application, so nothing of it is planned.")
+        sentences.append(f"{given.app} isn't an active application, so none of it is planned.")
     return Change("run-cycles", {given.app: then}, sentences, given.app if is_active else None, is_active)
 
 
@@ -95,7 +95,7 @@ def new_cycle(
     """The change that gives an application one more run cycle."""
     cycles = found.run_cycles.get(app, {})
     if name in cycles:
-        raise ChangeRefused(f"{app} has a run cycle {name} already; without `new` its fields change")
+        raise ChangeRefused(f"{app} has a run cycle {name} already; leave `new` away to change its fields")
     if app not in found.applications:
         raise ChangeRefused(f"there is no application {app}{meant_text(app, found.applications)}; "
                             f"`application {app} new` makes one")
@@ -105,8 +105,7 @@ def new_cycle(
         lacking.append("deadline")
     if lacking:
         short = {field: word for word, field in OTHER_WORDS.items()}
-        raise ChangeRefused(f"{short.get(lacking[0], lacking[0])}= is wanted too: a new run cycle has a period=, an "
-                            "ia= and a "
+        raise ChangeRefused(f"{short.get(lacking[0], lacking[0])}= is missing: a new run cycle needs period=, ia= and "
                             "deadline=", 2)
     begin = plan.meta["first_day"] if plan.is_created else first_day(found.periods.get(given["period"]))
     usual = {**USUAL, **dict.fromkeys(("out of effect", "deadline day", "deadline time"), ""),
@@ -122,7 +121,7 @@ def new_cycle(
     sentences = [f"{name} of {app} is new: {shown}."]
     sentences += [f"Its other run cycles stay: {few(cycles)}."] if cycles else []
     is_active = found.applications[app].is_active
-    sentences += [] if is_active or is_new_app else [f"{app} isn't an active application, so nothing of it is planned."]
+    sentences += [] if is_active or is_new_app else [f"{app} isn't an active application, so none of it is planned."]
     return Change("run-cycles", {app: then}, [*sentences, *slips(plan, found, app, then, after)], app, is_active)
 
 
@@ -139,7 +138,7 @@ def wanted_fields(pairs: Iterable[tuple[str, str]]) -> dict[str, str]:
     for key, value in pairs:
         parts = parts_of(key, value)
         if wanted.keys() & parts.keys():
-            raise ChangeRefused(f"the field {key} is given twice", 2)
+            raise ChangeRefused(f"you gave the field {key} twice", 2)
         wanted.update(parts)
     return wanted
 
@@ -169,8 +168,7 @@ def fields_of(plan: Plan, app: str, cycle: RunCycle) -> dict[str, str]:
     """The fields of a run cycle's record, by name."""
     fields = dump.run_cycle_record(app, cycle).split(",")
     if len(fields) != len(NAMES):
-        raise Unreadable(f"{plan.path}: its rows are no sound plan: a run cycle of {app} has a name that no "
-                                   "name can be")
+        raise Unreadable(f"{plan.path}: its rows are no sound plan: a run cycle of {app} has an impossible name")
     return dict(zip(NAMES, fields))
 
 
@@ -194,12 +192,12 @@ def differences(plan: Plan, app: str, before: RunCycle, after: RunCycle) -> list
 def staying(app: str, cycles: dict[str, RunCycle], before: RunCycle, after: RunCycle) -> str:
     """What stays, in a sentence."""
     others = [name for name in cycles if name != before.name]
-    others_text = f", and so do its other run cycles: {few(others)}" if others else f"; {app} has no other one"
-    return f"All else of {before.name} stays{others_text}."
+    others_text = f", and so do its other run cycles: {few(others)}" if others else f"; {app} has no other run cycle"
+    return f"Everything else of {before.name} stays{others_text}."
 
 
 def slips(plan: Plan, found: Definitions, app: str, cycles: dict[str, RunCycle], cycle: RunCycle) -> list[str]:
     """What is likely a slip in a run cycle, in sentences."""
     now = stream_state.of_plan(plan)
     now.defined = dataclasses.replace(found, run_cycles={**found.run_cycles, app: cycles})
-    return [f"Likely a slip: {text}." for _, _, text in lint_checks.run_cycle_checks(now, app, cycle)]
+    return [f"Likely a mistake: {text}." for _, _, text in lint_checks.run_cycle_checks(now, app, cycle)]

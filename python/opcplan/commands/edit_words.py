@@ -49,7 +49,7 @@ def pair(text: str) -> tuple[str, str]:
     """`key=value`, for `type=`."""
     key, equals, value = text.partition("=")
     if not equals or not key:
-        raise argparse.ArgumentTypeError(f"{text!r} is no key=value")
+        raise argparse.ArgumentTypeError(f"{text!r} is not of the form KEY=VALUE")
     return key, value
 
 

@@ -16,10 +16,10 @@ SUMMARY = "each refusal of a stream's output: its line, its statement, what it m
 def add_words(parser: words.Parser) -> None:
     """Adds its words to a parser."""
     parser.description = (
-        "Lays the lines that a job stream was answered beside its statements, and explains each refusal. With --plan "
-        "it knows what stands in the plan too: how far it reaches, which status an occurrence has. The exit status is "
-        "0 where all statements were accepted, and 1 where some were refused, or the two don't fit. "
-        f"{stream.BOUND[:-1]}, nor an output of more than {explanations.OF_OUTPUT}."
+        "Compares the output of a job stream with its statements, and explains each refusal. With --plan it also knows "
+        "what is in the plan: how far it reaches, which status an occurrence has. The exit status is 0 if all "
+        f"statements were accepted, and 1 if some were refused, or the two don't fit. {stream.BOUND[:-1]}, nor an "
+        f"output of more than {explanations.OF_OUTPUT}."
     )
     words.add_stream(parser)
     parser.add_argument("output", metavar="OUTPUT", type=words.file, help="the file of what opcplan answered to it")
@@ -44,7 +44,7 @@ def known_at_first(path: str | None) -> Iterator[stream_state.Known]:
 def exchanged_text(stream_path: str, output_path: str) -> str:
     """That stream and output may be exchanged, where the one looks like the other; else nothing."""
     if is_answers(stream_path) and not is_answers(output_path):
-        return "; the output comes after the stream: are they exchanged?"
+        return "; the output comes after the stream; did you swap them?"
     return ""
 
 
@@ -70,9 +70,10 @@ def printed(stream_path: str, output_path: str, plan_path: str | None) -> int:
                 lines, refused, answered = explanations.explained(stream.items(text), output, now)
     except explanations.OutputMismatch as why:
         raise explanations.OutputMismatch(
-            f"{output_path} is no output of {stream_path}: {why}{exchanged_text(stream_path, output_path)}") from None
+            f"{output_path} isn't the output "
+            f"of {stream_path}: {why}{exchanged_text(stream_path, output_path)}") from None
     if not answered and (guess := exchanged_text(stream_path, output_path)):
-        raise explanations.OutputMismatch(f"{output_path} is no output of {stream_path}: it answers nothing{guess}")
+        raise explanations.OutputMismatch(f"{output_path} isn't the output of {stream_path}: it has no answers{guess}")
     count = f"{answered} statement{'' if answered == 1 else 's'}"
     were = "was" if refused == 1 else "were"
     print("\n".join([*lines, f"{refused} of {count} {were} refused." if refused else f"{count}, none refused."]))

@@ -65,30 +65,35 @@ def add_words(parser: words.Parser) -> None:
     """Adds its words to a parser."""
     parser.description = (
         "Prints occurrences of PLAN.db by input arrival: those of the long-term plan, of the current plan and of "
-        "history, or of the sets that are named. Moments are those of the plan, local and without a time zone."
+        "history, or of the sets that you name. Moments are those of the plan, local and without a time zone."
     )
     words.add_plan(parser)
     words.add_journal(parser)
     words.add_now(parser)
     form = parser.add_mutually_exclusive_group(required=True)
     form.add_argument("--ics", dest="form", action="store_const", const=calendar_texts,
-                      help="iCalendar, an event each")
+                      help="iCalendar, with an event for each")
     form.add_argument("--csv", dest="form", action="store_const", const=csv_texts,
-                      help="a table with a line of names; a cell that begins as a formula has an apostrophe before it")
+                      help="a table with a line of names; a cell that begins like a formula has an apostrophe before "
+                           "it")
     form.add_argument("--json", dest="form", action="store_const", const=json_texts, help="with what each waits for")
-    parser.add_argument("--raw", action="store_true", help="with --csv: cells as they are, for what is no spreadsheet")
-    parser.add_argument("--set", dest="sets", action="append", choices=list(SETS), help="a set; may stand repeatedly")
-    parser.add_argument("--app", type=words.name, help="of this application alone")
-    parser.add_argument("--from", dest="first", type=words.day, metavar="D", help="that arrive on this day or later")
-    parser.add_argument("--to", dest="last", type=words.day, metavar="D", help="that arrive on this day or before")
+    parser.add_argument("--raw", action="store_true",
+                        help="with --csv: cells as they are, for programs other than spreadsheets")
+    parser.add_argument("--set", dest="sets", action="append", choices=list(SETS),
+                        help="a set; you may give it repeatedly")
+    parser.add_argument("--app", type=words.name, help="only this application")
+    parser.add_argument("--from", dest="first", type=words.day, metavar="D",
+                        help="only what arrives on this day or later")
+    parser.add_argument("--to", dest="last", type=words.day, metavar="D",
+                        help="only what arrives on this day or before")
 
 
 def run(given: argparse.Namespace) -> int:
     """Does what the words ask for; the exit status."""
     if given.raw and given.form is not csv_texts:
-        raise UsageError("--raw goes with --csv alone")
+        raise UsageError("--raw goes with --csv only")
     if given.now is not None and given.journal is None:
-        raise UsageError("--now says as of when ends are expected, so it goes with --journal")
+        raise UsageError("--now says as of when ends are expected; it needs --journal")
     form = raw_csv_texts if given.raw else given.form
     begin = None if given.first is None else given.first * moments.DAY
     end = None if given.last is None else (given.last + 1) * moments.DAY - 1

@@ -45,7 +45,7 @@ class Clock:
         if not self.is_unknown and utc.time() in (MIDNIGHT, LAST_SECOND):
             return utc
         if self.is_unknown or self.calendar_zone is None:
-            why = "in a zone that isn't known" if self.is_unknown else "in no time zone"
+            why = "in a zone that ./plan doesn't know" if self.is_unknown else "in no time zone"
             raise UnsupportedEvent(f"its {name} is a moment in UTC, and it begins {why}, so the day isn't known")
         return at.astimezone(self.calendar_zone).replace(tzinfo=None)
 

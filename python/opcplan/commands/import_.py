@@ -42,13 +42,13 @@ class Settings:
 def add_words(parser: words.Parser) -> None:
     """Adds its words to a parser."""
     parser.description = (
-        "Prints the job stream that takes what FILE has into the definitions of PLAN.db. Of iCalendar (--ics) each "
-        "all-day event makes its days free in the calendar, several days and yearly rules too. Of CSV (--csv) each "
-        "record is `date[,status[,comment]]`, and the status is free, where none is given, or work. What the calendar "
-        "lists beside them stays. Of a crontab (--cron) each line makes an application with its run cycles, and the "
-        "periods that they count in are made where the plan has none that fits. What is taken, what isn't and why is "
-        "told on standard error. The exit status is 1 where something is left out or nothing would change, and 2 where "
-        f"the words or the file's records are wrong. A file of more than {OF_FILE} is not read."
+        "Prints the job stream that puts what FILE has into the definitions of PLAN.db. Of iCalendar (--ics) each "
+        "all-day event makes its days free in the calendar; events of several days and yearly rules too. Of CSV "
+        "(--csv) each record is `date[,status[,comment]]`; the status is free, also if it is missing, or work. Other "
+        "days of the calendar stay. Of a crontab (--cron) each line makes an application with its run cycles, and the "
+        "periods in which they count if the plan has none that fits. Standard error says what is imported, what isn't, "
+        "and why. The exit status is 1 if something is left out or nothing would change, and 2 if the words or the "
+        f"file's records are wrong. A file of more than {OF_FILE} isn't read."
     )
     kinds = parser.add_mutually_exclusive_group(required=True)
     kinds.add_argument("--ics", metavar="FILE", type=words.file,
@@ -56,12 +56,12 @@ def add_words(parser: words.Parser) -> None:
     kinds.add_argument("--csv", metavar="FILE", type=words.file, help="a file of records `date[,status[,comment]]`")
     kinds.add_argument("--cron", metavar="FILE", type=words.file, help="a crontab, as `crontab -l` prints it")
     parser.add_argument("--calendar", metavar="NAME", type=edit_words.name,
-                        help="the calendar that gets the days, or that a crontab's applications go by")
-    parser.add_argument("--new", action="store_true", help="also where the plan has no such calendar")
+                        help="the calendar that gets the days, or that a crontab's applications use")
+    parser.add_argument("--new", action="store_true", help="make the calendar if the plan has none of this name")
     parser.add_argument("--from", dest="first", metavar="D", type=edit_words.day,
-                        help="the first day that is taken (else the plan's first day, or the year's; of CSV: each)")
+                        help="the first day to import (else the plan's first day, or the year's; of CSV: each)")
     parser.add_argument("--to", dest="last", metavar="D", type=edit_words.day,
-                        help=f"the last day that is taken (else {LONGEST:,} days on; of CSV: each)")
+                        help=f"the last day to import (else {LONGEST:,} days on; of CSV: each)")
     parser.add_argument("--system", action="store_true",
                         help="the lines of the crontab name a user before the command, as in /etc/crontab")
     parser.add_argument("--jobs", metavar="DIR", type=words.file,
@@ -103,7 +103,7 @@ def ask_words(given: Settings) -> None:
     """Asks that the words fit together."""
     is_cron = given.form == "cron"
     if given.calendar is None and not is_cron:
-        raise ChangeRefused("--calendar NAME is wanted: the calendar that gets the days", 2)
+        raise ChangeRefused("--calendar NAME is missing, the calendar that gets the days", 2)
     if given.is_new and is_cron or (given.is_system or given.jobs) and not is_cron:
         raise ChangeRefused("--new is for holidays, and --system and --jobs are for a crontab", 2)
     if given.first is not None and given.last is not None and given.last < given.first:
@@ -114,7 +114,7 @@ def ask_calendar(found: Definitions, given: Settings) -> None:
     """Asks that the calendar is defined."""
     if given.calendar is None or given.calendar in found.calendars or given.is_new:
         return
-    new = "" if given.form == "cron" else "; with --new it is made"
+    new = "" if given.form == "cron" else "; --new makes it"
     raise ChangeRefused(edit_words.lack("calendar", given.calendar, found.calendars) + new)
 
 
@@ -133,11 +133,11 @@ def taken(plan: Plan, found: Definitions, given: Settings) -> Changes:
     else:
         days, sentences, left = import_ics.days(data, path, *window(plan, given))
     if not days:
-        raise ChangeRefused(" ".join([f"{path}: it has no day that is taken.", *left, *sentences]))
+        raise ChangeRefused(" ".join([f"{path}: it has no day to import.", *left, *sentences]))
     wanted: edit_calendar.Wanted = {Entry("date", day): days[day] for day in sorted(days)}
     change = edit_calendar.of_entries(plan, found, name, wanted)
     if name not in found.calendars:
-        sentences.append(f"{name} is new: it lists no weekday, so Saturdays and Sundays are work days by it.")
+        sentences.append(f"{name} is new: it lists no weekday, so Saturdays and Sundays are work days in it.")
     return Changes([change], [*sentences, *change.sentences], left)
 
 
@@ -154,7 +154,7 @@ def window(plan: Plan, given: Settings) -> tuple[int, int]:
     first = begin if given.first is None else given.first
     last = min(LAST_PLANNING_DAY, max(end, first) + LONGEST) if given.last is None else given.last
     if last < first:
-        raise ChangeRefused(f"--to {day_text(last)} is before {day_text(first)}, the first day that is taken", 2)
+        raise ChangeRefused(f"--to {day_text(last)} is before {day_text(first)}, the first day to import", 2)
     return first, last
 
 

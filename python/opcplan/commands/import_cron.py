@@ -72,8 +72,8 @@ def changes(
     sentences += [
         f"{count_text(len(made.applications), 'application')}; periods made: {made.period_text()}.",
         *made.short.values(),
-        "Each is due a day after it arrives, since a crontab knows no deadline, and runs on free days too, as by cron "
-        "(rule 3): `./plan edit PLAN.db run-cycle APP NAME deadline=0/HH.MM rule=1` changes that.",
+        "Each is due a day after it arrives, because a crontab has no deadlines, and runs on free days too, as with "
+        "cron (rule 3). `./plan edit PLAN.db run-cycle APP NAME deadline=0/HH.MM rule=1` changes that.",
     ]
     kinds: tuple[tuple[str, dict[str, Any]], ...] = (
         ("periods", made.periods), ("applications", made.applications), ("run-cycles", made.cycles))
@@ -98,7 +98,7 @@ class CronDefinitions:
     def take(self, line: Line) -> str:
         """Takes a line, and says in words what it makes."""
         if len(line.times) > MOST_TIMES:
-            raise UnsupportedLine(f"it runs {len(line.times):,} times a day, and at most {MOST_TIMES} are taken")
+            raise UnsupportedLine(f"it runs {len(line.times):,} times a day, but at most {MOST_TIMES} are possible")
         ways = days_of(line)
         counted = [(way.kind, *self.period_of(*way)) for way in ways]
         runs = (line.command, line.user, line.variables)
@@ -154,7 +154,7 @@ class CronDefinitions:
             if is_alike(period):
                 return known
         if name in self.found.periods and (short := self.short_text(self.found.periods[name], wanted)):
-            self.short[name] = f"{name} of the plan is taken; {short}"
+            self.short[name] = f"{name} of the plan is used; {short}"
             return name
         made = free_name(name, 8, {*self.found.periods, *self.periods})
         self.periods[made] = wanted
@@ -187,8 +187,8 @@ class CronDefinitions:
         if spans[start:start + len(listed)] != listed:
             return ""
         begin, end = day_text(listed[0].origin), day_text(listed[-1].end or self.last)
-        return (f"its months go from {begin} to {end}: add later ones before the plan gets there, by `./plan edit "
-                "PLAN.db period`.")
+        return (f"its months go from {begin} to {end}; add later ones before the plan gets there: `./plan edit PLAN.db "
+                "period`.")
 
     def period_text(self) -> str:
         """Which periods are made, and the days for which they list months."""
@@ -225,10 +225,10 @@ def days_of(line: Line) -> list[Way]:
     if not days and not weekdays or either and not (days and weekdays):
         return [Way("day", EVERY_MONTH, {1}) if line.months == EVERY_MONTH else Way("month", line.months, EVERY_DAY)]
     if days and weekdays and not either:
-        raise UnsupportedLine("it means days of the week that are certain days of the month too, and no run cycle "
-                              "names these")
+        raise UnsupportedLine("it means days of the week that are certain days of the month too, which no run cycle "
+                              "can name")
     if weekdays and line.months != EVERY_MONTH:
-        raise UnsupportedLine("it means days of the week in some months alone, and no period has these")
+        raise UnsupportedLine("it means days of the week in some months only, which no period has")
     ways = [Way("week", EVERY_MONTH, line.weekdays)] if weekdays else []
     if days and min(line.days) > max(LONGEST_MONTHS[month] for month in line.months):
         raise UnsupportedLine("no such day is in its months")

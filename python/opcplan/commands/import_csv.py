@@ -27,9 +27,9 @@ def days(data: bytes, path: str, first: int, last: int) -> Days:
                 wrong.append(f"line {number}: {why}")
                 continue
             if found.setdefault(day, is_work) != is_work:
-                wrong.append(f"line {number}: {day_text(day)} is free and a work day in one file")
+                wrong.append(f"line {number}: {day_text(day)} is both free and a work day in this file")
     except csv.Error as error:
-        raise ChangeRefused(f"{path}: it is no CSV: {error}", 2) from None
+        raise ChangeRefused(f"{path}: it isn't CSV: {error}", 2) from None
     if wrong:
         raise ChangeRefused(f"{path}: " + "; ".join(wrong[:MOST_LEFT])
                             + (f"; and {len(wrong) - MOST_LEFT:,} more lines" if len(wrong) > MOST_LEFT else ""), 2)
@@ -60,9 +60,9 @@ def records(text: str) -> Iterator[tuple[int, list[str]]]:
 def read(fields: list[str]) -> tuple[int, bool]:
     """The day of a record, and whether it is a work day."""
     if len(fields) > 3:
-        raise record_fields.InvalidField("", f"it has {len(fields)} fields, and a record is date, status, comment")
+        raise record_fields.InvalidField("", f"it has {len(fields)} fields, but a record is date, status, comment")
     if ";" in fields[0]:
-        raise record_fields.InvalidField("", "its fields are parted by semicolons, and commas are wanted")
+        raise record_fields.InvalidField("", "separate its fields by commas, not by semicolons")
     day = edit_words.texts_of(date=fields[0]).day("date")
     status = fields[1].lower() if len(fields) > 1 else ""
     if status not in STATUSES:

@@ -15,7 +15,7 @@ def other_form(data: bytes, taken: str) -> str:
     forms = [form for form, is_so in (("ics", is_ics), ("csv", is_csv), ("cron", is_cron)) if is_so(text)]
     if taken in forms or not forms:
         return ""
-    return f"it is {NAMES[forms[0]]}, and no {NAMES[taken].partition(' ')[2]}: is --{forms[0]} meant?"
+    return f"it is {NAMES[forms[0]]}, not {NAMES[taken]}; did you mean --{forms[0]}?"
 
 
 def is_ics(text: str) -> bool:

@@ -65,7 +65,7 @@ class Event(NamedTuple):
         held = self.fields.get(name, [])
         found = [value.dt for lists in (held if isinstance(held, list) else [held]) for value in lists.dts]
         if not all(isinstance(date, datetime.date) for date in found):
-            raise UnsupportedEvent(f"{name} of it has what is no day")
+            raise UnsupportedEvent(f"{name} of it has something that isn't a day")
         return found
 
     def uid(self) -> str:
@@ -83,8 +83,8 @@ def ask_library() -> None:
         asked = subprocess.run([DEBIAN, "-c", imports], capture_output=True, check=False)
         if asked.returncode == 0:
             interpreter.run_by(DEBIAN)
-    raise Unreadable("iCalendar files are read by Debian's package python3-icalendar, which isn't there: "
-                     "`apt-get install python3-icalendar`")
+    raise Unreadable("reading iCalendar files needs Debian's package python3-icalendar: `apt-get install "
+                     "python3-icalendar`")
 
 
 def days(data: bytes, path: str, first: int, last: int) -> Days:
@@ -114,11 +114,11 @@ def events_of(data: bytes, path: str) -> list[Event]:
     except (ValueError, LookupError, TypeError, AttributeError, ArithmeticError) as error:
         why = str(error).partition("\n")[0][:100]
         if not import_forms.is_ics(data.decode("utf-8-sig", "replace")):
-            raise ChangeRefused(f"{path}: it is no iCalendar file: such a file begins with BEGIN:VCALENDAR",
+            raise ChangeRefused(f"{path}: it isn't an iCalendar file, which begins with BEGIN:VCALENDAR",
                                 2) from None
         raise ChangeRefused(f"{path}: it can't be read as iCalendar: {why}", 2) from None
     if not calendars:
-        raise ChangeRefused(f"{path}: it holds no calendar, or ends in the midst of one", 2)
+        raise ChangeRefused(f"{path}: it has no calendar, or ends in the middle of one", 2)
     # the library passes such a part over
     parts = [part for rule in RULE.findall(FOLD.sub(b"", data)) for part in rule.strip().split(b";")]
     if any(part and b"=" not in part for part in parts):
@@ -159,7 +159,7 @@ def event_days(event: Event, moved: dict[str, list[MovedRepetition]], first: int
         raise UnsupportedEvent(f"{faulty[0] or 'a line'} of it can't be read")
     event.single("RECURRENCE-ID")
     if stands_for_all_after(event.fields.get("RECURRENCE-ID")):
-        raise UnsupportedEvent("it changes all later repetitions of an event too (RANGE), and none of these is taken")
+        raise UnsupportedEvent("it changes all later repetitions of an event too (RANGE), so none of these is imported")
     if event.fields.get("EXRULE") is not None:
         raise UnsupportedEvent("it has EXRULE")
     clock, begin, length = span_of(event)
@@ -250,8 +250,8 @@ def rule_limits(rule: Any) -> tuple[list[datetime.date], str]:
         raise UnsupportedEvent(f"its rule has {strange[0]}" if strange else "its rule isn't a yearly one")
     for name, limits in RULE_PARTS.items():
         if limits and not all(limits[0] <= number <= limits[1] and number for number in parts.get(name, [])):
-            raise UnsupportedEvent(f"its rule has a {name} that can't be")
+            raise UnsupportedEvent(f"its rule has an impossible {name}")
     ends = parts.get("UNTIL", [])
     if not all(isinstance(at, datetime.date) for at in ends):
-        raise UnsupportedEvent("its rule has an UNTIL that can't be")
+        raise UnsupportedEvent("its rule has an impossible UNTIL")
     return ends, ";".join(part for part in rule.to_ical().decode().split(";") if not part.startswith("UNTIL"))

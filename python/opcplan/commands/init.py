@@ -52,10 +52,10 @@ class Settings:
 def add_words(parser: words.Parser) -> None:
     """Adds its words to a parser."""
     parser.description = (
-        "Makes a plan in PLAN.db, which isn't there yet, with the calendar DEFAULT (the weekend and holidays are free) "
-        "and the periods DAY, WEEK, MONTH and QUARTER. What no option says it asks on a terminal; without one it takes "
-        "what is usual. It shows the definitions, asks, and runs them as `./plan run --new` does, whose exit statuses "
-        "it has; with --stream it prints them as a job stream and makes nothing."
+        "Makes a new plan in PLAN.db with the calendar DEFAULT (the weekend and holidays are free) and the periods "
+        "DAY, WEEK, MONTH and QUARTER. On a terminal it asks for what you give no option for; otherwise it uses the "
+        "usual values. It shows the definitions, asks, and runs them as `./plan run --new` does, with the same exit "
+        "statuses. With --stream it prints them as a job stream and makes no plan."
     )
     words.add_plan(parser)
     parser.add_argument("--years", type=years, metavar="Y[..Y]", help="the years for which months and quarters are "
@@ -63,7 +63,8 @@ def add_words(parser: words.Parser) -> None:
     parser.add_argument("--weekend", type=weekend, metavar="DAYS", help="the days of the week that are free, as "
                         "SAT,SUN or FRI,SAT, or none (else SAT,SUN)")
     parser.add_argument("--holidays", type=words.file, metavar="FILE", action="append",
-                        help="a file of holidays, iCalendar or CSV as `./plan import` takes them; also several times")
+                        help="a file of holidays, iCalendar or CSV as `./plan import` reads them; you may give it "
+                             "repeatedly")
     parser.add_argument("--stream", action="store_true", help="print the job stream alone")
     parser.add_argument("--yes", action="store_true", help="make it without asking")
     parser.add_argument("--program", metavar="FILE", type=words.file,
@@ -76,8 +77,8 @@ def years(text: str) -> Years:
     found = re.fullmatch(r"([0-9]{4})(?:\.\.([0-9]{4}))?", text.strip())
     first, last = (int(found[1]), int(found[2] or found[1])) if found else (0, 0)
     if not FIRST_YEAR <= first <= last <= LAST_YEAR or last - first >= MOST_YEARS:
-        raise argparse.ArgumentTypeError(f"{text!r} is no year like 2027 and no years like 2027..2028, at most "
-                                         f"{MOST_YEARS} from {FIRST_YEAR} to {LAST_YEAR}")
+        raise argparse.ArgumentTypeError(f"{text!r} is neither a year such as 2027 nor years such as 2027..2028, at "
+                                         f"most {MOST_YEARS} from {FIRST_YEAR} to {LAST_YEAR}")
     return Years(first, last)
 
 
@@ -85,7 +86,7 @@ def weekend(text: str) -> tuple[int, ...]:
     """Days of the week, for `type=`."""
     names = [name for name in re.split("[ ,]+", text.strip().upper()) if name and name != "NONE"]
     if wrong := [name for name in names if name not in WEEKDAYS]:
-        raise argparse.ArgumentTypeError(f"{wrong[0]!r} is no day of the week, {', '.join(WEEKDAYS)}, and not none")
+        raise argparse.ArgumentTypeError(f"{wrong[0]!r} is not a day of the week ({', '.join(WEEKDAYS)}) and not none")
     return tuple(sorted(map(WEEKDAYS.index, set(names))))
 
 
@@ -98,7 +99,8 @@ def run(given: argparse.Namespace) -> int:
 def made(given: Settings) -> int:
     """Makes a plan, or prints the job stream that makes it; the exit status."""
     if not given.is_stream and os.path.lexists(given.plan):
-        raise Unreadable(f"{given.plan}: it is there already, and `init` makes new plans; `./plan edit` changes it")
+        raise Unreadable(f"{given.plan}: the file exists already, and `init` makes a new plan; `./plan edit` changes "
+                         "an old one")
     is_asking = sys.stdin is not None and sys.stdin.isatty() and sys.stderr.isatty() and not given.is_agreed
     if given.holidays or is_asking:
         with contextlib.suppress(Unreadable):
@@ -121,8 +123,8 @@ def made(given: Settings) -> int:
         plan = given.plan
         words.print_message(
             f"`./plan edit {plan} application NAME new period=DAY ia=20.00 deadline=0/23.00 | ./opcplan --db {plan}` "
-            f"makes the first application, `./plan send --db {plan} ltp-create --from DAY --to DAY` the long-term "
-            f"plan, and `./plan roll {plan}` the first daily plan")
+            f"makes the first application. `./plan send --db {plan} ltp-create --from DAY --to DAY` makes the "
+            f"long-term plan, and `./plan roll {plan}` the first daily plan")
     return status
 
 

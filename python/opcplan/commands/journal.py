@@ -13,7 +13,7 @@ from opcplan.plans import journal
 from opcplan.plans.entry import Entry
 from opcplan.rules import moments, printable
 
-SUMMARY = "what a desk was asked, by whom, when, and what it answered"
+SUMMARY = "what callers sent to a desk, who and when, and what it answered"
 
 
 class Choice(NamedTuple):
@@ -35,20 +35,20 @@ def add_words(parser: words.Parser) -> None:
     """Adds its words to a parser."""
     parser.description = (
         "Shows the journal of the desk that serves PLAN.db, also while it runs: a line for each change, with its "
-        "number, when it was taken, who asked, the statement and the reply. Days and times are those of this machine. "
-        "With --stream it prints the statements as they were done, which opcplan can run again over the plan as it "
-        "was. With --prune it says what goes of an old journal and of old logs of jobs, and what stays, asks, and does "
-        "it; no desk may have the plan then. The exit status is 1 where there is none, and where nothing was done."
+        "number, when the desk accepted it, who sent it, the statement and the reply. Days and times are those of this "
+        "machine. With --stream it prints the statements as they were done, which opcplan can run again over the plan "
+        "as it was. With --prune it says what goes of an old journal and of old logs of jobs, and what stays, asks, "
+        "and does it; no desk may have the plan then. The exit status is 1 if there is no journal, or nothing was done."
     )
-    words.add_plan(parser, "; with --prune and --logs it may be lacking")
+    words.add_plan(parser, "; with --prune and --logs you may leave it out")
     add_journal(parser)
-    parser.add_argument("--app", type=words.name, metavar="A", help="statements on this application alone")
+    parser.add_argument("--app", type=words.name, metavar="A", help="only statements on this application")
     parser.add_argument("--from", dest="first", type=words.day, metavar="D", help="those of this day or later")
     parser.add_argument("--to", dest="last", type=words.day, metavar="D", help="those of this day or before")
     form = parser.add_mutually_exclusive_group()
     form.add_argument("--json", action="store_true", help="a line of JSON for each")
     form.add_argument("--stream", action="store_true", help="the statements alone, as a job stream")
-    form.add_argument("--prune", action="store_true", help="take what is old out of the journal, and old logs away")
+    form.add_argument("--prune", action="store_true", help="remove what is old from the journal, and old logs")
     journal_prune.add_words(parser)
 
 
@@ -64,7 +64,7 @@ def run(given: argparse.Namespace) -> int:
     if journal_prune.is_named(given):
         raise UsageError("--keep, --logs, --size and --yes go with --prune; ./plan journal --help says more")
     if given.plan is None:
-        raise UsageError("PLAN.db is wanted; ./plan journal --help says more")
+        raise UsageError("give PLAN.db; ./plan journal --help says more")
     choice, found = Choice(given.app, given.first, given.last), 0
     with journal.opened(given.journal or journal.beside(given.plan)) as held:
         for one in filter(choice.has, held.every()):

@@ -44,9 +44,9 @@ def add_words(parser: words.Parser) -> None:
     parser.add_argument("--keep", type=words.span, metavar="SPAN",
                         help="with --prune: what stays at least, as 90d, 12h or 4w (else 90d)")
     parser.add_argument("--logs", type=words.file, metavar="FOLDER",
-                        help="with --prune: the folder of an agent's logs, of which the old ones go too")
+                        help="with --prune: the folder of an agent's logs, to remove old ones too")
     parser.add_argument("--size", type=words.size, metavar="SIZE",
-                        help="with --prune: how large each folder of logs may be at most, as 500M; the oldest go")
+                        help="with --prune: how large each folder of logs may be at most, as 500M; the oldest logs go")
     parser.add_argument("--yes", action="store_true", help="with --prune: do it without asking")
 
 
@@ -58,9 +58,9 @@ def is_named(given: argparse.Namespace) -> bool:
 def run(given: argparse.Namespace) -> int:
     """Prunes as the words ask for; the exit status."""
     if any(one is not None for one in (given.app, given.first, given.last)):
-        raise UsageError("--prune goes by --keep alone, and not by --app, --from and --to")
+        raise UsageError("--prune goes with --keep, not with --app, --from or --to")
     if given.plan is None and (given.logs is None or given.journal):
-        raise UsageError("PLAN.db is wanted, or --logs FOLDER alone; ./plan journal --help says more")
+        raise UsageError("give PLAN.db, or --logs FOLDER alone; ./plan journal --help says more")
     keep, cut = given.keep or USUAL_KEEP, None
     with contextlib.ExitStack() as held:
         path = held.enter_context(held_journal(given)) if given.plan else None
@@ -94,10 +94,10 @@ def held_journal(given: argparse.Namespace) -> Iterator[str]:
             files = left.enter_context(contextlib.closing(HeldFiles(given.plan, path)))
             left.enter_context(files.locked())
         except locks.FileLocked as held:
-            raise Unreadable(f"{held.path}: a desk has it; end the desk, prune, and begin it again: nothing was "
-                             "done") from None
+            raise Unreadable(f"{held.path}: nothing was done, because a desk has it; end the desk, prune, and start "
+                             "the desk again") from None
         except OSError as error:
-            raise Unreadable(f"{error.filename or path}: {error.strerror}: nothing was done") from None
+            raise Unreadable(f"{error.filename or path}: nothing was done: {error.strerror}") from None
         yield path
 
 
@@ -114,9 +114,9 @@ def journal_text(path: str, cut: Cut | None) -> str:
         return f"{path}: nothing goes"
     why = f", because {cut.why}" if cut.why else ""
     return (f"{path}: {cut.goes:,} entries go, up to entry {cut.last}, of {day(cut.oldest)} to {day(cut.first)}, and "
-            f"the keys of their streams\n{path}: {cut.stays:,} entries stay, from entry {cut.last + 1} on, of "
-            f"{day(cut.first)} to {day(cut.latest)}{why}; when jobs ran stays for what isn't over, and for the last "
-            f"{journal_prune.RUNS} occurrences of each application")
+            f"the keys of their streams\n{path}: {cut.stays:,} entries stay, from entry {cut.last + 1} on, "
+            f"of {day(cut.first)} to {day(cut.latest)}{why}. The times of jobs stay for occurrences that aren't over, "
+            f"and for the last {journal_prune.RUNS} of each application")
 
 
 def day(at: str) -> str:
@@ -134,7 +134,7 @@ def old_logs(given: argparse.Namespace, before: float) -> Iterator[Logs]:
                 raise Unreadable(f"{given.logs}: there is no such folder")
             yield chosen(os.path.realpath(given.logs), OF_AN_AGENT, before, given.size)
     except OSError as error:
-        raise Unreadable(f"{error.filename}: it can't be read: {error.strerror}: nothing was done") from None
+        raise Unreadable(f"{error.filename}: nothing was done: it can't be read: {error.strerror}") from None
 
 
 def chosen(folder: str, form: re.Pattern[str], before: float, most: int | None) -> Logs:
@@ -153,7 +153,7 @@ def chosen(folder: str, form: re.Pattern[str], before: float, most: int | None) 
 def ask() -> None:
     """Asks on the terminal whether it shall be done. Raises Error where the answer is another one than yes."""
     if not (sys.stdin and sys.stdin.isatty() and sys.stderr.isatty()):
-        raise Error("there is no terminal to ask on; --yes prunes without asking: nothing was done")
+        raise Error("nothing was done, because there is no terminal to ask on; --yes prunes without asking")
     print("Prune it? [y/N] ", end="", file=sys.stderr, flush=True)
     if sys.stdin.buffer.readline().strip().lower() not in (b"y", b"yes"):
         raise Error("nothing was done")
@@ -171,4 +171,4 @@ def remove(logs: Logs) -> None:
         except FileNotFoundError:
             continue
         except OSError as error:
-            raise Unwritable(f"{one.path}: it can't be taken away: {error.strerror}; all before it are") from None
+            raise Unwritable(f"{one.path}: it can't be removed: {error.strerror}; the older ones are removed") from None

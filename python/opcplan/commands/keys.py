@@ -14,7 +14,7 @@ from opcplan.plans.plan_file import Plan
 from opcplan.plans.waits import Row
 from opcplan.rules import hints, moments
 
-HELP = "APP D/HH.MM or APP D HH.MM, or its serial: 123, or '#123' in quotes, since a shell takes # for a remark"
+HELP = "APP D/HH.MM or APP D HH.MM, or its serial: 123, or '#123' in quotes, because # begins a comment in a shell"
 
 
 class Key(NamedTuple):
@@ -115,11 +115,11 @@ class TooManyWords(UsageError):
 
 def too_many_text(app: str, key: str, more: str) -> str:
     """That words stand behind a key, and what is likely meant by them."""
-    text = f"{app} {key} is the whole key, and {more} is too much"
+    text = f"{app} {key} is the whole key, so {more} is too much"
     if moments.day_of(more) is not None:
         return f"{text}; `./plan days PLAN.db {app} --from D --to D` lists the days"
     if moments.minute_of(more.replace(":", ".")) is not None or moments.typed_moment(more) is not None:
-        return f"{text} (is --now {shlex.quote(more)} meant?)"
+        return f"{text} (did you mean --now {shlex.quote(more)}?)"
     return text
 
 

@@ -11,17 +11,17 @@ from opcplan.rules import moments, printable, statuses
 from opcplan.webpage import page_model
 from opcplan.webpage.page_model import Model
 
-SUMMARY = "what is past its deadline, and what holds it up"
+SUMMARY = "what is past its deadline, and what delays it"
 
 
 def add_words(parser: words.Parser) -> None:
     """Adds its words to a parser."""
     parser.description = (
-        "Lists the occurrences of the current plan that are neither complete nor deleted and whose deadline is before "
-        "the moment, the earliest deadline first; of one that waits, the worst of those at which its waiting begins. "
-        "With the journal of a desk also what is going to end late by what its runs took till now, what ended late in "
-        f"the {late_ends.BACK} hours before, and the chain that decides when all of the current plan is done. "
-        "The exit status is 0 where something is late, ended late or is going to, and 1 where nothing is."
+        "Lists the occurrences of the current plan that are neither complete nor deleted and whose deadline is past, "
+        "the earliest deadline first. For one that waits it names the worst of those at which its waiting begins. With "
+        "the journal of a desk it also lists what is going to end late, judged by earlier runs, and what ended late in "
+        f"the {late_ends.BACK} hours before. It then shows the chain that decides when all of the current plan is "
+        "done. The exit status is 0 if something is late, ended late or is going to, and 1 if nothing is."
     )
     words.add_plan(parser)
     words.add_now(parser)
@@ -61,12 +61,13 @@ def in_order(rows: list[Row], model: Model) -> list[int]:
 def notes_on(plan: Plan, now: int) -> list[str]:
     """What is to be said of the moment."""
     if not plan.is_created:
-        return ["there is no long-term plan yet, and so nothing that could be late"]
+        return ["there is no long-term plan yet, so nothing can be late"]
     meta = plan.meta
     if meta["first_day"] * waits.DAY <= now < (meta["last_day"] + 1) * waits.DAY:
         return []
     first, last = moments.day_text(meta["first_day"]), moments.day_text(meta["last_day"])
-    return [f"this is as of {moments.moment_text(now)}, but the plan goes from {first} to {last}; --now names a moment"]
+    return [f"this is as of {moments.moment_text(now)}, but the plan goes from {first} to {last}; --now sets the "
+            "moment"]
 
 
 def late_lines(
@@ -89,7 +90,7 @@ def late_lines(
 
 def by_hand(row: Row) -> str:
     """That a deadline is made up: one added by hand is due a day after it arrives."""
-    return "added by hand, and so due a day after it arrives" if row.cycle is None else ""
+    return "added by hand, so it is due a day after it arrives" if row.cycle is None else ""
 
 
 def root_text(rows: list[Row], model: Model, place: int) -> str:

@@ -15,7 +15,7 @@ from opcplan.rules.lint_checks import Finding
 from opcplan.rules.stream import Item
 
 About = tuple[object, ...]
-SUMMARY = "what is taken silently in a stream and is likely a slip"
+SUMMARY = "what opcplan accepts in a stream although it is likely a mistake"
 PLANNING = ("ltp-create", "ltp-extend", "ltp-modify-all", "ltp-modify-one", "ltp-trial")
 LONGER = ("ltp-create", "ltp-extend")
 WIDTH = 100
@@ -24,12 +24,12 @@ WIDTH = 100
 def add_words(parser: words.Parser) -> None:
     """Adds its words to a parser."""
     parser.description = (
-        "Reads a job stream and tells, with the line of its record, what opcplan takes without a word and is likely a "
-        "slip: " + "; ".join(lint_checks.KINDS.values()) + ". With --plan it knows what the plan defines too, and "
-        "tells also what each block drops or changes of it, and " + "; ".join(lint_checks.KINDS_BY_PLAN.values())
-        + ". What is refused `./plan check` and `./plan explain` tell. The exit status is 1 where it finds something. "
-        + "Where stream or plan say how far the long-term plan goes, it tells "
-        + "; ".join(horizons.KINDS.values()) + ". "
+        "Reads a job stream and reports, with the line of its record, what opcplan accepts although it is likely a "
+        "mistake: " + "; ".join(lint_checks.KINDS.values()) + ". With --plan it knows what the plan defines too. It "
+        "then also reports what each block drops or changes of it, and "
+        + "; ".join(lint_checks.KINDS_BY_PLAN.values())
+        + ". If stream or plan say how far the long-term plan goes, it reports " + "; ".join(horizons.KINDS.values())
+        + ". `./plan check` and `./plan explain` report what is refused. The exit status is 1 if it finds something. "
         + stream.BOUND
     )
     words.add_stream(parser)
@@ -47,7 +47,7 @@ def run(given: argparse.Namespace) -> int:
     for finding in found:
         print("\n".join(finding_lines(finding)))
     if not found:
-        words.print_message(f"{given.stream}: nothing that is likely a slip{unread_text(unread)}")
+        words.print_message(f"{given.stream}: no likely mistakes{unread_text(unread)}")
     return 1 if found else 0
 
 
@@ -64,9 +64,9 @@ def unread_text(lines: list[int]) -> str:
     if not lines:
         return ""
     if len(lines) == 1:
-        return f"; line {lines[0]} is refused as it stands: `./plan check` tells why"
-    many = f"{len(lines):,} statements, the first at line {lines[0]}, are refused as they stand"
-    return f"; {many}: `./plan check` tells why"
+        return f"; line {lines[0]} is refused in any plan; `./plan check` says why"
+    many = f"{len(lines):,} statements, the first at line {lines[0]}, are refused in any plan"
+    return f"; {many}; `./plan check` says why"
 
 
 def finding_lines(finding: Finding) -> list[str]:

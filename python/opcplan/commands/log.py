@@ -36,23 +36,24 @@ class Settings:
 def add_words(parser: words.Parser) -> None:
     """Adds its words to a parser."""
     parser.description = (
-        "Says what stands in etcd of the log that several desks share (`./plan desk --log`): its last entry and its "
-        "first, which opcplan answers it, how far the desks are, how full etcd is. With --trim it takes old entries "
-        "away and has etcd give the room back; entries stay that a desk which said how far it is hasn't applied. With "
-        "--version it has another opcplan answer from the next entry on: each desk applies what is before, and goes on "
-        "once it is started with that program. With --begin it makes a new log behind a plan: the one that is the "
-        "furthest, where etcd is lost, or one that had a desk of its own. The exit status is 1 where there is no such "
-        "log, or it can't be done, and 2 where the words are wrong."
+        "Shows what etcd has of the log that several desks share (`./plan desk --log`): its last entry and its first, "
+        "which opcplan answers it, how far the desks are, how full etcd is. With --trim it removes old entries and has "
+        "etcd give the room back; entries stay that a desk which reported its position hasn't applied. With --version "
+        "another opcplan answers from the next entry on: each desk applies what is before, and goes on once it is "
+        "started with that program. With --begin it makes a new log after a plan: the plan that is the furthest if "
+        "etcd is lost, or one that had a desk of its own. The exit status is 1 if there is no such log, or it can't be "
+        "done, and 2 if the words are wrong."
     )
     parser.add_argument("log", metavar="LOG", type=log_words.address, help=log_words.EXAMPLE)
     does = parser.add_mutually_exclusive_group()
-    does.add_argument("--trim", action="store_true", help="takes old entries away, and compacts and defragments etcd")
-    does.add_argument("--version", action="store_true", help="has --program answer from the next entry on")
-    does.add_argument("--begin", metavar="PLAN.db", type=words.file, help="makes the log behind this plan")
+    does.add_argument("--trim", action="store_true", help="remove old entries, and compact and defragment etcd")
+    does.add_argument("--version", action="store_true", help="have --program answer from the next entry on")
+    does.add_argument("--begin", metavar="PLAN.db", type=words.file, help="make the log after this plan")
     parser.add_argument("--keep", type=kept, default=USUAL_KEPT, metavar="N",
-                        help=f"how many of the last entries --trim leaves at least (else {USUAL_KEPT:,})")
+                        help=f"how many of the last entries --trim keeps at least (else {USUAL_KEPT:,})")
     parser.add_argument("--forget", metavar="DESK", action="append", default=[],
-                        help="a desk that is gone for good: --trim waits for it no more; may stand repeatedly")
+                        help="a desk that is gone permanently, so --trim no longer waits for it; you may give it "
+                             "repeatedly")
     parser.add_argument("--program", type=words.file, metavar="FILE",
                         help="the planner of --version and --begin (else the one that is built here)")
     parser.add_argument("--journal", type=words.file, metavar="FILE",
@@ -63,7 +64,7 @@ def add_words(parser: words.Parser) -> None:
 def kept(text: str) -> int:
     """How many entries stay, for `type=`."""
     if not text.isascii() or not text.isdigit() or len(text) > 9:
-        raise argparse.ArgumentTypeError(f"{text!r} is no number of entries")
+        raise argparse.ArgumentTypeError(f"{text!r} is not a number of entries")
     return int(text)
 
 

@@ -13,9 +13,9 @@ SUMMARY = "the greatest job number that is used, and one more"
 def add_words(parser: words.Parser) -> None:
     """Adds its words to a parser."""
     parser.description = (
-        "Prints the greatest job number that PLAN.db keeps, and the next one; those that a desk gave itself are passed "
-        "over, and so are those of streams that `edit` or `import` printed and nobody ran yet. The exit status is 1 "
-        "where no greater number is left."
+        "Prints the greatest job number that PLAN.db keeps, and the next free one. It passes over the numbers that a "
+        "desk gave itself, and those of streams that `edit` or `import` printed and nobody ran yet. The exit status is "
+        "1 if no greater number is left."
     )
     words.add_plan(parser)
     parser.add_argument("--short", action="store_true", help="the next number alone, for a script")
@@ -27,8 +27,8 @@ def run(given: argparse.Namespace) -> int:
         greatest, of_desk = job_numbers.greatest(plan.db), job_numbers.of_desk(plan.db)
     number = printed_numbers.behind(given.plan, job_numbers.following(greatest))
     if not given.short:
-        print(f"greatest used: {greatest or 'none'}" + (", a desk's own numbers aside" if of_desk else ""))
+        print(f"greatest used: {greatest or 'none'}" + (", apart from a desk's own numbers" if of_desk else ""))
     if number > GREATEST:
-        raise Error(f"{given.plan}: the greatest job number, {GREATEST}, is used; lesser ones may be free")
+        raise Error(f"{given.plan}: the greatest job number, {GREATEST}, is used; smaller ones may be free")
     print(number if given.short else f"next: {number}")
     return 0

@@ -15,10 +15,11 @@ def add_words(parser: words.Parser) -> None:
     """Adds its words to a parser."""
     words.add_plan(parser)
     words.add_now(parser)
-    parser.add_argument("--since", metavar="OLD.db", type=words.file, help="an older copy: what changed since")
+    parser.add_argument("--since", metavar="OLD.db", type=words.file, help="an older copy, to show what changed since")
     parser.add_argument("--from", dest="first", type=words.day, metavar="D",
-                        help="the first day that is shown (else this month's; the current plan is shown whole)")
-    parser.add_argument("--to", dest="last", type=words.day, metavar="D", help="the last one (else next month's)")
+                        help="the first day to show (else that of this month; the current plan is shown whole)")
+    parser.add_argument("--to", dest="last", type=words.day, metavar="D",
+                        help="the last day to show (else that of the next month)")
     words.add_journal(parser)
     output.add_words(parser, "the page")
 

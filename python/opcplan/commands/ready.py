@@ -13,7 +13,7 @@ from opcplan.plans.waits import Row
 from opcplan.rules import moments
 
 USUAL = "usual"  # the form by which it prints where none is named
-SUMMARY = "what may be started now: it has arrived, and nothing is in its way"
+SUMMARY = "what may be started now: it has arrived and waits for nothing"
 # none of what it waits for stands in a place where it isn't complete
 READY = f"""SELECT {waits.COLUMNS}, status FROM cp_row
     WHERE status = 'W' AND ia <= :now AND (:app IS NULL OR app = :app)
@@ -28,11 +28,11 @@ def add_words(parser: words.Parser) -> None:
     parser.description = (
         "Prints the occurrences of the current plan that wait, have arrived, and wait for nothing that isn't complete, "
         "the earliest deadline first: application, input arrival and serial, as statements and `./plan agent` have "
-        "them. On a terminal, and with --table, it is a table with the deadlines. The exit status is 1 where nothing "
+        "them. On a terminal, and with --table, it prints a table with the deadlines. The exit status is 1 if nothing "
         "is ready."
     )
     words.add_plan(parser)
-    parser.add_argument("--app", type=words.name, help="of this application alone")
+    parser.add_argument("--app", type=words.name, help="only this application")
     words.add_now(parser)
     form = parser.add_mutually_exclusive_group()
     form.add_argument("--table", dest="form", action="store_const", const=None, help="a table with deadlines and run "
@@ -41,7 +41,7 @@ def add_words(parser: words.Parser) -> None:
                       "terminal")
     form.add_argument("--json", dest="form", action="store_const", const=json_text, help="an object on each line")
     form.add_argument("-0", "--null", dest="form", action="store_const", const=null_text,
-                      help="each of the three with a zero byte behind it, as for `xargs -0 -n 3`")
+                      help="each of the three with a zero byte after it, as for `xargs -0 -n 3`")
     colours.add_words(parser)
     parser.set_defaults(form=USUAL)
 

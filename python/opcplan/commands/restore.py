@@ -19,7 +19,7 @@ from opcplan.errors import Unwritable, UsageError
 from opcplan.plans import atomic_files, checked_copy, locks, plan_file, tempfiles
 from opcplan.rules import printable
 
-SUMMARY = "puts a backup in the place of a plan, and sets aside what stood there"
+SUMMARY = "puts a backup in the place of a plan, and keeps what was there"
 BESIDE = (*plan_file.TAILS[1:], "-shm")
 STOPS = {signal.SIGINT, signal.SIGTERM, signal.SIGHUP}
 
@@ -27,10 +27,10 @@ STOPS = {signal.SIGINT, signal.SIGTERM, signal.SIGHUP}
 def add_words(parser: words.Parser) -> None:
     """Adds its words to a parser."""
     parser.description = (
-        "Checks BACKUP as `./plan backup` does, sets PLAN.db and its log aside under a name with the date and time, "
-        "and puts a copy of BACKUP in the place of PLAN.db, unless another program has that open. Where it is stopped "
-        "in its midst, opcplan doesn't open PLAN.db, nothing is lost, and the same words again end it. The exit "
-        "status is 1 where PLAN.db isn't the backup then."
+        "Checks BACKUP as `./plan backup` does, and renames PLAN.db and its log to a name with the date and time. Then "
+        "it puts a copy of BACKUP in the place of PLAN.db, unless another program has that open. If it is stopped "
+        "halfway, opcplan doesn't open PLAN.db, nothing is lost, and the same command again finishes it. The exit "
+        "status is 1 if PLAN.db isn't the backup then."
     )
     parser.add_argument("backup", metavar="BACKUP", type=words.file, help="the plan to go back to")
     words.add_plan(parser)
@@ -43,21 +43,22 @@ def run(given: argparse.Namespace) -> int:
     if path == os.path.realpath(given.backup):
         raise UsageError(f"{given.plan}: the backup and the plan are one file")
     if os.path.lexists(path) and not os.path.isfile(path):
-        raise Unwritable(f"{given.plan}: it is no file")
+        raise Unwritable(f"{given.plan}: it is not a file")
     with tempfiles.folder("restore-") as folder:
         copy, meta = checked_copy.made(given.backup, folder, given.program)
         try:
             aside = put_back(copy, path, os.path.realpath(given.backup))
         except locks.FileLocked:
             is_desk = locks.is_held(given.plan, locks.OF_A_DESK)
-            who = "a desk has it, which has to end first" if is_desk else "another program has it open"
-            raise Unwritable(f"{given.plan}: {who}; nothing is changed") from None
+            who = "a desk has it; end the desk first" if is_desk else "another program has it open"
+            raise Unwritable(f"{given.plan}: nothing was changed, because {who}") from None
         except OSError as error:
-            raise Unwritable(f"{given.plan}: the backup can't be put there: {error.strerror}; once that is mended, "
-                             "the same words again") from None
+            raise Unwritable(f"{given.plan}: the backup can't be put there: {error.strerror}; repair that, and type "
+                             "the same again") from None
     lines = [f"{given.plan} is {given.backup} now: {backup.extent_text(meta)}."]
-    lines += [f"What stood there is {' and '.join(aside)}, in the same folder."] if aside else []
-    lines.append("What was answered since the backup isn't in it: run the streams since then again, in their order.")
+    lines += [f"What was there is now {' and '.join(aside)}, in the same folder."] if aside else []
+    lines.append("What opcplan answered since the backup isn't in it: run the streams since then again, in their "
+                 "order.")
     print(printable.text(lines))
     return 0
 

@@ -62,17 +62,18 @@ class Answer(NamedTuple):
 def add_words(parser: words.Parser) -> None:
     """Adds its words to a parser."""
     parser.description = (
-        "Extends the current plan so far that it ends at the first of the times --at that is --ahead from now or more, "
-        "and the long-term plan to the end of a month where fewer days than --reserve are left. It shows what it is "
-        "going to do and what a trial on a copy of the plan answers, and does it; where nothing is due it does "
-        "nothing. Each statement has a job number that is made from the statement, 800000001 to 899999999: run twice, "
-        "it does the same thing once. The exit status is 0 where the plan reaches so far, 1 where --stop-on or the "
-        "trial forbids it or the plan can't be read, 4 where a statement was refused, and 8 where it isn't known "
-        "what was answered; then run it again."
+        "Extends the current plan so far that it ends at the first of the times --at that is --ahead from now or more. "
+        "If fewer days than --reserve are left of the long-term plan, it first extends that to the end of a month. It "
+        "shows what it is going to do and what a trial on a copy of the plan answers, and does it; if nothing is due, "
+        "it does nothing. Each statement has a job number that is made from the statement, 800000001 to 899999999: run "
+        "twice, it does the same thing once. The exit status is 0 if the plan reaches so far. It is 1 if --stop-on or "
+        "the trial forbids it or the plan can't be read, and 4 if a statement was refused. It is 8 if it isn't known "
+        "which answer a statement got; then run it again."
     )
     parser.add_argument("plan", metavar="PLAN.db", nargs="?", type=words.file, help="the file that opcplan --db keeps")
-    parser.add_argument("--desk", metavar="DESK", help="the desk that has the plan: http://HOST:PORT, or the path of "
-                        "its socket (else what OPCPLAN_DESK has, where no PLAN.db is named)")
+    parser.add_argument("--desk", metavar="DESK",
+                        help="the desk that has the plan: http://HOST:PORT, or the path of its socket (else what "
+                             "OPCPLAN_DESK has, if no PLAN.db is given)")
     parser.add_argument("--ahead", type=ahead, metavar="TIME", default=ahead(AHEAD), help="how far the current plan "
                         f"has to reach from now, as 36h or 2d (else {AHEAD})")
     parser.add_argument("--at", type=times, metavar="HH.MM[,HH.MM]..", default=(), help="the times of the day at which "
@@ -80,10 +81,12 @@ def add_words(parser: words.Parser) -> None:
     parser.add_argument("--reserve", type=reserve, metavar="TIME", default=reserve(RESERVE), help="how many days of "
                         f"the long-term plan have to be left, as 60d (else {RESERVE})")
     parser.add_argument("--stop-on", type=stop, metavar="KIND[:APP]", action="append", default=[],
-                        help="`error` or `late`: don't pass over what is in error or past its deadline; with a "
-                        "pattern as error:PAY* of these applications alone; also several times")
-    parser.add_argument("--wait", type=send.seconds, default=WAIT, metavar="SECONDS", help="how long it is tried again "
-                        f"while the desk is away, or another program has PLAN.db (else {WAIT:.0f})")
+                        help="`error` or `late`: don't extend the daily plan while something is in error or past its "
+                             "deadline; with a pattern, as error:PAY*, only these applications count; you may give it "
+                             "repeatedly")
+    parser.add_argument("--wait", type=send.seconds, default=WAIT, metavar="SECONDS",
+                        help="how long to try again while the desk is away, or another program has PLAN.db "
+                             f"(else {WAIT:.0f})")
     parser.add_argument("--try", dest="is_trial", action="store_true", help="show it, and do nothing")
     parser.add_argument("--program", metavar="FILE", type=words.file,
                         help="the planner that tries it (else the one that is built here)")
@@ -95,7 +98,8 @@ def minutes_of(text: str, most: int) -> int:
     found = re.fullmatch("([0-9]{1,6})([mhd])", text)
     minutes = int(found[1]) * MINUTES[found[2]] if found else -1
     if not 0 <= minutes <= most:
-        raise argparse.ArgumentTypeError(f"{text!r} is no time like 90m, 36h or 2d, at most {most // moments.DAY}d")
+        raise argparse.ArgumentTypeError(f"{text!r} is not a time such as 90m, 36h or 2d, at "
+                                         f"most {most // moments.DAY}d")
     return minutes
 
 
@@ -113,7 +117,7 @@ def times(text: str) -> tuple[int, ...]:
     """Minutes of the day, for `type=`."""
     found = [moments.minute_of(one.strip().replace(":", ".")) for one in text.split(",")]
     if None in found:
-        raise argparse.ArgumentTypeError(f"{text!r} is no time like 06.00, and no times like 06.00,18.00")
+        raise argparse.ArgumentTypeError(f"{text!r} is neither a time such as 06.00 nor times such as 06.00,18.00")
     return tuple(sorted({minute for minute in found if minute is not None}))
 
 
@@ -122,7 +126,7 @@ def stop(text: str) -> Stop:
     kind, colon, apps = text.partition(":")
     if kind not in STOPS or colon and not re.fullmatch(r"[A-Z0-9@#$*?]{1,16}", apps.upper()):
         raise argparse.ArgumentTypeError(f"{text!r} is neither {' nor '.join(STOPS)}, nor one of them with a pattern "
-                                         "of applications like error:PAY*")
+                                         "of applications such as error:PAY*")
     return Stop(kind, apps.upper() or "*")
 
 
@@ -130,7 +134,7 @@ def run(given: argparse.Namespace) -> int:
     """Does what the words ask for; the exit status."""
     desk = given.desk or (client.usual() if given.plan is None else None)
     if (desk is None) == (given.plan is None):
-        raise UsageError("PLAN.db or --desk DESK is wanted, one of them; ./plan roll --help says more")
+        raise UsageError("give PLAN.db or --desk DESK, one of them; ./plan roll --help says more")
     asked = None if desk is None else desk_plan.of_words(desk)
     until = time.monotonic() + given.wait
     refused: list[Answer] = []
@@ -140,13 +144,13 @@ def run(given: argparse.Namespace) -> int:
             if not stream:
                 return 0
             if refused:  # it is due still, so nobody else did it meanwhile
-                raise StillDue(f"`{refused[0].text}` was {refused[0].reply}, and is due still; the next run tries it "
-                               "anew")
+                raise StillDue(f"`{refused[0].text}` was {refused[0].reply}, and is still due; the next run tries it "
+                               "again")
             try_on(path, stream, given.program)
             if given.is_trial:
                 return 0
             refused = [one for one in done(given, asked, stream, until) if not one.reply.startswith("ok")]
-    raise Error(f"{MOST_STREAMS} streams of {MOST_STEPS} statements don't extend the plan so far: run it again")
+    raise Error(f"{MOST_STREAMS} streams of {MOST_STEPS} statements don't extend the plan far enough; run it again")
 
 
 @contextlib.contextmanager
@@ -176,7 +180,7 @@ def copied(given: argparse.Namespace, desk: client.Client | None, until: float) 
 def stream_due(plan: Plan, given: argparse.Namespace, is_first: bool) -> str:
     """The stream that extends a plan, empty where nothing is due. Raises Error where it mustn't be extended."""
     if not plan.is_created:
-        raise Error("there is no long-term plan yet: `ltp-create` makes one")
+        raise Error("there is no long-term plan yet; `ltp-create` makes one")
     now = moments.now() if given.now is None else given.now
     rule = Rule(given.ahead, given.at, given.reserve)
     reach = Reach(plan.meta["plan_end"], plan.meta["last_day"], plan.meta["max_hours"])
@@ -201,8 +205,8 @@ def ask_stops(plan: Plan, stops: list[Stop], now: int) -> None:
         if found:
             names = ", ".join(f"{row.key} (serial {row.serial})" for row in found[:MOST_NAMED])
             more = f" and {len(found) - MOST_NAMED} more" if len(found) > MOST_NAMED else ""
-            raise Error(f"{names}{more}: {STOPS[one.kind]}, and --stop-on {one.kind} names it; the daily plan is due, "
-                        "and nothing was done")
+            raise Error(f"nothing was done: the daily plan is due, but --stop-on {one.kind} stops it "
+                        f"for {names}{more}, {STOPS[one.kind]}")
 
 
 # The trial, and what is done.
@@ -219,11 +223,11 @@ def try_on(path: str, stream: str, program: str | None) -> None:
             count = len(stream.splitlines())
             if tried.status not in trial.SOUND or len(tried.found) < count:
                 trial_words.print_end(tried)
-                raise Error("the trial didn't come to its end: nothing was done")
+                raise Error("nothing was done, because the trial didn't come to its end")
             refused = [one for one in tried.found if not one.reply.startswith("ok")]
     if refused:
-        raise Error(f"the trial refuses `{refused[0].text}`: {'; '.join((refused[0].reply, *refused[0].why))}; nothing "
-                    "was done")
+        raise Error("nothing was done, because the trial refuses "
+                    f"`{refused[0].text}`: {'; '.join((refused[0].reply, *refused[0].why))}")
 
 
 def answers_of(items: Iterator[Item], output: Source, now: Known) -> list[Answer]:
@@ -264,8 +268,8 @@ def by_file(given: argparse.Namespace, text: bytes, until: float) -> bytes:
         raise send.StreamNotSent(f"{program}: it can't be run: {error.strerror}; nothing was sent") from None
     if send.is_held(ran):
         desk = locks.is_held(given.plan, locks.OF_A_DESK)
-        who = "a desk has it: `./plan roll --desk DESK` asks that" if desk else "another program has it all the while"
-        raise send.StreamNotSent(f"{given.plan}: {who}; nothing was sent")
+        who = "a desk has it; `./plan roll --desk DESK` has the desk do it" if desk else "another program kept it open"
+        raise send.StreamNotSent(f"{given.plan}: nothing was sent, because {who}")
     print_said(ran, given.plan)
     return ran.stdout
 

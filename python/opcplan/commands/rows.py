@@ -53,24 +53,26 @@ class Settings:
 def add_words(parser: words.Parser) -> None:
     """Adds its words to a parser."""
     parser.description = (
-        "Prints rows of PLAN.db by input arrival, application and serial: those of the list that is named, else of the "
+        "Prints rows of PLAN.db by input arrival, application and serial: those of the list that you name, else of the "
         "long-term plan, of the current plan and of history. The lines are those of opcplan's `list`, with `ok rows` "
-        "and their number at the end. The exit status is 1 where no row is found."
+        "and their number at the end. The exit status is 1 if no row is found."
     )
     words.add_plan(parser)
     parser.add_argument("what", metavar="LIST", nargs="?", choices=list(export.SETS), help=", ".join(export.SETS))
-    parser.add_argument("--app", type=words.name, help="of this application alone")
-    parser.add_argument("--from", dest="first", type=first_moment, metavar="D", help="that arrive from this day or "
-                        "moment on")
-    parser.add_argument("--to", dest="last", type=last_moment, metavar="D", help="that arrive up to this day's end or "
-                        "this moment")
-    parser.add_argument("--status", type=statuses, metavar="S", help="of these statuses: letters as W,S,E, or words "
-                        f"({', '.join(STATUSES).replace(' e', '-e')})")
-    parser.add_argument("--late", action="store_true", help="of the current plan those that are past their deadline, "
-                        "and neither complete nor deleted")
+    parser.add_argument("--app", type=words.name, help="only this application")
+    parser.add_argument("--from", dest="first", type=first_moment, metavar="D",
+                        help="only what arrives from this day or moment on")
+    parser.add_argument("--to", dest="last", type=last_moment, metavar="D",
+                        help="only what arrives up to the end of this day, or up to this moment")
+    parser.add_argument("--status", type=statuses, metavar="S",
+                        help="only these statuses: letters as W,S,E, or words "
+                             f"({', '.join(STATUSES).replace(' e', '-e')})")
+    parser.add_argument("--late", action="store_true",
+                        help="only what is past its deadline in the current plan, and neither complete nor deleted")
     words.add_now(parser)
     form = parser.add_mutually_exclusive_group()
-    form.add_argument("--csv", dest="form", action="store_const", const=export.csv_texts, help="a table, as of export")
+    form.add_argument("--csv", dest="form", action="store_const", const=export.csv_texts,
+                      help="a table, as export prints it")
     form.add_argument("--json", dest="form", action="store_const", const=json_texts, help="an object on each line")
     colours.add_words(parser)
     parser.set_defaults(form=list_texts)
@@ -93,7 +95,8 @@ def edge(text: str, minute: int) -> int:
     if day is not None:
         return day * moments.DAY + minute
     if moment is None:
-        raise argparse.ArgumentTypeError(f"{text!r} is no day like 2026-11-25 and no moment like 2026-11-25/06.00")
+        raise argparse.ArgumentTypeError(f"{text!r} is neither a day such as 2026-11-25 nor a moment such as "
+                                         "2026-11-25/06.00")
     return moment
 
 
@@ -108,8 +111,8 @@ def statuses(text: str) -> set[str]:
         elif re.fullmatch("[wsecd]+", word):
             found |= set(word.upper())
         else:
-            late = "; what is late `--late` shows" if word == "late" else ""
-            raise argparse.ArgumentTypeError(f"{word!r} is no status: it is one of {BY_WORD}{late}")
+            late = "; `--late` shows what is late" if word == "late" else ""
+            raise argparse.ArgumentTypeError(f"{word!r} is not a status; a status is one of {BY_WORD}{late}")
     return found
 
 
@@ -168,11 +171,11 @@ def fault_of(given: Settings) -> str | None:
     if given.first is not None and given.last is not None and given.last < given.first:
         return "--to is before --from"
     if given.now is not None and not given.late:
-        return "--now says as of when something is late, so it goes with --late"
+        return "--now says as of when something is late; it needs --late"
     if given.late and given.what not in (None, "cp"):
-        return f"--late is asked of the current plan alone, and not of {given.what}"
+        return f"--late goes with the current plan only, not with {given.what}"
     if given.status and given.what not in (None, *WITH_STATUS):
-        return f"rows of {given.what} have no status; those of {' and '.join(WITH_STATUS)} have"
+        return f"rows of {given.what} have no status; only those of {' and '.join(WITH_STATUS)} have one"
     return None
 
 
@@ -199,11 +202,11 @@ def notes_on(plan: Plan, given: Settings, now: int) -> list[str]:
     """What is to be said of the moment, and of a plan and an application of which there can be no rows."""
     notes = late.notes_on(plan, now) if given.late else []
     if not plan.is_created:
-        return notes or [f"{plan.path}: there is no long-term plan yet, and so no rows"]
+        return notes or [f"{plan.path}: there is no long-term plan yet, so there are no rows"]
     if given.app is None or is_known(plan, given.app):
         return notes
     known = (name for name, in plan.db.execute("SELECT name FROM application"))
-    return [*notes, f"{plan.path}: there is no application {given.app} in it{meant_text(given.app, known)}"]
+    return [*notes, f"{plan.path}: it has no application {given.app}{meant_text(given.app, known)}"]
 
 
 def is_known(plan: Plan, app: str) -> bool:

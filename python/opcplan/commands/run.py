@@ -41,21 +41,21 @@ def add_words(parser: words.Parser) -> None:
     """Adds its words to a parser."""
     parser.description = (
         "Checks STREAM over PLAN.db as `./plan check` does, shows what it would change as `./plan what-if` does, asks, "
-        "and then runs it by opcplan --db, each refusal explained below its answer. With --desk the plan is that of a "
-        "desk: the stream is tried on a copy that the desk gives, and sent to it on the condition that nobody changed "
-        "the plan since. Where somebody did, the rest is tried again, and you are asked again if it would change "
-        "something else. The exit status is that of opcplan (0 all accepted, 4 some refused, 8 a fault); 1 where "
-        "nothing was run, or a desk didn't do all of it; 2 where the words are wrong. " + stream.BOUND
+        "and then runs it with opcplan --db. It explains each refusal below its answer. With --desk the plan is that "
+        "of a desk: `run` tries the stream on a copy from the desk, and sends it on the condition that nobody changed "
+        "the plan since. If somebody did, it tries the rest again, and asks again if it would change something else. "
+        "The exit status is that of opcplan (0 all accepted, 4 some refused, 8 a fault); 1 if nothing was run, or a "
+        "desk didn't do all of it; 2 if the words are wrong. " + stream.BOUND
     )
     parser.add_argument("plan", metavar="PLAN.db", nargs="?", type=words.file,
                         help="the file that opcplan --db keeps (not with --desk)")
     trial_words.add_words(parser, "runs")
     parser.add_argument("--desk", metavar="DESK",
-                        help="the desk that has the plan: http://HOST:PORT, or the path of its socket "
-                        "(else what OPCPLAN_DESK has, where no PLAN.db is named)")
+                        help="the desk that has the plan: http://HOST:PORT, or the path of its socket (else what "
+                             "OPCPLAN_DESK has, if no PLAN.db is given)")
     parser.add_argument("--yes", action="store_true", help="run it without asking")
     colours.add_words(parser)
-    parser.add_argument("--new", action="store_true", help="make a new plan in PLAN.db, which isn't there yet")
+    parser.add_argument("--new", action="store_true", help="make a new plan in PLAN.db, which must not exist yet")
     parser.is_mixed = True
 
 
@@ -70,11 +70,11 @@ def run_stream(given: Settings) -> int:
     if desk is None and given.plan is not None:
         return run_over_file(given, given.plan)
     if desk is None and plan_file.is_database(given.stream):
-        raise UsageError(f"{given.stream} is a database, and the stream is missing: ./plan run {given.stream} STREAM; "
+        raise UsageError(f"{given.stream} is a database, so the stream is missing: ./plan run {given.stream} STREAM; "
                          "./plan run --help says more")
     if desk is None or given.plan is not None or given.is_new:
-        raise UsageError("PLAN.db or --desk DESK is wanted, one of them, and --new goes with PLAN.db; ./plan run "
-                         "--help says more")
+        raise UsageError("give PLAN.db or --desk DESK, one of them; --new goes with PLAN.db; ./plan run --help says "
+                         "more")
     return run_by_desk(given, desk_plan.of_words(desk))
 
 
@@ -86,7 +86,7 @@ def run_over_file(given: Settings, plan: str) -> int:
     with trial.tried(None if given.is_new else plan, given.stream, check.checked, given.program) as tried:
         agree(tried, given)
         if plan_file.stamps(path) != before:
-            raise Error(f"{plan} was written to meanwhile; ask again: nothing was done")
+            raise Error(f"{plan}: nothing was done, because another program wrote to it meanwhile; run it again")
         answers = f"{tried.stream}.out"
         named = os.path.abspath(plan)
         status, said = trial.done(tried, named, answers)
@@ -97,7 +97,8 @@ def run_over_file(given: Settings, plan: str) -> int:
             show_answers(tried, answers, given.color)
             sys.stdout.flush()
         except (OSError, Unwritable) as error:
-            words.print_message(f"it was run, with status {status}; its answers can't be shown: {why_of(error)}")
+            words.print_message(f"the stream was run, with status {status}, but its answers can't be "
+                                f"shown: {why_of(error)}")
     return status
 
 
@@ -106,10 +107,10 @@ def agree(tried: Trial[check.Checked], given: Settings) -> None:
     try:
         show(tried, given.color)
     except (OSError, Unwritable) as error:
-        raise Error(f"what would change can't be shown: {why_of(error)}: nothing was done") from None
+        raise Error(f"nothing was done, because what would change can't be shown: {why_of(error)}") from None
     if tried.found.end or tried.status not in trial.SOUND:
         trial_words.print_end(tried)
-        raise Error("the trial didn't come to its end: nothing was done")
+        raise Error("nothing was done, because the trial didn't come to its end")
     if not given.is_agreed:
         ask()
 
@@ -136,7 +137,8 @@ def run_by_desk(given: Settings, desk: client.Client) -> int:
             words.print_message(f"somebody changed the plan of {desk.name} meanwhile: {done_text(done, whole)}; the "
                                 "rest is tried on the plan as it is now")
             earlier = now
-    raise Error(f"others change the plan of {desk.name} all the while: {done_text(done, whole)}, and nothing else")
+    raise Error(f"others kept changing the plan of {desk.name}: {done_text(done, whole)}, and nothing else; run the "
+                "rest again")
 
 
 @dataclasses.dataclass(frozen=True)
@@ -199,21 +201,21 @@ def show_part(
         show_answers(tried, answers, given.color, left)
         sys.stdout.flush()
     except (OSError, Unwritable) as error:
-        words.print_message(f"{desk.name} did it; its answers can't be shown: {why_of(error)}")
+        words.print_message(f"{desk.name} did it, but its answers can't be shown: {why_of(error)}")
 
 
 def ask_file(path: str, is_new: bool) -> None:
     """Asks that the plan is there, or where a new one is wanted, that nothing is. Raises Unreadable."""
     if is_new and os.path.lexists(path):
-        raise Unreadable(f"{path}: it is there already; without --new the stream goes on with it")
+        raise Unreadable(f"{path}: the file exists already; leave --new away to run the stream over it")
     if not is_new and os.path.isfile(path) and locks.is_held(path, locks.OF_A_DESK):
-        raise Unreadable(f"{path}: a desk has it; `./plan run --desk DESK STREAM` has that desk do the stream")
+        raise Unreadable(f"{path}: a desk has it; `./plan run --desk DESK STREAM` has the desk do the stream")
     if not is_new and not os.path.lexists(path):
         folder, name = os.path.split(os.path.abspath(path))
         others = os.listdir(folder) if os.path.isdir(folder) else []
         plans = [other for other in others if plan_file.is_database(os.path.join(folder, other))]
         near = difflib.get_close_matches(name, plans, 1)
-        meant = f" (is {os.path.join(os.path.dirname(path), near[0])} meant?)" if near else ""
+        meant = f" (did you mean {os.path.join(os.path.dirname(path), near[0])}?)" if near else ""
         raise Unreadable(f"{path}: there is no such file{meant}; --new makes a new plan there")
 
 
@@ -231,7 +233,7 @@ def shown_text(tried: Trial[check.Checked]) -> str:
 def ask() -> None:
     """Asks on the terminal whether the stream shall be run. Raises Error where the answer is another one than yes."""
     if not (sys.stdin and sys.stdin.isatty() and sys.stderr.isatty()):
-        raise Error("there is no terminal to ask on; --yes runs it without asking: nothing was done")
+        raise Error("nothing was done, because there is no terminal to ask on; --yes runs it without asking")
     print("Run it? [y/N] ", end="", file=sys.stderr, flush=True)
     if sys.stdin.buffer.readline().strip().lower() not in (b"y", b"yes"):
         raise Error("nothing was done")
@@ -259,8 +261,8 @@ def show_answers(tried: Trial[check.Checked], path: str, color: str, left: int =
                 print(colours.text(printable.text([*rows, *reply_lines(item, reply, now)]), color))
                 rows.clear()
         except explanations.OutputMismatch as why:
-            words.print_message(f"{tried.program}: it doesn't answer as opcplan does: {why}; all that it answered "
-                                "follows")
+            words.print_message(f"{tried.program}: it doesn't answer as opcplan does: {why}; everything that it "
+                                "answered follows")
             show_raw(path)
 
 

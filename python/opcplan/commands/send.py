@@ -72,17 +72,16 @@ class Settings:
 def add_words(parser: words.Parser) -> None:
     """Adds its words to a parser."""
     parser.description = (
-        "Sends the job stream on standard input to a desk, or runs it over PLAN.db where no desk has that; or one "
-        "statement in words: `start APP D/HH.MM`, and so "
-        f"{', '.join(SHORT[1:])}, each as the statement cp-..; or any statement but define as "
-        "docs/rules/STATEMENTS.md has it. A serial may stand for APP D/HH.MM. A statement in words without a "
-        "job number gets the next one, which is told; "
-        "a desk gives numbers to all that lack one. While the desk is away, or another program has PLAN.db, it is "
-        "tried again; no statement is "
-        "run twice. The replies are printed as opcplan prints them, and "
-        "what a refusal means on standard error. The exit status is opcplan's: 0, 4 where some were refused, 8 after "
-        "a fault, and where nothing could be sent; 2 where the words are wrong. " + stream.BOUND + " A token for the "
-        "desk stands in the environment as OPCPLAN_TOKEN, or in the file that OPCPLAN_TOKEN_FILE names."
+        "Sends the job stream on standard input to a desk, or runs it over PLAN.db if no desk has that. Or it sends "
+        f"one statement in words: `start APP D/HH.MM`, and likewise {', '.join(SHORT[1:])}, each as the statement "
+        "cp-.. of that name. Any statement of docs/rules/STATEMENTS.md except define is possible too. You may give a "
+        "serial in place of APP D/HH.MM. A statement in words without a job number gets the next one, which `send` "
+        "prints; a desk gives numbers to all that lack one. While the desk is away, or another program has PLAN.db, "
+        "`send` tries again; no statement is run twice. It prints the replies as opcplan prints them, and on standard "
+        "error what a refusal means. The exit status is opcplan's: 0, 4 if some were refused, 8 after a fault, and if "
+        "nothing could be sent; 2 if the words are "
+        "wrong. " + stream.BOUND + " Put a token for the desk into OPCPLAN_TOKEN, or into the file that "
+        "OPCPLAN_TOKEN_FILE names."
     )
     where = parser.add_mutually_exclusive_group()
     where.add_argument("--desk", default=client.usual(), metavar="DESK",
@@ -90,10 +89,9 @@ def add_words(parser: words.Parser) -> None:
                        "between them (else what OPCPLAN_DESK has)")
     where.add_argument("--db", type=words.file, metavar="PLAN.db", help="the file that opcplan --db keeps")
     parser.add_argument("--wait", type=seconds, default=0, metavar="SECONDS",
-                        help="how long it is tried again while the desk is away, or another program has PLAN.db (else "
-                        "once)")
+                        help="how long to try again while the desk is away, or another program has PLAN.db (else once)")
     parser.add_argument("--key", type=key, metavar="KEY",
-                        help="the key under which a desk does the stream once (else a new one)")
+                        help="the key under which a desk does the stream once (else a new key)")
     parser.add_argument("--program", metavar="FILE", type=words.file,
                         help="the planner that runs it (else the one that is built here)")
     parser.add_argument("words", nargs=argparse.REMAINDER, metavar="STATEMENT",
@@ -107,14 +105,14 @@ def seconds(text: str) -> float:
     except ValueError:
         found = math.nan
     if not 0 <= found <= 1_000_000:
-        raise argparse.ArgumentTypeError(f"{text!r} is no number of seconds, 0 to 1000000")
+        raise argparse.ArgumentTypeError(f"{text!r} is not a number of seconds from 0 to 1000000")
     return found
 
 
 def key(text: str) -> str:
     """A key for a desk, for `type=`."""
     if not re.fullmatch(r"[!-\"$-~]{1,200}", text):
-        raise argparse.ArgumentTypeError(f"{text!r} is no key: 1 to 200 characters, and neither blanks nor #")
+        raise argparse.ArgumentTypeError(f"{text!r} is not a key, which has 1 to 200 characters, without blanks and #")
     return text
 
 
@@ -129,7 +127,7 @@ def sent_to(given: Settings) -> int:
     if lack := option_lacked(given.words):
         raise UsageError(f"{lack}; nothing was sent")
     if given.plan is None and given.desk is None:
-        raise UsageError("one of --desk and --db is wanted; ./plan send --help says more")
+        raise UsageError("give --desk or --db, one of them; ./plan send --help says more")
     try:
         desk = client.Client(given.desk, client.token()) if given.plan is None and given.desk is not None else None
         line = line_of(with_key(given.plan, desk, parts(given.words))) if given.words else None
@@ -169,12 +167,12 @@ def run_over_file(path: str, planner: str | None, line: Line | None, until: floa
     except Unreadable as why:
         raise StreamNotSent(str(why)) from None
     except locks.FileLocked:
-        raise StreamNotSent(f"{path}: another program sends to it all the while; nothing was sent") from None
+        raise StreamNotSent(f"{path}: nothing was sent, because another program kept sending to it") from None
     except OSError as error:
         raise StreamNotSent(f"{error.filename or 'standard input'}: {error.strerror}; nothing was sent") from None
     status = shown(text, ran, explained=explained, path=path)
     if is_held(ran) and locks.is_held(path, locks.OF_A_DESK):
-        words.print_message(f"{path}: a desk has it; `./plan send --desk DESK ..` asks that desk")
+        words.print_message(f"{path}: a desk has it; `./plan send --desk DESK ..` sends to the desk")
     return status
 
 
@@ -183,7 +181,7 @@ def check_file(path: str) -> None:
     if not os.path.isfile(path):
         raise Unreadable(f"{path}: there is no such file; `./opcplan --db` makes a new plan")
     if not os.path.getsize(path):
-        raise Unreadable(f"{path}: it is empty, and no plan; `./opcplan --db` makes a new one in it")
+        raise Unreadable(f"{path}: it is empty, so it is not a plan; `./opcplan --db` makes a new plan in it")
 
 
 def text_sent() -> bytes:
@@ -324,7 +322,7 @@ def in_full(given: list[str]) -> list[str]:
     """The words of a statement, where `start APP D/HH.MM` stands for `cp-start --app APP --ia D/HH.MM`."""
     name, *rest = given
     if name == "define":
-        raise StatementNotSent("`define` has data: send it in a stream")
+        raise StatementNotSent("`define` has data; send it in a stream")
     if name in statements.KINDS and statements.KINDS[name].is_on_key and not any(
         word.startswith("-") for word in rest[:2]
     ) and len(rest) > 1:
@@ -333,7 +331,7 @@ def in_full(given: list[str]) -> list[str]:
         return given
     if len(rest) < 2 or rest[0].startswith("-") or rest[1].startswith("-"):
         serial = f", or a serial, as `{name} 11`" if name in statements.ACTS else ""
-        raise StatementNotSent(f"`{name}` takes an application and its input arrival, as `{name} PAY "
+        raise StatementNotSent(f"`{name}` needs an application and its input arrival, as `{name} PAY "
                                f"2024-01-31/08.00`{serial}")
     app, ia, *others = rest
     return [f"cp-{name}", "--app", app.upper(), "--ia", ia, *others]
@@ -403,7 +401,7 @@ def next_number(path: str, plan: plan_file.Plan) -> int:
     """The next job number of a plan. Raises Unreadable."""
     number = printed_numbers.behind(path, job_numbers.after_greatest(plan.db))
     if number > job_numbers.GREATEST:
-        raise Unreadable(f"{path}: the greatest job number is used; name a lesser one by --job")
+        raise Unreadable(f"{path}: the greatest job number is used; give a smaller one with --job")
     return number
 
 
@@ -435,8 +433,8 @@ def shown(
         sys.stdout.buffer.write(ran.stdout)
         sys.stdout.buffer.flush()
     except (OSError, Unwritable) as error:
-        raise StreamNotSent(f"the replies can't be printed: {error}; what was sent was answered, so send it again with "
-                            f"{'`--key ' + used + '`' if used else 'its job numbers'}, and nothing is done "
+        raise StreamNotSent(f"the replies can't be printed: {error}. The statements were answered; send them again "
+                            f"with {'`--key ' + used + '`' if used else 'its job numbers'}, and nothing is done "
                             "twice") from None
     with contextlib.suppress(OSError):
         message = ran.stderr.decode(errors="surrogateescape").replace(os.path.abspath(path), path)

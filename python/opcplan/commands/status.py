@@ -32,14 +32,15 @@ class Line(NamedTuple):
 def add_words(parser: words.Parser) -> None:
     """Adds its words to a parser."""
     parser.description = (
-        "Tells on one screen which program has the plan, when the current plan ends and has to be extended, how many "
-        "occurrences have which status, what is in error, late and due next, and which definitions end before the "
-        "plan does. The exit status is 0 where there is nothing to do, and 1 where something is in error or late, the "
-        "current plan is at its end, or a definition is."
+        "Shows on one screen which program has the plan, when the current plan ends and has to be extended, and how "
+        "many occurrences have which status. It also shows what is in error, late and due next, and which definitions "
+        "end before the plan does. The exit status is 0 if there is nothing to do, and 1 if something is in error or "
+        "late, or the current plan or a definition is at its end."
     )
     parser.add_argument("plan", metavar="PLAN.db", nargs="?", type=words.file, help="the file that opcplan --db keeps")
-    parser.add_argument("--desk", metavar="DESK", help="the desk that has the plan: http://HOST:PORT, or the path of "
-                        "its socket (else what OPCPLAN_DESK has, where no PLAN.db is named)")
+    parser.add_argument("--desk", metavar="DESK",
+                        help="the desk that has the plan: http://HOST:PORT, or the path of its socket (else what "
+                             "OPCPLAN_DESK has, if no PLAN.db is given)")
     words.add_now(parser)
     colours.add_words(parser)
 
@@ -48,7 +49,7 @@ def run(given: argparse.Namespace) -> int:
     """Does what the words ask for; the exit status."""
     desk = given.desk or (client.usual() if given.plan is None else None)
     if (given.plan is None) == (desk is None):
-        raise UsageError("PLAN.db or --desk DESK is wanted, one of them; ./plan status --help says more")
+        raise UsageError("give PLAN.db or --desk DESK, one of them; ./plan status --help says more")
     now = moments.now() if given.now is None else given.now
     if desk is None:
         with plan_file.opened(given.plan) as plan:
@@ -64,9 +65,9 @@ def run(given: argparse.Namespace) -> int:
 def holder_text(path: str) -> str:
     """Which program has the plan in a file."""
     if locks.is_held(path, locks.OF_A_DESK):
-        return "a desk has it; `./plan send --desk DESK` asks that."
+        return "a desk has it; `./plan send --desk DESK` sends to the desk."
     if locks.is_held(path, locks.OF_A_RUN):
-        return "opcplan has it open, or another program."
+        return "opcplan or another program has it open."
     return "no program has it open."
 
 
@@ -128,7 +129,7 @@ def row_lines(rows: list[Row], model: Model, now: int) -> list[Line]:
     lines: list[Line] = []
     for title, found, colour in (("In error", errors, "red"), ("Late", is_late, "yellow"), ("Due next", coming, None)):
         if found:
-            more = f" ({len(found):,}, of which these are due first)" if len(found) > MOST else ""
+            more = f" ({len(found):,}; these are due first)" if len(found) > MOST else ""
             lines += [Line(""), Line(f"{title}{more}:", "bold")]
             lines += [Line(f"  {text}", colour) for text in aligned(rows, model, found[:MOST], held, now)]
     return lines

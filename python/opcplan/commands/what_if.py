@@ -34,9 +34,10 @@ PLACES = {
 def add_words(parser: words.Parser) -> None:
     """Adds its words to a parser."""
     parser.description = (
-        "Runs STREAM over a private copy of PLAN.db, and shows the statements that are refused and what is different "
-        "then: definitions, how far the plans reach, and each occurrence that is new, stands elsewhere or is due "
-        "otherwise. The plan stays as it is. The exit status is 1 where a statement is refused. " + stream.BOUND
+        "Runs STREAM over a private copy of PLAN.db, and shows which statements are refused and what is different "
+        "then. It shows changed definitions, how far the plans reach, and each occurrence that is new, is in another "
+        "list or has another deadline. The plan stays as it is. The exit status is 1 if a statement is "
+        "refused. " + stream.BOUND
     )
     words.add_plan(parser)
     trial_words.add_words(parser, "tries")
@@ -70,7 +71,7 @@ def difference(before: Plan, after: Plan, most: int | None = None) -> list[str]:
     with progress.of("compares the plans"):
         changed = changed_rows(before, after)
     lines += occurrence_lines(changed, most)
-    return lines or ["", "Nothing would be different but the jobs that are kept."]
+    return lines or ["", "Nothing would be different except the kept jobs."]
 
 
 def definition_lines(before: Definitions, after: Definitions) -> list[str]:
@@ -160,7 +161,8 @@ def occurrence_lines(changed: list[tuple[Row | None, Row]], most: int | None = N
     wide = len(f"{len(changed)}")
     lines = ["", f"Occurrences: {len(changed)}"]
     for (old, new), count in sorted(counts.items()):
-        lines.append(f"  {count:{wide}}  {f'{old}, due or named otherwise' if old == new else f'{old} -> {new}'}")
+        how = f"{old}, with another deadline or run cycle" if old == new else f"{old} -> {new}"
+        lines.append(f"  {count:{wide}}  {how}")
     table: list[tuple[str, ...]] = [("serial", "application", "arrives", "before", "then", "due")]
     table += [occurrence_cells(old, new) for old, new in changed[:most]]
     widths = [max(map(len, column)) for column in zip(*table)]

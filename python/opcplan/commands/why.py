@@ -1,4 +1,4 @@
-"""./plan why: why an occurrence isn't started, or why it stands where it stands."""
+"""./plan why: why an occurrence isn't started, or why it is where it is."""
 
 import argparse
 import dataclasses
@@ -12,16 +12,17 @@ from opcplan.plans.waits import Row, Waits
 from opcplan.rules import moments, naming, printable, statuses
 from opcplan.rules.naming_words import meant_text
 
-SUMMARY = "why an occurrence isn't started, or why it stands where it stands"
+SUMMARY = "why an occurrence isn't started, or why it is where it is"
 MOST_LINES, DEEPEST = 60, 20
 SENTENCES = {
     "S": "It is started, and not complete yet.",
-    "E": "It ended in error. `cp-reset` lets it wait again, `cp-complete` takes it as done, `cp-delete` gives it up.",
+    "E": "It ended in error. `cp-reset` lets it wait again, `cp-complete` marks it as complete, `cp-delete` deletes "
+         "it.",
     "C": "The next daily plan takes it to history.",
     "D": "An operator deleted it. The next daily plan takes it to the deletions.",
     "H": "It was complete, and a daily plan took it to history.",
     "o": "No planning statement makes it again; `ltp-add` or `cp-add` can.",
-    "w": "When the long-term plan was modified, its run cycles named it no more.",
+    "w": "When the long-term plan was modified, its run cycles no longer named it.",
     "p": "An operator deleted it in the current plan, and a daily plan took it to the deletions.",
 }
 
@@ -39,16 +40,16 @@ class Settings:
 def add_words(parser: words.Parser) -> None:
     """Adds its words to a parser."""
     parser.description = (
-        "Tells where an occurrence stands and why. Of one that waits, all that isn't complete of what it waits for is "
-        "shown as a tree, down to those that wait for nothing. With the journal of a desk also when it ran, how long "
-        "its application takes, and of one that isn't complete when it is likely to end. The exit status is 1 where "
-        "it stands nowhere."
+        "Shows where an occurrence is and why. For one that waits, a tree shows everything that isn't complete of what "
+        "it waits for, down to those that wait for nothing. With the journal of a desk it also shows when the "
+        "occurrence ran, how long its application takes, and, if it isn't complete, when it is likely to end. The exit "
+        "status is 1 if it is nowhere."
     )
     words.add_plan(parser)
     keys.add_key(parser)
     words.add_now(parser)
     words.add_journal(parser)
-    parser.add_argument("--all", action="store_true", help=f"all lines of the tree, also past {MOST_LINES}")
+    parser.add_argument("--all", action="store_true", help=f"all lines of the tree, also beyond {MOST_LINES}")
 
 
 def run(given: argparse.Namespace) -> int:
@@ -93,14 +94,14 @@ def waiting_lines(plan: Plan, row: Row, now: int, all_lines: bool) -> list[str]:
     count = len(waiting) - 1
     if row.place == "L":
         end = moments.moment_text(plan.meta["plan_end"])
-        lines = [f"The current plan ends at {end}; a daily plan that reaches past its arrival takes it."]
+        lines = [f"The current plan ends at {end}; a daily plan that reaches past its arrival includes it."]
     else:
         how = STATE_WORDS[waits.state(row, bool(count), now)]
         late_by = f", and {waits.late_text(row, now)}" if waits.is_late(row, now) else ""
         lines = [f"At {moments.moment_text(now)} it {how}{late_by}."]
     if not count:
-        done = "all that it waits for is complete" if waits.predecessors(plan, row.serial) else "it waits for no other"
-        return [*lines, f"Nothing is in its way: {done}."]
+        done = "all that it waits for is complete" if waits.predecessors(plan, row.serial) else "it waits for nothing"
+        return [*lines, f"Nothing holds it up: {done}."]
     lines.append(f"It waits for {count} that {'is' if count == 1 else 'are'} not complete:")
     lines += ["", *tree_lines(waiting, row, now, all_lines)]
     last = waits.roots(waiting, row)
@@ -196,7 +197,7 @@ def nowhere_lines(plan: Plan, app: str, ia: int) -> list[str]:
     apps = plan_definitions.of_plan(plan).applications
     if app not in apps and not waits.is_of_a_row(plan, app):
         return [f"The application {app} isn't defined{meant_text(app, apps)}, and the plan has no occurrence of it."]
-    lines = [f"{app} {moments.moment_text(ia)} stands nowhere, and never did."]
+    lines = [f"{app} {moments.moment_text(ia)} is nowhere, and never was."]
     if not plan.is_created:
         lines.append("There is no long-term plan yet; `ltp-create` makes one.")
     return lines + named_lines(plan, app, ia)
@@ -209,8 +210,8 @@ def named_lines(plan: Plan, app: str, ia: int) -> list[str]:
     named = [one for one in said.times if one.time == time and not one.excluded_by]
     if named and said.obstacle is None:
         reason = why_day.why_missing(plan, app, ia, waits.rows_of_key(plan, app, ia))
-        return [f"By the definitions as they stand now {named[0].cycle.name} names it.", reason]
-    lines = [f"By the definitions as they stand now nothing names it at {moments.minute_text(time)}."]
+        return [f"By the current definitions {named[0].cycle.name} names it.", reason]
+    lines = [f"By the current definitions nothing names it at {moments.minute_text(time)}."]
     first, last = plan.meta["first_day"], plan.meta["last_day"]
     if plan.is_created and not first <= day <= last:
         lines.append(f"The long-term plan goes from {moments.day_text(first)} to {moments.day_text(last)}.")
@@ -220,10 +221,10 @@ def named_lines(plan: Plan, app: str, ia: int) -> list[str]:
 def earlier_lines(rows: list[Row]) -> list[str]:
     """The other rows of the same key."""
     lines = [f"  serial {row.serial} {statuses.WHERE[row.place]}" for row in rows]
-    return ["", "Others of this application and arrival:", *lines] if lines else []
+    return ["", "Others with this application and arrival:", *lines] if lines else []
 
 
 def job_lines(plan: Plan, app: str, ia: int) -> list[str]:
     """What was asked of the key by its jobs."""
     lines = [f"  job {number}  {name}: {reply}" for number, name, reply in waits.jobs_of_key(plan, app, ia)]
-    return ["", "Jobs that asked something of it:", *lines] if lines else []
+    return ["", "Jobs on it:", *lines] if lines else []

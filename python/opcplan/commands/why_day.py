@@ -14,8 +14,8 @@ from opcplan.rules.definitions import Definitions
 SUMMARY = "which run cycle, offset, rule and free day name a day, or why none does"
 WIDTH = 100
 OBSTACLES = {
-    "unknown": "The application {app} isn't defined, so nothing names a day of it.",
-    "pending": "The application {app} is pending, and only active ones are planned.",
+    "unknown": "The application {app} isn't defined, so no day is named for it.",
+    "pending": "The application {app} is pending, and only active applications are planned.",
     "calendar": "The application {app} names the calendar {calendar}, which isn't defined: planning is refused 22.",
     "periods": "Run cycles of {app} name periods that aren't defined ({periods}): planning is refused 23.",
 }
@@ -24,9 +24,9 @@ OBSTACLES = {
 def add_words(parser: words.Parser) -> None:
     """Adds its words to a parser."""
     parser.description = (
-        "Tells of each run cycle of an application whether it names a day and how, or why it doesn't, by the "
-        "definitions as they stand in PLAN.db; and where the occurrences of that day stand. The exit status is 0 where "
-        "the day is named, and 1 where it isn't."
+        "Shows for each run cycle of an application whether it names a day and how, or why it doesn't, by the "
+        "definitions in PLAN.db; and where the occurrences of that day are. The exit status is 0 if the day is named, "
+        "and 1 if it isn't."
     )
     words.add_plan(parser)
     keys.add_key_of_day(parser)
@@ -98,7 +98,7 @@ def time_lines(named: naming.Named) -> list[str]:
     """What comes of one time of the day."""
     at_time = moments.minute_text(named.time)
     if named.excluded_by:
-        return [f"{at_time}  taken away by {' and '.join(named.excluded_by)}, though {named.cycle.name} names it:"]
+        return [f"{at_time}  excluded by {' and '.join(named.excluded_by)}, though {named.cycle.name} names it:"]
     least = f", the least name of {1 + len(named.others)}" if named.others else ""
     return [f"{at_time}  by {named.cycle.name}{least}, due {moments.moment_text(named.deadline)}:"]
 
@@ -152,7 +152,7 @@ def why_missing(plan: Plan, app: str, ia: int, rows: list[Row]) -> str:
     if ia < meta["first_day"] * waits.DAY:
         return f"It isn't planned: the long-term plan begins with {first}."
     if any(row.ia == ia and row.place == "o" for row in rows):
-        return "It isn't made again, since an operator deleted it; an `ltp-add` or `cp-add` makes it by hand."
+        return "It isn't made again, because an operator deleted it; `ltp-add` or `cp-add` makes it by hand."
     if ia < meta["plan_end"]:
-        return "It isn't made: it arrives before the current plan's end, where `cp-add` alone adds something."
+        return "It isn't made: it arrives before the end of the current plan, where only `cp-add` adds occurrences."
     return f"It isn't made yet: `ltp-modify-one --app {app}` or `ltp-modify-all` makes it."

@@ -124,7 +124,7 @@ def of_journal(path: str | None, plan: Plan) -> Actual | None:
     try:
         return Actual(happened)
     except (ValueError, AttributeError):
-        raise Unreadable(f"{path}: it has a time that is none") from None
+        raise Unreadable(f"{path}: it has an invalid time") from None
 
 
 OTHERS = f"""SELECT was.serial, was.app, was.ia FROM temp.happened AS was JOIN
@@ -143,5 +143,4 @@ def check(path: str, happened: Iterable[StatusChange], plan: Plan) -> None:
                         ((serial, app, ia, moments.moment_of(ia)) for serial, app, ia in known))
     other = ask(OTHERS).fetchone()
     if other:
-        raise Unreadable(f"{path}: it is the journal of another plan: there serial {other[0]} is "
-                                   f"{other[1]} {other[2]}")
+        raise Unreadable(f"{path}: it is the journal of another plan: in it serial {other[0]} is {other[1]} {other[2]}")

@@ -47,7 +47,7 @@ def taken_by_opcplan(path: str, copy: str, folder: str, program: str | None) -> 
         taken(copy, os.path.join(folder, "other.db"))
         ask(path, os.path.join(folder, "other.db"), program)
     if holds_something(f"{copy}-wal"):
-        raise Unreadable(f"{path}: the log of its copy can't be taken into the copy")
+        raise Unreadable(f"{path}: the log of its copy can't be merged into the copy")
     return meta
 
 
@@ -67,7 +67,7 @@ def ask(path: str, copy: str, program: str | None) -> None:
         raise Unreadable(f"{program}: it can't be run: {error.strerror}") from None
     if ran.returncode:
         reason = ran.stderr.decode(errors="replace").split("\n")[0].removeprefix("opcplan: ").replace(f"{copy}: ", "")
-        raise Unreadable(f"{path}: opcplan doesn't take it: {reason or ran.returncode}")
+        raise Unreadable(f"{path}: opcplan doesn't accept it: {reason or ran.returncode}")
 
 
 def holds_something(path: str) -> bool:

@@ -38,8 +38,8 @@ TAIL = ".journal"
 NO_END = 1 << 62
 # a disk with less room is full, in bytes: SQLite's logs take so much at once
 LEAST_ROOM = 1 << 16
-NEW_JOURNAL = ("Where that was meant, begin a new journal: name a file by --journal that isn't there yet; keys and "
-               "times of the old one stay there")
+NEW_JOURNAL = ("If that was intended, begin a new journal: give --journal a file that doesn't exist yet. Keys and "
+               "times of the old journal stay in it")
 # how long a plan may be written to before it is opened, in seconds
 PATIENCE = 30
 
@@ -108,7 +108,7 @@ class Journal:
         if not names:
             self.db.executescript(f"BEGIN IMMEDIATE;{SCHEMA}COMMIT;")
         elif version != 1 or not {"entry", "happened"} <= names:
-            raise Unreadable(f"{self.path}: it is a database, but no journal of a desk")
+            raise Unreadable(f"{self.path}: it is a database, but not the journal of a desk")
         columns = {name for _, name, *_ in self.db.execute("PRAGMA table_info(entry)")}
         for name in LATER:
             if name not in columns:
@@ -303,7 +303,7 @@ class Journal:
         for serial, app, ia, status, at, seq in found:
             texts = (app, ia, status, at)
             if not (isinstance(serial, int) and all(isinstance(one, str) for one in texts) and entry.is_moment(at)):
-                raise sqlite3.DatabaseError(f"what happened by entry {seq} is nothing that a desk writes")
+                raise sqlite3.DatabaseError(f"no desk writes what `happened` has for entry {seq}")
         return [StatusChange(*row) for row in found]
 
     def close(self) -> None:
@@ -329,7 +329,7 @@ def entry_of(row: tuple[int, str, str, str | None, int, str | bytes, str | None,
     texts = [at, who, *(one for one in (key, reply, stream) if one is not None)]
     if not (all(isinstance(one, str) for one in texts) and entry.is_moment(at) and isinstance(job, int)
             and isinstance(text, (str, bytes))):
-        raise sqlite3.DatabaseError(f"entry {seq} is none of a desk")
+        raise sqlite3.DatabaseError(f"no desk writes what entry {seq} has")
     return Entry(seq, at, who, key, job, text.encode() if isinstance(text, str) else text, reply, stream)
 
 
@@ -352,7 +352,7 @@ def options(text: str | bytes) -> dict[str, str]:
 def opened(path: str) -> Iterator[Journal]:
     """A Journal to read: a private copy, which goes when the context ends. Raises Unreadable."""
     if os.path.exists(path) and not os.path.isfile(path):
-        raise Unreadable(f"{path}: it is no file")
+        raise Unreadable(f"{path}: it is not a file")
     if not os.path.exists(path) or not os.path.getsize(path):
         raise Unreadable(f"{path}: there is no such journal")
     with tempfiles.folder("journal-") as folder:
@@ -388,9 +388,9 @@ def for_desk(path: str, plan: str) -> Journal:
             last = next(iter(journal.last_kept()), None)
             if last and held.db.execute("SELECT 1 FROM job WHERE number = ?", (last.job,)).fetchone() is None:
                 raise Unreadable(
-                    f"{path}: it was answered by a later plan than {plan}, which lacks job {last.job}. Run the journal "
-                    f"over the plan, by `./plan journal {plan} --journal {path} --stream | ./opcplan --db {plan}`, or "
-                    "name a new one by --journal")
+                    f"{path}: it belongs to a later state of {plan}, which lacks job {last.job}. Run the journal over "
+                    f"the plan: `./plan journal {plan} --journal {path} --stream | ./opcplan --db {plan}`. Or begin a "
+                    "new journal: give --journal a file that doesn't exist yet")
             try:
                 journal_plan.check(journal, held)
             except journal_plan.JournalMismatch as why:

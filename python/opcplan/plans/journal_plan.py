@@ -29,14 +29,12 @@ def check(record: "Journal", held: "Plan", others: Set[int] = frozenset(), upto:
     wrong = next(filter(None, (wrong_with(one, held) for one in record.last_kept(MOST_COMPARED, upto))), None)
     if wrong:
         place = f", {known.path}" if known and known.path != os.path.realpath(held.path) else ""
-        raise JournalMismatch(f"{record.path}: {wrong}: it is the journal of another plan{place}. Name the journal of "
-                              "this "
-                              "plan by --journal, or a file that isn't there yet for a new one")
+        raise JournalMismatch(f"{record.path}: {wrong}: it is the journal of another plan{place}. Give --journal the "
+                              "journal of this plan, or a file that doesn't exist yet for a new journal")
     added = strangers(record, held) - known.jobs - others if known else set()
     if added:
-        raise JournalMismatch(f"{held.path}: it has job {min(added)}, which its journal {record.path} doesn't have: it "
-                              "was "
-                              "changed while no desk had it")
+        raise JournalMismatch(f"{held.path}: it has job {min(added)}, which its journal {record.path} lacks: somebody "
+                              "changed the plan while no desk had it")
     note(record, held)
 
 
@@ -48,7 +46,7 @@ def wrong_with(one: Entry, held: "Plan") -> str:
     if written(bytes(row[0])) != one.text:
         return f"its entry {one.seq} isn't job {one.job} of {held.path}"
     if row[1] != one.reply:
-        return f"its entry {one.seq} was answered `{one.reply}`, and job {one.job} of {held.path} `{row[1]}`"
+        return f"its entry {one.seq} got the answer `{one.reply}`, but job {one.job} of {held.path} got `{row[1]}`"
     return ""
 
 

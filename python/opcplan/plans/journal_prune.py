@@ -86,7 +86,7 @@ def prune(path: str, cut: Cut) -> None:
         with contextlib.closing(Journal(path)):
             pass  # leaves all in one file
         if os.path.exists(f"{path}-wal") and os.path.getsize(f"{path}-wal"):
-            raise Unreadable(f"{path}: another program has it open; end that first: nothing was done")
+            raise Unreadable(f"{path}: nothing was done, because another program has it open; end that program first")
         remove(part)
         copied(path, part)
         shorten(part, cut)
@@ -95,10 +95,10 @@ def prune(path: str, cut: Cut) -> None:
         sync(os.path.dirname(path))
     except OSError as error:
         remove(part)
-        raise Unwritable(f"{path}: it can't be pruned: {error.strerror}: nothing was done") from None
+        raise Unwritable(f"{path}: nothing was done: it can't be pruned: {error.strerror}") from None
     except sqlite3.Error as error:
         remove(part)
-        raise Unwritable(f"{path}: it can't be pruned: {journal.fault_text(error, path)}: nothing was done") from None
+        raise Unwritable(f"{path}: nothing was done: it can't be pruned: {journal.fault_text(error, path)}") from None
 
 
 def copied(path: str, part: str) -> None:

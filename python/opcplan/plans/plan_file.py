@@ -110,7 +110,7 @@ def opened(path: str | os.PathLike[str], is_own: bool = False) -> Iterator[Plan]
         except Unreadable as error:
             raise Unreadable(f"{path}: {error}") from None
         if os.path.getsize(copy) == 0:
-            raise Unreadable(f"{path}: it is empty, and no plan")
+            raise Unreadable(f"{path}: it is empty, so it is not a plan")
         with reading(path), contextlib.closing(sqlite3.connect(copy, isolation_level=None)) as db:
             prepare(db)
             yield Plan(path, db, state.written) if is_own else checked(path, db, copy, state)
@@ -143,7 +143,7 @@ def place_of(path: str) -> str:
     if not os.path.exists(path):
         raise Unreadable(f"{path}: there is no such file")
     if not os.path.isfile(path):
-        raise Unreadable(f"{path}: it is no file")
+        raise Unreadable(f"{path}: it is not a file")
     return os.path.realpath(path)
 
 
@@ -190,7 +190,7 @@ def check_room(path: str, folder: str) -> None:
     wanted, free = sum(seen.size for seen in stamps(path)), shutil.disk_usage(folder).free
     if wanted > free:
         where = os.path.dirname(folder)
-        raise Unreadable(f"a private copy of it takes {wanted:,} bytes, and {where} has {free:,} free")
+        raise Unreadable(f"a private copy of it needs {wanted:,} bytes, but {where} has only {free:,} free")
 
 
 class NotAPlan(Error):
@@ -253,16 +253,16 @@ def meta_of(db: sqlite3.Connection) -> sqlite3.Row:
     """The one row of plan_meta, of a database that has a plan's tables in a version that is read here."""
     found = {row["name"] for row in db.execute("SELECT name FROM sqlite_schema WHERE type = 'table' AND rootpage > 0")}
     if "plan_meta" not in found:
-        raise NotAPlan("it is a database, but no plan: it has no table plan_meta")
+        raise NotAPlan("it is a database, but not a plan: it has no table plan_meta")
     rows: list[sqlite3.Row] = db.execute("SELECT * FROM plan_meta LIMIT 2").fetchall()
     if len(rows) != 1 or "version" not in rows[0].keys():
-        raise NotAPlan("it is no plan: its table plan_meta isn't one of a plan")
+        raise NotAPlan("it is not a plan: its table plan_meta isn't that of a plan")
     if rows[0]["version"] not in VERSIONS:
         read = " and ".join(map(str, VERSIONS))
-        raise NotAPlan(f"its tables are of version {rows[0]['version']}, and version {read} is read here")
+        raise NotAPlan(f"its tables have version {rows[0]['version']}, but this ./plan reads version {read}")
     lacked = [table for table in sound_rows.RULES if table not in found]
     if lacked:
-        raise NotAPlan(f"it is no plan: it has no table {lacked[0]}")
+        raise NotAPlan(f"it is not a plan: it has no table {lacked[0]}")
     sound_rows.ask_form(db, rows[0]["version"])
     return rows[0]
 
@@ -292,9 +292,9 @@ def copied_as(path: str, copy: str) -> State:
         if is_still(path, before):
             return before
     if has_journal(path):
-        reason = "another program writes to it, or was stopped while it did; opcplan doesn't open it either"
-        raise Unreadable(f"{os.path.basename(path)}{JOURNAL} stands beside it: {reason}")
-    raise Unreadable("it was written to all the while; try again")
+        reason = "another program is writing to the plan, or was stopped while it wrote. opcplan can't open it either"
+        raise Unreadable(f"{os.path.basename(path)}{JOURNAL} is beside it: {reason}")
+    raise Unreadable("another program kept writing to it; try again")
 
 
 def take(source: str, target: str) -> None:
@@ -306,7 +306,7 @@ def take(source: str, target: str) -> None:
     except FileNotFoundError:
         return
     if not stat.S_ISREG(mode):
-        raise Unreadable(f"what stands beside it as {os.path.basename(source)} is no file")
+        raise Unreadable(f"{os.path.basename(source)} beside it is not a file")
     shutil.copyfile(source, target)
 
 

@@ -148,8 +148,8 @@ def opened(place: Place) -> Iterator[int]:
         finally:
             os.close(number)
         if time.monotonic() >= until:
-            raise Unwritable(f"{place.path}: another program has had it for {PATIENCE:.0f} seconds, so no job number "
-                             "is free for certain; the same words again, or a number of your own by --job")
+            raise Unwritable(f"{place.path}: another program has had it for {PATIENCE:.0f} seconds, so it isn't known "
+                             "which job numbers are free. Type the same again, or give a number with --job")
         time.sleep(REST)
 
 
@@ -185,13 +185,13 @@ def check(number: int, place: Place) -> None:
     this user. Raises OSError and InvalidNumbersFile."""
     found, folder = os.fstat(number), os.stat(os.path.dirname(place.path))
     if not stat.S_ISREG(found.st_mode) or found.st_nlink != 1:
-        raise InvalidNumbersFile("it is no file of its own")
+        raise InvalidNumbersFile("it isn't a file of its own")
     if place.like is None:
         if any(one.st_uid != os.geteuid() or one.st_mode & BY_OTHERS for one in (found, folder)):
-            raise InvalidNumbersFile("others may write it")
+            raise InvalidNumbersFile("other users may write it")
         return
     plan = os.stat(place.like)
     if found.st_mode & BY_OTHERS & ~plan.st_mode:
-        raise InvalidNumbersFile("more may write it than the plan")
+        raise InvalidNumbersFile("more users may write it than may write the plan")
     if folder.st_mode & stat.S_ISVTX and found.st_uid not in (os.geteuid(), plan.st_uid):
         raise InvalidNumbersFile("another user made it, in a folder that is open to all")

@@ -23,4 +23,4 @@ def built_program() -> str:
             return program
     if not is_of_top() and (found := shutil.which("opcplan")):
         return found
-    raise Unreadable("there is no built planner to try it with: ./opcplan builds one, --program names one")
+    raise Unreadable("there is no planner to try it with: run ./opcplan to build one, or name one with --program")

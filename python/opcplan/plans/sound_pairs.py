@@ -70,11 +70,12 @@ def asked_pairs(db: sqlite3.Connection, version: int) -> Iterator[int]:
     for table in CLOSED:
         pairs, wrong = db.execute(FITTING.format(table)).fetchone()
         if wrong:
-            raise Unsound("its rows are no sound plan: a row that is no longer open has a pair that it can't have")
+            raise Unsound("its rows are no sound plan: a row that is no longer open has an impossible pair")
         found += pairs
         yield (done := done + 1)
     if db.execute("SELECT count(*) FROM dependency").fetchone()[0] != found:
-        raise Unsound("its rows are no sound plan: dependency has a pair that is none with a nearest predecessor")
+        raise Unsound("its rows are no sound plan: dependency has a pair that isn't one of a row and its nearest "
+                      "predecessor")
 
 
 def ask_keys(db: sqlite3.Connection) -> None:

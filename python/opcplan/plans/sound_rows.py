@@ -140,7 +140,7 @@ RELATIONS = [
         "SELECT 1 FROM plan_meta WHERE created = 0 AND (issued OR "
         + " OR ".join(f"EXISTS (SELECT 1 FROM {table})" for table in OF_PLANS)
         + ")",
-        "there are rows of plans, and plan_meta says that there is no plan",
+        "there are rows of plans, but plan_meta says that there is no plan",
     ),
     (
         f"SELECT 1 FROM plan_meta WHERE created AND (first_day > last_day OR last_day > {LAST_KEPT_DAY} OR "
@@ -184,7 +184,7 @@ RELATIONS = [
     *(
         (
             f"SELECT 1 FROM {one} AS one JOIN {other} AS other ON other.serial = one.serial",
-            f"a serial stands in {one} and in {other}",
+            f"a serial is in both {one} and {other}",
         )
         for place, one in enumerate(OF_PLANS[:4])
         for other in OF_PLANS[place + 1 : 4]
@@ -256,7 +256,7 @@ def ask_replies(db: sqlite3.Connection) -> None:
     cursor.row_factory = None
     for number, reply in cursor.execute("SELECT number, CAST(reply AS BLOB) FROM job"):
         if not REPLY.fullmatch(reply):
-            wrong = f"reply of job {number} is {shown(reply[:MOST_SHOWN], 'text')}, which is no answer to a job"
+            wrong = f"reply of job {number} is {shown(reply[:MOST_SHOWN], 'text')}, which isn't an answer to a job"
             raise Unsound(f"its rows are no sound plan: {wrong}")
 
 

@@ -44,7 +44,7 @@ def tried(
     `take` makes of the items of the stream, of the output, and of what is known before. Raises Unreadable."""
     program = os.path.abspath(program or built_program())
     if path is not None and plan_file.is_database(name) and not plan_file.is_database(path):
-        raise Unreadable(f"{path}: it is no plan, and {name} may be one: are they exchanged?")
+        raise Unreadable(f"{path}: it is not a plan, but {name} may be one; did you swap them?")
     with tempfiles.folder("trial-") as folder:
         text, copy, said = (os.path.join(folder, name) for name in ("stream.in", "plan.db", "said"))
         with plan_file.opened(path or new_plan(program, folder), is_own=path is None) as plan:
@@ -92,7 +92,7 @@ def new_plan(program: str, folder: str) -> str:
     with running(program, path, stdin=subprocess.DEVNULL, stdout=subprocess.DEVNULL, stderr=subprocess.DEVNULL) as ran:
         ran.wait()
     if ran.returncode or not os.path.exists(path):
-        raise Unreadable(f"{program}: it makes no new plan; it ended with status {ran.returncode}")
+        raise Unreadable(f"{program}: it doesn't make a new plan; it ended with status {ran.returncode}")
     return path
 
 

@@ -72,7 +72,7 @@ def parted_else(fields: list[bytes], fewest: int) -> str:
     """What is said of a record of one field which other marks than commas part into as many as there have to be."""
     marks = {b";": "semicolons", b"\t": "tabs", b"|": "bars"}
     found = [name for mark, name in marks.items() if len(fields) == 1 and fields[0].count(mark) + 1 >= fewest]
-    return f"; they are parted by {found[0]}, and commas are wanted" if found else ""
+    return f"; separate them by commas, not by {found[0]}" if found else ""
 
 
 def take_record(
@@ -136,14 +136,14 @@ def read_options(data: bytes) -> Block:
         block.fault = Fault(1, line_of(data, wrong.field), wrong.field, value, str(wrong))
     except UnicodeDecodeError as error:
         line = data.count(b"\n", 0, error.start)
-        block.fault = Fault(1, line, "", "", f"byte {data[error.start]:02X} hexadecimal is no UTF-8 text")
+        block.fault = Fault(1, line, "", "", f"byte {data[error.start]:02X} hexadecimal isn't UTF-8 text")
     except (ValueError, RecursionError) as error:  # of tomllib, which also reads no number of thousands of digits
         at = re.search(r"line ([0-9]+)", str(error))
         line = int(at.group(1)) - 1 if at else max(0, data.count(b"\n") - 1)
         reason = f"{error}" if isinstance(error, tomllib.TOMLDecodeError) else "it is too deep or too long to be read"
         if re.search(rb"(?m)^[ \t]*default_calendar[ \t]*=[ \t]*[A-Za-z@#$]", data):
-            reason += '; a name stands in double quotes, default_calendar = "DEFAULT"'
-        block.fault = Fault(1, line, "", "", f"it is no TOML: {reason}")
+            reason += '; write a name in double quotes, default_calendar = "DEFAULT"'
+        block.fault = Fault(1, line, "", "", f"it isn't TOML: {reason}")
     return block
 
 
@@ -158,7 +158,7 @@ def value_text(value: object) -> str:
 def check_option(key: str, value: object) -> None:
     """Asks that an option is known and in its range."""
     if key not in OPTIONS:
-        raise InvalidField(key, "there is no such option, but default_calendar and max_extension_hours")
+        raise InvalidField(key, "there is no such option; there are default_calendar and max_extension_hours")
     if key == "default_calendar":
         if not isinstance(value, str):
             raise InvalidField(key, "it has to be the name of a calendar, as text in quotes")

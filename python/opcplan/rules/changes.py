@@ -86,7 +86,7 @@ def end_text(day: int | None) -> str:
 
 def of_application(name: str, old: Application, new: Application) -> Iterator[Change]:
     if old.is_active != new.is_active:
-        text = f"makes {name} active" if new.is_active else f"makes {name} pending, so that it is planned no more"
+        text = f"makes {name} active" if new.is_active else f"makes {name} pending, so it is no longer planned"
         yield Change(text, (name,), old.is_active)
     if old.calendar != new.calendar:
         was, now = (calendar or "the default one" for calendar in (old.calendar, new.calendar))

@@ -13,10 +13,10 @@ WIDTH = 100
 REPLY = re.compile(r"(ok|refused|fault)( |$)")
 FAULTS = {
     "40": "memory was refused",
-    "41": "the store's disk, the reader or the writer failed",
-    "50": "the file can't be opened or made, or is no plan; nothing else may hold it open meanwhile",
+    "41": "the plan's disk, standard input or standard output failed",
+    "50": "the file can't be opened or made, isn't a plan, or another program has it open",
     "51": "the file's tables aren't those of a plan",
-    "52": "the rows of the file are no sound plan",
+    "52": "the rows in the file are no sound plan",
 }
 # a stream's output may be longer than the stream; no line that opcplan prints is as long as this
 OF_OUTPUT, MOST_OF_ANSWER = stream.Bounds(1 << 30, 10_000_000), 200
@@ -33,7 +33,7 @@ def answers(source: Source, see: Callable[[str], None]) -> Iterator[str]:
         if not size:
             return
         if length > MOST_OF_ANSWER:
-            raise OutputMismatch(f"its line {source.number} is longer than any that answers")
+            raise OutputMismatch(f"its line {source.number} is longer than any answer")
         text = line[:length].decode("latin-1")
         if REPLY.match(text):
             yield text
@@ -65,7 +65,7 @@ def answered(
 def ending(reply: str | None, replies: Iterator[str]) -> str | None:
     """A fault, or None, behind which there is no reply. Raises OutputMismatch."""
     if next(replies, None) is not None:
-        raise OutputMismatch(f"behind its `{(reply or str())[:60]}` there are further answers")
+        raise OutputMismatch(f"there are more answers after its `{(reply or str())[:60]}`")
     return reply
 
 
@@ -116,7 +116,7 @@ def check_fits(item: Item, reply: str) -> None:
     elif item.statement:
         fits = re.fullmatch(statements.KINDS[name].reply, reply) is not None
     if not fits:
-        raise OutputMismatch(f"line {item.line}, `{item.shown(60)}`, isn't answered `{reply[:60]}`")
+        raise OutputMismatch(f"`{reply[:60]}` can't be the answer to line {item.line}, `{item.shown(60)}`")
 
 
 def refusal_lines(item: Item, reply: str, now: Known) -> list[str]:
@@ -133,10 +133,10 @@ def refusal_sentences(item: Item, reply: str, now: Known) -> list[str]:
     _, number, *detail = reply.split()
     is_kept = now.is_repeated(item) and number not in ("10", "11", "12")
     if is_kept and item.asked.job in now.jobs:
-        return [f"job {item.asked.job} was asked at line {now.jobs[item.asked.job or 0]}, and is answered as then"]
+        return [f"job {item.asked.job} was in line {now.jobs[item.asked.job or 0]} already, and gets the same answer "
+                "again"]
     sentences = refusals.sentences(item, int(number), detail[0] if detail else "", now)
     if is_kept:
-        sentences.append(f"(job {item.asked.job} is kept with this answer, and another try takes a new number; the "
-                         "plan "
-                         "is told as it is now)")
+        sentences.append(f"(the plan keeps this answer for job {item.asked.job}, so give another try a new number; the "
+                         "reason is by the plan as it is now)")
     return sentences

@@ -31,7 +31,7 @@ def of_day(text: str) -> str:
     if not 1 <= month <= 12:
         return f"there is no month {found[2]}"
     if not FIRST_YEAR <= year <= LAST_YEAR:
-        return f"the year {found[1]} is none from {FIRST_YEAR} to {LAST_YEAR}"
+        return f"the year {found[1]} isn't from {FIRST_YEAR} to {LAST_YEAR}"
     days = calendar.monthrange(year, month)[1]
     if not 1 <= day <= days:
         return f"there is no {day} {MONTHS[month - 1]} in {year}: the month has {days} days"
@@ -54,7 +54,7 @@ def of_minute(text: str) -> str:
         return "a day ends at 23.59: what is due at 24.00 is due at 00.00 of the next day"
     if minute_of(full) is None:
         return f"there is no {full}: a day goes from 00.00 to 23.59"
-    return f"it is written {full}" if text != full else ""
+    return f"write it as {full}" if text != full else ""
 
 
 def of_moment(text: str) -> str:
@@ -64,7 +64,7 @@ def of_moment(text: str) -> str:
         return of_minute(text) if minute_of(full) is None else f"it lacks its day: YYYY-MM-DD/{full}"
     word = re.fullmatch(r"(now|today|tomorrow|yesterday)(?:[/T_ ].*)?", text, re.IGNORECASE)
     if word:
-        return f"`{word[1]}` is no day: a day is written YYYY-MM-DD"
+        return f"`{word[1]}` isn't a day: write it as YYYY-MM-DD"
     found = re.fullmatch(r"([0-9-]+|[0-9]{1,2}[.][0-9]{1,2}[.][0-9]{4})(?:[/T_ ]([0-9.:]*))?", text)
     if not found:
         return ""
@@ -76,7 +76,7 @@ def of_moment(text: str) -> str:
     full = re.sub("^([0-9])[.]", r"0\1.", minute.replace(":", "."))
     if minute_of(full) is None:
         return of_minute(minute)
-    return f"it is written {day}/{full}" if moment_of(text) is None else ""
+    return f"write it as {day}/{full}" if moment_of(text) is None else ""
 
 
 def of_bytes(text: bytes) -> str:
@@ -92,11 +92,11 @@ def of_bytes(text: bytes) -> str:
         character, at = text.decode("utf-8")[place], f"character {place + 1}"
     except UnicodeDecodeError:
         latin = of_character(bytes([text[place]]).decode("latin-1"))
-        return f"byte {place + 1} is {text[place]:02X} hexadecimal, {latin} in Latin-1: ASCII alone may stand there"
-    meant = f" ({MEANT[character]} is meant?)" if character in MEANT else ""
-    what = "which is no printable character" if ord(character) < 128 else "which isn't ASCII"
+        return f"byte {place + 1} is {text[place]:02X} hexadecimal, {latin} in Latin-1: only ASCII is allowed there"
+    meant = f" (did you mean {MEANT[character]}?)" if character in MEANT else ""
+    what = "which isn't a printable character" if ord(character) < 128 else "which isn't ASCII"
     if character == "\r":
-        what += ": a line ends by a line feed, with at most one carriage return before it"
+        what += ": a line ends with a line feed, and at most one carriage return before it"
     return f"{at} is {of_character(character)}, {what}{meant}"
 
 

@@ -154,7 +154,7 @@ def of_periods(
         said += [f"{few(partly)} {'names' if len(partly) == 1 else 'name'} no day after {since}"] if partly else []
         said += [f"{few(excluding)} {'excludes' if len(excluding) == 1 else 'exclude'} no day after {since}"] \
             if excluding else []
-        text = f"{begins} and the plan goes to {day_text(last)}: {', and '.join(said)}. {way_on(name, period, last)}"
+        text = f"{begins}, but the plan goes to {day_text(last)}: {', and '.join(said)}. {way_on(name, period, last)}"
         found.append(Shortfall("ends", (name, end or first, last), text))
     return found
 
@@ -213,8 +213,8 @@ def of_calendars(defined: Definitions, apps: list[str], first: int, last: int) -
         if not calendar.dates or last - max(calendar.dates) <= silence_of(calendar, first):
             continue
         end = max(calendar.dates)
-        text = f"{name} lists no date after {day_text(end)} and the plan goes to {day_text(last)}: {few(apps)} "
-        text += f"{'goes' if len(apps) == 1 else 'go'} by it. `./plan edit PLAN.db calendar {name} DAY free` adds a "
+        text = f"{name} lists no date after {day_text(end)}, but the plan goes to {day_text(last)}: {few(apps)} "
+        text += f"{'uses' if len(apps) == 1 else 'use'} it. `./plan edit PLAN.db calendar {name} DAY free` adds a "
         text += f"holiday, `./plan import --ics FILE --calendar {name} PLAN.db` those of a file."
         found.append(Shortfall("dates", (name, end, last), text))
     return found
@@ -234,7 +234,7 @@ def of_run_cycles(lasts: list[Last], ends: dict[str, int | None], first: int, la
     for app, cycle, day, is_by_period in lasts:
         if is_by_period or day != ends[app] or day + 1 < first:
             continue
-        text = f"run cycle {cycle.name} of {app} is out of effect from {day_text(day + 1)} on and the plan goes to "
+        text = f"run cycle {cycle.name} of {app} is out of effect from {day_text(day + 1)} on, but the plan goes to "
         text += f"{day_text(last)}: {app} has no occurrence after {day_text(day)}. "
         text += f"`./plan edit PLAN.db run-cycle {app} {cycle.name} out-of-effect=` keeps it in effect."
         found.append(Shortfall("over", (app, cycle.name, day, last), text))

@@ -184,7 +184,7 @@ def idle_applications(now: Known, only: set[str] | None) -> list[Finding]:
     """Active applications without run cycles."""
     none = elsewhere(now)
     return [
-        Finding("idle", (app,), now.line_of("applications", app), f"{app} is active, and has no run cycles{none}")
+        Finding("idle", (app,), now.line_of("applications", app), f"{app} is active, but has no run cycles{none}")
         for app in chosen(now.defined.applications, only)
         if now.defined.applications[app].is_active and not now.defined.run_cycles.get(app)
     ]
@@ -202,7 +202,7 @@ def default_calendar(now: Known) -> list[Finding]:
     given = now.lines.get(("options", None), {}).get(())
     line = now.gone.get(("calendars", name)) or given
     line = line or min(filter(None, (now.line_of("applications", app) for app in users)), default=None)
-    so = "so" if now.is_whole else "where the plan has none either,"
+    so = "so" if now.is_whole else "and if the plan has none either,"
     none = f"isn't defined{elsewhere(now)}{meant_text(name, now.defined.calendars)}"
     text = f"the default calendar {name} {none}, {so} each day is a work day for {few(users)}"
     return [Finding("calendar", (name,), line, text)]
@@ -222,10 +222,11 @@ def predecessors(now: Known, held: LintCache | None = None, only: set[str] | Non
                 line = line or now.gone.get(("applications", other))
                 text = f"{app} waits for {other}, which isn't defined{elsewhere(now)}"
                 text += meant_text(other, now.defined.applications)
-                text += ", and so for nothing" if now.is_whole else ": where the plan has none either, for nothing"
+                none = "; if the plan has none either, it waits for nothing"
+                text += ", so it waits for nothing" if now.is_whole else none
                 found.append(Finding("unknown", (app, other), line, text))
             elif now.is_whole and not now.defined.applications[other].is_active:
-                text = f"{app} waits for {other}, which is pending, so that no more of it is planned"
+                text = f"{app} waits for {other}, which is pending, so it is no longer planned"
                 found.append(Finding("pending", (app, other), line, text))
             elif other != app:
                 both = (arrivals_of(now, name, held) for name in (app, other))
@@ -278,7 +279,7 @@ def lacking_of_run_cycles(now: Known, only: set[str] | None) -> list[Finding]:
         if app not in defined.applications:
             lines = [now.line_of("run-cycles", app, name) for name in cycles] + [now.gone.get(("applications", app))]
             meant = meant_text(app, defined.applications)
-            text = f"{app} has run cycles, and isn't defined as an application{meant}, so it isn't planned"
+            text = f"{app} has run cycles, but isn't defined as an application{meant}, so it isn't planned"
             found.append(Finding("lacking", (app,), min(filter(None, lines), default=None), text))
         for name, cycle in sorted(cycles.items()):
             if cycle.period not in defined.periods:
@@ -298,7 +299,7 @@ def lacking_of_lists(now: Known, only: set[str] | None) -> list[Finding]:
         if app not in defined.applications:
             lines = [now.line_of("predecessors", app, other) for other in defined.predecessors[app]]
             lines.append(now.gone.get(("applications", app)))
-            text = f"{app} has a list of predecessors, and isn't defined as an application"
+            text = f"{app} has a list of predecessors, but isn't defined as an application"
             text += meant_text(app, defined.applications)
             found.append(Finding("lacking", (app, "list"), min(filter(None, lines), default=None), text))
     return found
@@ -370,5 +371,6 @@ def later_text(
         return ""
     _, arrival, before, after = min(slips, key=lambda slip: slip[:2])
     counts = "for nothing" if before is None else f"for the one of {moment_text(before)}"
-    when = f"{app} arrives at {moment_text(arrival)}, and {other}, which it waits for, later, at {moment_text(after)}"
-    return f"{when}: so it waits {counts} ({len(slips)} of the {len(arrivals)} times that were looked at)"
+    when = f"{app} arrives at {moment_text(arrival)}, but {other}, which it waits for, arrives later, "
+    when += f"at {moment_text(after)}"
+    return f"{when}; so it waits {counts} ({len(slips)} of the {len(arrivals)} times that were checked)"

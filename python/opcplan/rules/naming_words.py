@@ -56,7 +56,7 @@ def few(texts: Iterable[str], most: int = SHOWN) -> str:
 def meant_text(name: str, names: Iterable[str]) -> str:
     """` (is NAME meant?)` where a known name is like one, else nothing."""
     found = difflib.get_close_matches(name, list(names), 1)
-    return f" (is {found[0]} meant?)" if found else ""
+    return f" (did you mean {found[0]}?)" if found else ""
 
 
 def entry_text(defined: Definitions, app: str, day: int) -> str:
@@ -113,7 +113,7 @@ def reason_text(defined: Definitions, app: str, day: int, cycle: RunCycle, reaso
     simple = {
         "period": f"its period {cycle.period} isn't defined",
         "never": f"it is out of effect from {until} on and in effect from {since} on, so it never names a day",
-        "early": f"it is in effect from {since} on alone",
+        "early": f"it is in effect only from {since} on",
         "over": f"it is out of effect from {until} on",
         "open": f"offset {reason.offset} counts from an end, which this interval doesn't have",
     }
@@ -122,7 +122,7 @@ def reason_text(defined: Definitions, app: str, day: int, cycle: RunCycle, reaso
     if reason.kind == "between":
         return between_text(defined, day, cycle)
     if reason.kind == "free":
-        return f"its offsets count work days alone, and this day is free ({entry_text(defined, app, day)})"
+        return f"its offsets count only work days, and this day is free ({entry_text(defined, app, day)})"
     if reason.kind == "past":
         return past_text(defined, app, cycle, reason)
     if reason.kind == "offsets":

@@ -77,7 +77,7 @@ def name(field: str, text: str, longest: int) -> str:
     if not is_name(text):
         wrong = f"it has to be a name: 1 to {longest} of A to Z, 0 to 9, @, # and $, the first no digit"
         if len(text) > longest:
-            wrong = f"it has {len(text)} characters, and such a name has at most {longest}"
+            wrong = f"it has {len(text)} characters, but such a name has at most {longest}"
         raise InvalidField(field, wrong + hint(text, is_name))
     return text
 
@@ -128,15 +128,15 @@ def take_period(found: dict[str, Any], texts: Texts, seen: Seen) -> Key:
     before = found.get(period)
     if kind != "N":
         interval = texts.number("second", 1, 1999)
-        again(f"period {period}, and types A and W have one", seen, (period,))
+        again(f"period {period}, but a period of type A or W has one record", seen, (period,))
         found[period] = Period(kind, origin, interval)
         return (period,)
     end = texts.day("second") if texts.text("second") else None
     if end is not None and end < origin:
-        raise InvalidField("second", f"it is an end before its own origin, {moments.day_text(origin)}")
+        raise InvalidField("second", f"the end is before its origin, {moments.day_text(origin)}")
     if before is not None and before.kind != "N":
-        raise InvalidField("type", f"record {seen[(period,)]} gives {period} the type {before.kind}, and that has one "
-                           "record")
+        raise InvalidField("type", f"record {seen[(period,)]} gives {period} the type {before.kind}, which has one "
+                                   "record")
     if before is not None and origin <= before.entries[-1][0]:
         last = moments.day_text(before.entries[-1][0])
         raise InvalidField("origin", f"it isn't later than {last}, the origin of {period}'s record before it")
@@ -156,10 +156,11 @@ def read_offsets(texts: Texts) -> list[int]:
     """The offsets of a run cycle."""
     parts = texts.text("offsets").split(" ")
     if len(parts) > 64:
-        raise InvalidField("offsets", f"it has {len(parts)} offsets, and at most 64 may stand")
+        raise InvalidField("offsets", f"it has {len(parts)} offsets, but at most 64 are allowed")
     for part in parts:
         if not re.fullmatch(r"-?(1[0-9]{3}|[1-9][0-9]{0,2})", part):
-            wrong = f"`{part[:20]}` is no offset" if part else "there is an empty offset (one blank stands between two)"
+            empty = "there is an empty offset (write one blank between two)"
+            wrong = f"`{part[:20]}` isn't an offset" if part else empty
             raise InvalidField("offsets", f"{wrong}: each is 1 to 1999 or -1 to -1999")
     return list(map(int, parts))
 

@@ -46,12 +46,12 @@ def sentences(item: Item, number: int, detail: str, known: Known) -> list[str]:
     """What a refusal of a statement says; `known` is what was known before it."""
     explain = MEANINGS.get(number)
     if explain is None:
-        return [f"{number} is no refusal that is known here"]
+        return [f"{number} is not a refusal that ./plan knows"]
     return explain(item, detail, known)
 
 
 def not_a_statement(item: Item, detail: str, known: Known) -> list[str]:
-    lines = [f"it is no statement: {item.length <= stream.MOST_OF_LINE and hints.of_bytes(item.text) or item.wrong}"]
+    lines = [f"it isn't a statement: {item.length <= stream.MOST_OF_LINE and hints.of_bytes(item.text) or item.wrong}"]
     first = stream.first_word(item.text.removeprefix(blocks.BYTE_ORDER_MARK)).decode("ascii", "replace")
     if not item.has_data and (first == "define" or statement_words.near(first, ["define"])):
         lines.append("it isn't read as `define`, so each line of its data is read as a statement, and refused too")
@@ -62,34 +62,34 @@ def faulty_data(item: Item, detail: str, known: Known) -> list[str]:
     """Which record is faulty, which field of it, and what is wrong with it."""
     if item.data is None:
         odd = f"line {item.odd_ends[0]} only looks like such a line" if item.odd_ends else ""
-        why = "its data have no end: no line after it is `/*` and nothing else, so all that follows was taken as data"
+        why = "its data have no end: no line after it is `/*` and nothing else, so everything after it was read as data"
         return [why, odd] if odd else [why]
     if not item.is_whole:
         length, most = f"{item.data_length:,}", f"{stream.MOST_OF_BLOCK:,}"
-        return [f"its data have {length} bytes, and at most {most} are read; give them by several `define`s"]
+        return [f"its data have {length} bytes, but at most {most} are read; use several `define`s"]
     fault = blocks.read(item.asked.kind, item.data).fault
     if fault is None:
-        return [f"record {detail} of its data is faulty, though it is read without a fault here"]
+        return [f"record {detail} of its data is faulty, though ./plan finds no fault in it"]
     number = item.data_line + fault.line
     text = item.data.split(b"\n")[fault.line].decode("utf-8", "backslashreplace").rstrip("\r")
     where = f"record {fault.record} of its data, line {number}, is faulty"
     where += "" if str(fault.record) == detail else f" (the output names record {detail})"
     what = f"the field `{fault.field}` is `{fault.value[:60]}`: {fault.wrong}" if fault.field else fault.wrong
     if item.asked.alone != "options" and text.count('"') % 2:
-        what += "; a double quote on that line has no end there"
+        what += "; a double quote in that line isn't closed there"
     return [where, f"`{text[:90]}`", what]
 
 
 def other_text(item: Item, detail: str, known: Known) -> list[str]:
     line = known.jobs.get(item.asked.job or 0)
     where = f"at line {line}" if line else "in an earlier run over the same file"
-    return [f"job {item.asked.job} was asked {where}, with other words or other data; a new job takes a new number"]
+    return [f"job {item.asked.job} was used {where} with other words or other data; give a new job a new number"]
 
 
 def not_defined(item: Item, detail: str, known: Known) -> list[str]:
     name = item.asked.values["name"]
     known_names: Mapping[str, object] = getattr(known.defined, item.asked.kind.replace("-", "_"))
-    return [f"of {item.asked.alone} the name {name} isn't defined{meant_text(name, known_names)}"]
+    return [f"the name {name} isn't defined in {item.asked.alone}{meant_text(name, known_names)}"]
 
 
 def no_plan(item: Item, detail: str, known: Known) -> list[str]:
@@ -146,7 +146,7 @@ def span_of_extension(name: str, values: Values, known: Known) -> str:
     if not known.bounds or not known.is_whole:
         return ""
     if to <= known.bounds[1]:
-        return f"the plan goes to {day_text(known.bounds[1])}, and {day_text(to)} isn't later"
+        return f"the plan already goes to {day_text(known.bounds[1])}, and {day_text(to)} isn't later"
     return span_of_days(name, {"from": known.bounds[2] // DAY, "to": to}, known)
 
 
@@ -210,7 +210,7 @@ def bounds_text(known: Known) -> list[str]:
 def loop_of_lists(item: Item, detail: str, known: Known) -> list[str]:
     ring = loops.ring_of(known.lists_after(item.asked), detail)
     how = f": {' waits for '.join(ring)}" if ring else ""
-    return [f"the lists of predecessors have a loop, on which {detail} stands{how}"]
+    return [f"the lists of predecessors have a loop that includes {detail}{how}"]
 
 
 def no_application(item: Item, detail: str, known: Known) -> list[str]:
@@ -262,7 +262,7 @@ def status_forbids(item: Item, detail: str, known: Known) -> list[str]:
     if place not in STATUSES and known.is_whole:
         place = "W" if place in (None, "", "L") else place
     has = f"it has the status {place} ({STATUSES[place]})" if place in STATUSES else "it has another status"
-    return [f"`{name}` wants an occurrence that is {NEEDS[name]}; {has}"]
+    return [f"`{name}` needs an occurrence that is {NEEDS[name]}; {has}"]
 
 
 def not_complete(item: Item, detail: str, known: Known) -> list[str]:
@@ -276,7 +276,7 @@ def too_many(item: Item, detail: str, known: Known) -> list[str]:
     lines = [f"the plans would have {most}"]
     if known.sizes is not None:
         rows, serials = known.sizes
-        lines.append(f"they have {rows:,} rows, so {MOST_ROWS - rows:,} more are taken; {serials:,} serials were given")
+        lines.append(f"they have {rows:,} rows, so {MOST_ROWS - rows:,} more fit; {serials:,} serials were given")
     return lines
 
 

@@ -85,13 +85,13 @@ def statement_of(words: Sequence[str]) -> Statement:
     elif alone:
         hint = ": a day and its time are one word, 2026-11-25/06.00" if moments.minute_of(alone[0]) is not None else ""
         hint = OF_COMMENTS if alone[0].startswith(("*", *COMMENTS)) else hint or option_meant(name, alone[0], given)
-        raise InvalidStatement(f"`{name}` takes no word without an option, and `{cut(alone[0])}` is one{hint}")
+        raise InvalidStatement(f"`{name}` takes no word without an option, but `{cut(alone[0])}` is one{hint}")
     word = alone[0] if alone else None
     what = f"{name} {word}" if name.endswith("-trial") else name
     needed = NEEDED[what]
     if what in EXTENSIONS and set(given) & set(statements.BY_DAYS):
         if "to" in given:
-            raise InvalidStatement(f"`{what}` has `--to`, or `--days` and `--count`, and not both")
+            raise InvalidStatement(f"`{what}` takes `--to`, or `--days` and `--count`, but not both")
         needed = statements.BY_DAYS + needed[1:]
     allowed = LIST_OPTIONS if name == "list" else needed
     for option in given:
@@ -110,7 +110,7 @@ def option_meant(name: str, word: str, given: Iterable[str]) -> str:
     for text in (word, f"{word}/00.00"):
         found = [option for option in options if spelled(form_of(name, None, option), text) is not None]
         if len(found) == 1:
-            return f" (is `--{found[0]} {cut(text)}` meant?)"
+            return f" (did you mean `--{found[0]} {cut(text)}`?)"
     return ""
 
 
@@ -126,11 +126,11 @@ def parted(rest: Sequence[str]) -> tuple[list[str], dict[str, str]]:
             continue
         if not word.startswith("--") or word == "--":
             known = {option for needed in NEEDED.values() for option in needed} | {*LIST_OPTIONS, *statements.BY_DAYS}
-            meant = f" (is `-{cut(word)}` meant?)" if word[1:].partition("=")[0] in known else ""
+            meant = f" (did you mean `-{cut(word)}`?)" if word[1:].partition("=")[0] in known else ""
             raise InvalidStatement(f"`{cut(word)}` is neither an option `--name` nor a word{meant}")
         option, equals, value = word[2:].partition("=")
         if option in given:
-            raise InvalidStatement(f"the option `--{cut(option)}` stands twice")
+            raise InvalidStatement(f"the option `--{cut(option)}` is given twice")
         if not equals:
             if not left or left[0].startswith("-"):
                 raise InvalidStatement(f"the option `--{cut(option)}` has no value")
@@ -145,10 +145,10 @@ def check_alone(name: str, alone: list[str]) -> None:
     if not alone:
         raise InvalidStatement(f"`{name}` lacks its word: one of {known}")
     if alone[0] not in ALONE[name]:
-        raise InvalidStatement(f"`{name}` takes no `{cut(alone[0])}`, but one of {known}" + near(alone[0], ALONE[name]))
+        raise InvalidStatement(f"`{name}` takes one of {known}, not `{cut(alone[0])}`" + near(alone[0], ALONE[name]))
     if len(alone) > 1:
         hint = OF_COMMENTS if alone[1].startswith(("*", *COMMENTS)) else option_meant(name, alone[1], ())
-        raise InvalidStatement(f"`{name}` takes one word without an option, and `{cut(alone[1])}` is one more{hint}")
+        raise InvalidStatement(f"`{name}` takes one word without an option, but `{cut(alone[1])}` is one more{hint}")
 
 
 def form_of(what: str, word: str | None, option: str) -> str:
@@ -162,7 +162,7 @@ def value_of(form: str, option: str, text: str) -> Value:
     """The value that a text spells."""
     found = spelled(form, text)
     if found is None:
-        raise InvalidStatement(f"`--{option}` takes {FORMS[form]}, and not `{cut(text)}`" + slip_of(form, text))
+        raise InvalidStatement(f"`--{option}` takes {FORMS[form]}, not `{cut(text)}`" + slip_of(form, text))
     return found
 
 
@@ -207,4 +207,4 @@ def cut(text: str, most: int = 40) -> str:
 def near(text: str, known: Iterable[str], before: str = "") -> str:
     """` (is NAME meant?)` where a known word is like the text, else nothing."""
     found = difflib.get_close_matches(text.lower(), list(known), 1)
-    return f" (is `{before}{found[0]}` meant?)" if found else ""
+    return f" (did you mean `{before}{found[0]}`?)" if found else ""

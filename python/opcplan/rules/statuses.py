@@ -19,7 +19,7 @@ STATES = {
 }
 
 WHERE = {
-    "L": "stands in the long-term plan",
+    "L": "is in the long-term plan",
     "W": "waits in the current plan",
     "S": "is started, in the current plan",
     "E": "ended in error, in the current plan",

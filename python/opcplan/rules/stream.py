@@ -31,7 +31,7 @@ class Bounds:
 
 
 OF_STREAM = Bounds(64 << 20, 1_000_000)
-BOUND = f"A stream of more than {OF_STREAM} is not read."
+BOUND = f"A stream of more than {OF_STREAM} isn't read."
 
 
 class Readable(Protocol):
@@ -80,7 +80,7 @@ class Source:
             raise Unreadable(f"{self.name}: it can't be read: {error.strerror}") from None
         self.size += len(piece)
         if self.size > self.bounds.size or self.number > self.bounds.lines:
-            raise Unreadable(f"{self.name}: it has more than {self.bounds}, and isn't read to its end")
+            raise Unreadable(f"{self.name}: it has more than {self.bounds}, so it wasn't read to its end")
         return piece
 
 
@@ -169,10 +169,10 @@ def first_word(line: bytes) -> bytes:
 def read_line(line: bytes, length: int) -> tuple[statement_words.Statement | None, str]:
     """The statement of a line and nothing, or None and why the line is none."""
     if length > MOST_OF_LINE:
-        return None, f"the line has {length:,} bytes, and a statement has at most {MOST_OF_LINE:,}"
+        return None, f"the line has {length:,} bytes, but a statement has at most {MOST_OF_LINE:,}"
     for place, byte in enumerate(line, 1):
         if byte != 9 and not 32 <= byte <= 126:
-            return None, f"byte {place} of the line is {byte:02X} hexadecimal, which is no printable character"
+            return None, f"byte {place} of the line is {byte:02X} hexadecimal, which isn't a printable character"
     return statement_words.read(line.decode("ascii").replace("\t", " ").split())
 
 
