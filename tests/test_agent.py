@@ -344,6 +344,23 @@ class Step(Room):
         self.assertIn("AA 2024-01-01/08.00 (serial 1) is started, and nothing here tells by whom", messages)
         self.assertEqual(len(desk.log), 1)
 
+    def test_what_another_agent_started_is_reported_with_its_name(self):
+        for key, how in (
+            (f"agent-etl-2-{'0a' * 12}", "was started by the agent etl-2; it isn't touched"),
+            (f"agent-etl-2-{'0a' * 12}.3", "was started by the agent etl-2; it isn't touched"),
+            (f"agent-own-{'0a' * 12}", "is started, and nothing here tells by whom; it isn't touched"),
+            (f"agent-{'0a' * 12}", "is started, and nothing here tells by whom; it isn't touched"),
+            (f"agent-etl-2-{'0a' * 12}-end", "is started, and nothing here tells by whom; it isn't touched"),
+            ("by-hand", "is started, and nothing here tells by whom; it isn't touched"),
+        ):
+            with self.subTest(key):
+                desk = PlainDesk(day_stream({"AA": ""}))
+                self.job("AA", f"touch {self.room}/runs")
+                desk.put("cp-start --app AA --ia 2024-01-01/08.00", key)
+                messages = self.until(lambda: True, self.agent(desk, name="own"))
+                self.assertEqual(messages.splitlines()[1:], [f"agent: AA 2024-01-01/08.00 (serial 1) {how}"])
+                self.assertEqual((len(desk.log), os.path.exists(self.room / "runs")), (1, False))
+
 
 def has_aiohttp():
     asked = [DEBIAN, "-c", "import aiohttp"]

@@ -22,6 +22,8 @@ from opcplan.rules import moments
 RUNNER = [sys.executable, "-E", "-s", "-S", "-B", "-m", "opcplan.agent.runner"]
 # the name of an agent
 NAME = re.compile("[A-Za-z0-9._-]{1,64}")
+# the key of a start, with the name of the agent that made it
+OF_START = re.compile(f"agent-({NAME.pattern})-[0-9a-f]{{24}}([.][0-9]+)?")
 # for how long what was refused isn't asked again, in seconds
 PAUSE = 30
 
@@ -101,7 +103,15 @@ class Agent:
         for row in self.state.plan.rows.values():
             is_strange = row.status == "S" and row.serial not in self.state.records
             if is_strange and row.app not in self.jobs.rules.elsewhere and self.program_of(row.app):
-                print_message(f"{row.name} is started, and nothing here tells by whom; it isn't touched")
+                other = self.other_agent_of(row.serial)
+                how = f"was started by the agent {other}" if other else "is started, and nothing here tells by whom"
+                print_message(f"{row.name} {how}; it isn't touched")
+
+    def other_agent_of(self, serial: int) -> str | None:
+        """The name of another agent that started an occurrence, by the key of its start; None where none is known."""
+        known = self.state.plan.latest.get(serial)
+        found = OF_START.fullmatch(known.key or "") if known is not None and known.status == "S" else None
+        return found[1] if found and found[1] != self.given.name else None
 
     def do(self, command: state.Command) -> None:
         """Does what the state says. Raises DeskUnreachable, RequestRefused and DeskBehind."""
