@@ -128,7 +128,7 @@ class Step(Room):
             self.agent(desk).step()
         self.assertEqual((desk.status("AA"), len(desk.log), self.runs()), ("S", 1, []))
         messages = self.until(lambda: desk.status("AA") == "C", self.agent(desk))
-        self.assertNotIn("nothing is touched", messages)
+        self.assertNotIn("the agent changes nothing", messages)
         self.assertEqual((len(desk.log), len(self.runs())), (2, 1))
 
     def test_a_runner_that_was_killed_before_it_began_the_job_is_begun_again(self):
@@ -147,7 +147,7 @@ class Step(Room):
         first.put("cp-start --app AA --ia 2024-01-01/08.00")
         self.until(lambda: True, agent)
         agent.asking.desk = agent.desk = behind
-        with self.assertRaisesRegex(client.DeskUnreachable, "behind entry 1"):
+        with self.assertRaisesRegex(client.DeskUnreachable, "this desk lacks entries up to 1"):
             agent.step()
         plan = agent.state.plan
         self.assertEqual((plan.position, plan.rows[1].status, behind.turn), (1, "S", 1))
@@ -185,9 +185,9 @@ class Step(Room):
         os.kill(int(runner), signal.SIGKILL)
         self.addCleanup(os.kill, int(job), signal.SIGKILL)
         messages = self.until(lambda: agent.state.lost, agent)
-        self.assertIn("left no end; nothing is touched", messages)
+        self.assertIn("left no end. Send `cp-complete` if", messages)
         messages = self.until(lambda: True, self.agent(desk))
-        self.assertIn("left no end; nothing is touched", messages)
+        self.assertIn("left no end. Send `cp-complete` if", messages)
         self.assertEqual((desk.status("AA"), len(desk.log)), ("S", 1))
 
     def test_an_end_that_was_not_reported_is_reported_by_the_next_agent(self):
@@ -211,7 +211,7 @@ class Step(Room):
             desk.put(f"cp-{word} --app AA --ia 2024-01-01/08.00")
         self.go()
         messages = self.until(lambda: not agent.state.records, agent)
-        self.assertIn("the desk isn't told", messages)
+        self.assertIn("the agent doesn't report this", messages)
         self.assertEqual((desk.status("AA"), len(desk.log), len(self.runs())), ("S", 4, 1))
 
     def test_an_old_job_that_is_answered_again_hides_no_start(self):
@@ -233,7 +233,7 @@ class Step(Room):
         agent = self.agent(desk)
         agent.given = dataclasses.replace(agent.given, limit=0.5)
         messages = self.until(lambda: desk.status("AA") == "E", agent)
-        self.assertIn("by signal 15; it ran longer than 0.5 seconds", messages)
+        self.assertIn("by signal 15; it ran longer than 0.5 seconds, so the agent ended it", messages)
         ((job,),) = self.runs()
         state = Path(f"/proc/{job}/stat")
         self.until(lambda: not state.exists() or state.read_text(encoding="utf-8").rpartition(")")[2].split()[0] == "Z")
@@ -250,7 +250,7 @@ class Step(Room):
 
         with unittest.mock.patch.object(state.State, "send", slow):
             messages = self.until(lambda: True, agent)
-        self.assertIn("it isn't started: the desk says `refused 29`", messages)
+        self.assertIn("not started: the desk answers `refused 29`", messages)
         self.until(lambda: True, agent)
         self.assertEqual((len(desk.log), self.runs(), sorted(os.listdir(self.logs))), (2, [], []))
 
@@ -286,7 +286,7 @@ class Step(Room):
 
         desk.put, agent = refuse, self.agent(desk)
         messages = self.until(lambda: True, agent)
-        self.assertIn("it isn't started: the desk says `refused 29`", messages)
+        self.assertIn("not started: the desk answers `refused 29`", messages)
         self.assertEqual(self.until(lambda: True, agent), "")
         self.assertEqual((self.runs(), sorted(os.listdir(self.logs))), ([], []))
 
@@ -327,7 +327,7 @@ class Step(Room):
             self.agent(desk).step()
         for answer in (b"", b"[]", b"<html>", b'{"position": "9"}', b'{"position": null}', b"\xff"):
             desk.request = lambda *_, answer=answer: ({}, answer)
-            with self.assertRaisesRegex(client.DeskUnreachable, "doesn't answer as a desk does"):
+            with self.assertRaisesRegex(client.DeskUnreachable, "its answer isn't that of a desk"):
                 self.agent(desk).step()
 
     def test_a_file_that_can_not_be_run_is_a_failure(self):
@@ -341,17 +341,17 @@ class Step(Room):
         self.job("AA", f"touch {self.room}/runs")
         desk.put("cp-start --app AA --ia 2024-01-01/08.00")
         messages = self.until(lambda: True, self.agent(desk))
-        self.assertIn("AA 2024-01-01/08.00 (serial 1) is started, and nothing here tells by whom", messages)
+        self.assertIn("AA 2024-01-01/08.00 (serial 1) is started, and no record here says by whom", messages)
         self.assertEqual(len(desk.log), 1)
 
     def test_what_another_agent_started_is_reported_with_its_name(self):
         for key, how in (
-            (f"agent-etl-2-{'0a' * 12}", "was started by the agent etl-2; it isn't touched"),
-            (f"agent-etl-2-{'0a' * 12}.3", "was started by the agent etl-2; it isn't touched"),
-            (f"agent-own-{'0a' * 12}", "is started, and nothing here tells by whom; it isn't touched"),
-            (f"agent-{'0a' * 12}", "is started, and nothing here tells by whom; it isn't touched"),
-            (f"agent-etl-2-{'0a' * 12}-end", "is started, and nothing here tells by whom; it isn't touched"),
-            ("by-hand", "is started, and nothing here tells by whom; it isn't touched"),
+            (f"agent-etl-2-{'0a' * 12}", "was started by the agent etl-2; the agent leaves it alone"),
+            (f"agent-etl-2-{'0a' * 12}.3", "was started by the agent etl-2; the agent leaves it alone"),
+            (f"agent-own-{'0a' * 12}", "is started, and no record here says by whom; the agent leaves it alone"),
+            (f"agent-{'0a' * 12}", "is started, and no record here says by whom; the agent leaves it alone"),
+            (f"agent-etl-2-{'0a' * 12}-end", "is started, and no record here says by whom; the agent leaves it alone"),
+            ("by-hand", "is started, and no record here says by whom; the agent leaves it alone"),
         ):
             with self.subTest(key):
                 desk = PlainDesk(day_stream({"AA": ""}))
@@ -406,7 +406,7 @@ class Day(Room):
         self.until(lambda: "works for" in stderr.read_text(encoding="utf-8"))
         second, stderr = self.begin_agent()
         self.assertEqual(second.wait(PATIENCE), 1)
-        self.assertIn("another agent has it", stderr.read_text(encoding="utf-8"))
+        self.assertIn("another agent uses this folder of logs", stderr.read_text(encoding="utf-8"))
         desk = client.Client(str(self.socket))
         # CA fails, so CB and DB wait: they are not begun until it is mended
         wanted = {**dict.fromkeys(DAY, "C"), "CA": "E", "CB": "W", "DB": "W"}
@@ -485,7 +485,7 @@ class Words(Room):
         self.jobs.chmod(0o777)
         ran = plans.plan("agent", "--desk", away, "--jobs", self.jobs)
         self.assertEqual(ran.returncode, 1)
-        self.assertIn("everybody may write into it", ran.stderr)
+        self.assertIn("everybody may write into this folder", ran.stderr)
 
 
 if __name__ == "__main__":

@@ -26,26 +26,33 @@ from opcplan.desk import client
 OTHER = "nobody"
 # each line is wrong by itself, and what is said names its key
 FAULTS = {
-    "[PAY": "isn't TOML", "x = 1": "x: it is no application", "[pay]": "pay: it is no application",
-    "PAY = 7": "PAY: it is no application", "[PAY]\nworkstation = 1": "PAY: workstation: there is no such key",
-    "[PAY]\ncommand = \"/bin/true\"": "PAY: command: a list", "[PAY]\ncommand = []": "PAY: command: a list",
-    "[PAY]\ncommand = [\"true\"]": "PAY: command: the first word",
-    "[PAY]\ncommand = [\"/a\\u0000\"]": "PAY: command: a list",
-    "[PAY]\nuser = 0": "PAY: user: a text", "[PAY]\nuser = \"no-such-user\"": "PAY: user: this machine has no user",
-    "[PAY]\nfolder = \"here\"": "PAY: folder: the whole path", "[PAY]\nfolder = 1": "PAY: folder: a text",
-    "[PAY]\nenvironment = [\"A=1\"]": "PAY: environment: variables",
-    "[PAY]\nenvironment.A = 1": "PAY: environment: A: a text",
-    "[PAY]\nenvironment.\"A B\" = \"1\"": "environment: A B: this is no name",
-    "[PAY]\nenvironment.OPCPLAN_TOKEN = \"1\"": "environment: OPCPLAN_TOKEN: this is no name",
-    "[PAY]\nlimit = 0": "PAY: limit: a number", "[PAY]\nlimit = nan": "PAY: limit: a number",
-    "[PAY]\nlimit = \"1 h\"": "PAY: limit: a number", "[PAY]\nlimit = true": "PAY: limit: a number",
-    "[PAY]\ntries = 0": "PAY: tries: a number from 1", "[PAY]\ntries = 100": "PAY: tries: a number from 1",
-    "[PAY]\ntries = true": "PAY: tries: a number from 1", "[PAY]\npauses = [1, -1]": "PAY: pauses: a number",
-    "[PAY]\ncomplete = 0": "PAY: complete: a list", "[PAY]\ncomplete = [256]": "PAY: complete: a list",
-    "[PAY]\nclass = \"db\"": "PAY: class: 'db' has no number", "[PAY]\nclass = \"\"": "PAY: class: a text",
-    "classes = 2": "classes: lines like", "classes.db = 0": "classes.db: a number",
-    "classes.\"d b\" = 1": "classes.d b: a number",
-    "[PAY]\nwhere = 1": "PAY: where: a text",
+    "[PAY": "isn't valid TOML", "x = 1": "x: this is no application", "[pay]": "pay: this is no application",
+    "PAY = 7": "PAY: this is no application", "[PAY]\nworkstation = 1": "PAY: there is no key `workstation`",
+    "[PAY]\ncommand = \"/bin/true\"": "PAY: `command` must be a list",
+    "[PAY]\ncommand = []": "PAY: `command` must be a list",
+    "[PAY]\ncommand = [\"true\"]": "PAY: `command` must begin with the absolute path",
+    "[PAY]\ncommand = [\"/a\\u0000\"]": "PAY: `command` must be a list",
+    "[PAY]\nuser = 0": "PAY: `user` must be a text",
+    "[PAY]\nuser = \"no-such-user\"": "PAY: `user` names 'no-such-user', whom this machine doesn't have",
+    "[PAY]\nfolder = \"here\"": "PAY: `folder` must be the absolute path",
+    "[PAY]\nfolder = 1": "PAY: `folder` must be a text",
+    "[PAY]\nenvironment = [\"A=1\"]": "PAY: `environment` must have variables",
+    "[PAY]\nenvironment.A = 1": "PAY: `environment` has `A`, which must be a text",
+    "[PAY]\nenvironment.\"A B\" = \"1\"": "PAY: `environment` has `A B`, which can't name a variable",
+    "[PAY]\nenvironment.OPCPLAN_TOKEN = \"1\"": "`environment` has `OPCPLAN_TOKEN`, which can't name a variable",
+    "[PAY]\nlimit = 0": "PAY: `limit` must be a number", "[PAY]\nlimit = nan": "PAY: `limit` must be a number",
+    "[PAY]\nlimit = \"1 h\"": "PAY: `limit` must be a number", "[PAY]\nlimit = true": "PAY: `limit` must be a number",
+    "[PAY]\ntries = 0": "PAY: `tries` must be a number from 1",
+    "[PAY]\ntries = 100": "PAY: `tries` must be a number from 1",
+    "[PAY]\ntries = true": "PAY: `tries` must be a number from 1",
+    "[PAY]\npauses = [1, -1]": "PAY: `pauses` must be a number",
+    "[PAY]\ncomplete = 0": "PAY: `complete` must be a list",
+    "[PAY]\ncomplete = [256]": "PAY: `complete` must be a list",
+    "[PAY]\nclass = \"db\"": "PAY: `class` names 'db', which has no limit",
+    "[PAY]\nclass = \"\"": "PAY: `class` must be a text",
+    "classes = 2": "`classes` must have lines like", "classes.db = 0": "`classes.db` must be a number",
+    "classes.\"d b\" = 1": "`classes.d b` must be a number",
+    "[PAY]\nwhere = 1": "PAY: `where` must be a text",
 }
 DESCRIBED = """
 classes.db = 2
@@ -114,7 +121,7 @@ class File(Described):
         self.describe(f'[PAY]\nuser = "{OTHER}"\n[AWAY]\nuser = "no-such-user"\nwhere = "other"\n')
         with mock.patch.object(os, "geteuid", return_value=12345):
             self.assertRaisesRegex(jobs.InvalidJobsFile,
-                                   f"PAY: user: only an agent that root runs can run a job as {OTHER}",
+                                   f"PAY: `user` names {OTHER}, and only an agent of root can run a job as",
                                    jobs.Jobs, str(self.jobs), "here")
         with mock.patch.object(os, "geteuid", return_value=pwd.getpwnam(OTHER).pw_uid):
             jobs.Jobs(str(self.jobs), "here")
@@ -124,16 +131,16 @@ class File(Described):
     def test_what_everybody_may_write_is_not_read(self):
         self.describe("")
         os.chmod(f"{self.jobs}.toml", 0o666)
-        self.assertRaisesRegex(jobs.InvalidJobsFile, "not everybody may write", jobs.Jobs, str(self.jobs), "here")
+        self.assertRaisesRegex(jobs.InvalidJobsFile, "everybody may write this file", jobs.Jobs, str(self.jobs), "here")
         os.remove(f"{self.jobs}.toml")
         os.mkdir(f"{self.jobs}.toml")
-        self.assertRaisesRegex(jobs.InvalidJobsFile, "has to be a file", jobs.Jobs, str(self.jobs), "here")
+        self.assertRaisesRegex(jobs.InvalidJobsFile, "this isn't a regular file", jobs.Jobs, str(self.jobs), "here")
 
     def test_an_agent_does_not_begin_with_a_faulty_one(self):
         self.describe("[PAY]\ntries = 0\n")
         ran = plans.plan("agent", "--desk", self.room / "nowhere", "--jobs", self.jobs)
         self.assertEqual((ran.returncode, ran.stdout), (1, ""))
-        self.assertEqual(ran.stderr, f"plan: agent: {self.jobs}.toml: PAY: tries: a number from 1 to 99 is wanted\n")
+        self.assertEqual(ran.stderr, f"plan: agent: {self.jobs}.toml: PAY: `tries` must be a number from 1 to 99\n")
         for words in (["--name", "a b"], ["--name", ""], ["--tail", "1M"], ["--tail", "many"]):
             ran = plans.plan("agent", "--desk", self.room / "nowhere", "--jobs", self.jobs, *words)
             self.assertEqual((ran.returncode, ran.stderr.count("\n")), (2, 1), ran.stderr)
@@ -158,7 +165,7 @@ class Tries(Described):
         self.assertEqual([one["key"].removeprefix(key) for one in desk.log],
                          ["", "-end", ".1-reset", ".2", ".2-end", ".2-reset", ".3", ".3-end"])
         self.assertEqual(len({one["job"] for one in desk.log}), 8)
-        self.assertIn("status 1; it is in error, try 1 of 3; it is tried again after 0 seconds", messages)
+        self.assertIn("status 1; it is in error, try 1 of 3; the agent tries again after 0 seconds", messages)
         log = self.log_of(1)
         self.assertEqual(re.findall(r"try \d of 3|says \d|status \d", log),
                          ["try 1 of 3", "says 1", "status 1", "try 2 of 3", "says 2", "status 1", "try 3 of 3",
@@ -218,7 +225,7 @@ class Tries(Described):
         self.until(lambda: desk.status("AA") == "E", agent)
         desk.put("cp-complete --app AA --ia 2024-01-01/08.00")
         messages = self.until(lambda: not agent.state.records, agent)
-        self.assertIn("it isn't tried again, for it is complete by now", messages)
+        self.assertIn("the agent doesn't try again, because it is complete by now", messages)
         self.assertEqual(len(desk.log), 3)
 
     def test_another_agent_counts_on(self):
@@ -235,7 +242,7 @@ class Tries(Described):
             second.given = dataclasses.replace(second.given, most=1)
             self.until(lambda: len(desk.log) == 8 and not second.state.records, second)
         messages = self.until(lambda: not first.state.records, first)
-        self.assertIn("it isn't started: the desk says `refused 29`", messages)
+        self.assertIn("not started: the desk answers `refused 29`", messages)
         self.assertEqual(self.acts(desk)[:8], ["start", "fail", "reset", "start", "fail", "reset", "start", "fail"])
         self.assertEqual([one["key"].split("-")[1] for one in desk.log[:8]], ["agent"] * 3 + ["second"] * 5)
 
@@ -276,7 +283,7 @@ class Placed(Described):
 
         with mock.patch.object(desk, "statement", behind):
             messages = self.until(lambda: True, agent)
-        self.assertIn("as many of its class are started as may be", messages)
+        self.assertIn("its class has no room now", messages)
         self.assertEqual((desk.status("BB"), record.serials(self.logs), os.listdir(self.logs)), ("W", [], []))
         desk.put("cp-complete --app AA --ia 2024-01-01/08.00")
         self.until(lambda: desk.status("BB") == "C", agent)
@@ -299,7 +306,7 @@ class Placed(Described):
         self.until(lambda: True, agent)
         self.describe("[AA]\nwhere = 7\n")
         messages = "".join(self.until(lambda: True, agent) for _ in range(3))
-        self.assertEqual(messages.count("what it had before is still in force"), 1)
+        self.assertEqual(messages.count("the agent goes on with what the file had before"), 1)
         self.assertEqual((desk.log, agent.jobs.rules.elsewhere), ([], {"AA"}))
         os.remove(f"{self.jobs}.toml")
         self.until(lambda: desk.status("AA") == "C", agent)
@@ -348,7 +355,7 @@ class Ran(Described):
             desk, log = self.ran("[AA]\nlimit = 0.5\ncomplete = [0, 1]\n", "trap 'exit 0' TERM; sleep 60 & wait",
                                  limit=1000)
         self.assertEqual(desk.status("AA"), "E")
-        self.assertIn("status 0; it ran longer than 0.5 seconds, and was ended", log)
+        self.assertIn("status 0; it ran longer than 0.5 seconds, so the agent ended it", log)
 
     @unittest.skipIf(os.geteuid(), "only root runs jobs as others")
     def test_a_job_runs_as_its_user(self):
@@ -367,7 +374,7 @@ class Ran(Described):
         desk = PlainDesk(day_stream({"AA": ""}))
         self.describe(f'[AA]\ncommand = ["{self.room}/none"]\n')
         messages = self.until(lambda: True, self.agent(desk))
-        self.assertIn(f"{self.room}/none: No such file or directory, and so AA isn't run", messages)
+        self.assertIn(f"{self.room}/none: No such file or directory, so AA isn't run", messages)
         self.assertEqual(desk.log, [])
 
 
@@ -494,7 +501,7 @@ class Ends(Described):
             with mock.patch.object(desk, "request", refusing):
                 agent = self.agent(desk, tail=1000)
                 messages = self.until(lambda: desk.status("AA") + desk.status("BB") == "CC", agent)
-            self.assertEqual(messages.count("the desk doesn't take the ends of logs"), 1)
+            self.assertEqual(messages.count("the desk didn't accept the end of a log"), 1)
             self.assertEqual(len(desk.log), 4)
 
     def test_a_log_that_was_taken_away(self):

@@ -1,4 +1,4 @@
-"""What an agent asks a desk, and what the desk tells, read as what it has to be."""
+"""The requests of an agent to a desk, and its answers, checked and decoded."""
 
 import contextlib
 import json
@@ -15,30 +15,30 @@ T = TypeVar("T")
 
 
 class Standing(NamedTuple):
-    """How far a desk is in its log, and what names that."""
+    """The last entry that a desk's plan has, and the name of the log."""
 
     position: int
     life: str
 
 
 class Listed(NamedTuple):
-    """Objects that a desk lists, and the position at which they stand."""
+    """The objects of a desk's list, and the position of the plan that it shows."""
 
     objects: list[Any]
     position: int
 
 
 class DeskQueries:
-    """Asks a desk. Each of its methods raises Away and Refused."""
+    """Sends requests to a desk. Each method raises DeskUnreachable and RequestRefused."""
 
     def __init__(self, desk: client.Client) -> None:
         self.desk = desk
 
     def standing(self) -> Standing:
-        """How far the desk is."""
+        """The position of the desk and the name of its log."""
         with self.read():
             health = json.loads(self.desk.request("GET", "/health")[1])
-            if "position" not in health:  # a caller who may not read hears less; the rows say why
+            if "position" not in health:  # a caller who may not read gets less; asking for rows raises why
                 self.listed("cp")
             position, tag = health["position"], health.get("tag", "")
             if not isinstance(position, int):
@@ -46,24 +46,24 @@ class DeskQueries:
             return Standing(position, tag.rpartition("-")[0])
 
     def pairs(self) -> tuple[list[Pair], int]:
-        """What waits for what, and at which position."""
+        """Which occurrence waits for which, and at which position."""
         with self.read():
             found = self.listed("dependencies")
             return [known_plan.pair_of(one) for one in found.objects], found.position
 
     def rows(self) -> tuple[list[Row], int]:
-        """The rows of the current plan that a plan can have, and at which position."""
+        """The valid rows of the current plan, and at which position."""
         with self.read():
             found = self.listed("cp")
             return [row for row in map(known_plan.row_of, found.objects) if row], found.position
 
     def entries(self, since: int) -> list[Entry]:
-        """The entries behind a position."""
+        """The entries after a position."""
         with self.read():
             return self.each(known_plan.entry_of, self.desk.request("GET", f"/journal?from={since + 1}")[1])
 
     def send(self, one: Record, act: str, key: str, tag: str) -> Entry | None:
-        """What the desk answers to a statement on an occurrence; None where the plan isn't in the state of a tag."""
+        """The desk's answer to a statement on an occurrence; None if the plan isn't in the state of the tag."""
         text = f"cp-{act} --app {one.app} --ia {one.ia}\n".encode("ascii")
         heads = {"Idempotency-Key": key, "Content-Type": "text/plain", "Accept": "application/x-ndjson"}
         if tag:
@@ -83,13 +83,14 @@ class DeskQueries:
         return Listed(self.each(lambda one: one, data), int(heads["X-Opcplan-Position"]))
 
     def each(self, form: Callable[[Any], T], data: bytes) -> list[T]:
-        """What lines of JSON tell. Raises ValueError, KeyError and TypeError."""
+        """Each line of JSON, decoded by `form`. Raises ValueError, KeyError and TypeError."""
         return [form(json.loads(line)) for line in data.decode("utf-8").splitlines()]
 
     @contextlib.contextmanager
     def read(self) -> Iterator[None]:
-        """A context in which what no desk tells raises Away."""
+        """A context in which an answer that no desk gives raises DeskUnreachable."""
         try:
             yield
         except (AttributeError, KeyError, TypeError, ValueError):
-            raise client.DeskUnreachable(f"{self.desk.name}: it doesn't answer as a desk does", False) from None
+            raise client.DeskUnreachable(f"{self.desk.name}: its answer isn't that of a desk; check the address",
+                                         False) from None

@@ -1,4 +1,4 @@
-"""What an agent does: its state says what, and files, processes and the desk are here."""
+"""What an agent does with files, processes and the desk. Its state (`state.State`) decides what to do next."""
 
 import contextlib
 import dataclasses
@@ -18,20 +18,21 @@ from opcplan.desk import client
 from opcplan.plans.program import PYTHON
 from opcplan.rules import moments
 
-# the Python of a runner takes nothing from the environment or the site
+# a runner's Python uses neither the environment nor site packages
 RUNNER = [sys.executable, "-E", "-s", "-S", "-B", "-m", "opcplan.agent.runner"]
 # the name of an agent
 NAME = re.compile("[A-Za-z0-9._-]{1,64}")
 # the key of a start, with the name of the agent that made it
 OF_START = re.compile(f"agent-({NAME.pattern})-[0-9a-f]{{24}}([.][0-9]+)?")
-# for how long what was refused isn't asked again, in seconds
+# seconds until the agent tries again what was refused
 PAUSE = 30
 
 
 @dataclasses.dataclass(frozen=True)
 class Settings:
-    """What an agent is given: its folders, how many jobs run at once, how long each may, how long it rests between two
-    looks, perhaps a moment in place of the clock's, its name, and how many bytes of a log the desk gets."""
+    """The options of an agent: its folders; how many jobs run at once; in seconds how long a job may run (None: without
+    end) and how long the agent rests between two looks; a moment in place of the clock's, or None; its name; how many
+    bytes of the end of a log the desk gets."""
 
     jobs: str
     logs: str
@@ -44,7 +45,7 @@ class Settings:
 
 
 class Agent:
-    """Runs the jobs of a folder for a desk. Raises InvalidJobsFile where it can't be told how."""
+    """Runs the jobs of a folder for a desk. Raises InvalidJobsFile."""
 
     def __init__(self, given: Settings, desk: client.Client) -> None:
         self.given, self.desk = given, desk
@@ -58,13 +59,13 @@ class Agent:
         self.reported: set[str] = set()
 
     def load(self) -> None:
-        """Takes the records that an agent before this one left."""
+        """Loads the records that an earlier agent left."""
         found = []
         for serial in record.serials(self.given.logs):
             try:
                 found.append(record.read(self.given.logs, serial))
             except (record.InvalidRecord, OSError) as error:
-                print_message(f"{error}; it is left as it is")
+                print_message(f"{error}; the agent leaves it as it is")
         self.state = state.State(found)
 
     def step(self) -> None:
@@ -92,29 +93,29 @@ class Agent:
         self.tails.give_running(one for serial, one in self.state.records.items() if serial not in self.state.lost)
 
     def read_jobs(self) -> None:
-        """Reads how jobs are run, where that changed; a faulty file changes nothing."""
+        """Reads jobs.toml if it has changed; a faulty file changes nothing."""
         try:
             self.jobs.read()
         except jobs.InvalidJobsFile as why:
-            self.print_once(f"{why}; what it had before is still in force")
+            self.print_once(f"{why}; the agent goes on with what the file had before")
 
     def report_strangers(self) -> None:
-        """Says what is started without a record of it here."""
+        """Reports each occurrence of this agent's jobs that is started and has no record here."""
         for row in self.state.plan.rows.values():
             is_strange = row.status == "S" and row.serial not in self.state.records
             if is_strange and row.app not in self.jobs.rules.elsewhere and self.program_of(row.app):
                 other = self.other_agent_of(row.serial)
-                how = f"was started by the agent {other}" if other else "is started, and nothing here tells by whom"
-                print_message(f"{row.name} {how}; it isn't touched")
+                how = f"was started by the agent {other}" if other else "is started, and no record here says by whom"
+                print_message(f"{row.name} {how}; the agent leaves it alone")
 
     def other_agent_of(self, serial: int) -> str | None:
-        """The name of another agent that started an occurrence, by the key of its start; None where none is known."""
+        """The name of another agent that started an occurrence, by the key of its start, or None if it isn't known."""
         known = self.state.plan.latest.get(serial)
         found = OF_START.fullmatch(known.key or "") if known is not None and known.status == "S" else None
         return found[1] if found and found[1] != self.given.name else None
 
     def do(self, command: state.Command) -> None:
-        """Does what the state says. Raises DeskUnreachable, RequestRefused and DeskBehind."""
+        """Executes a command of the state. Raises DeskUnreachable, RequestRefused and DeskBehind."""
         match command:
             case state.AskStanding():
                 self.state.standing(*self.asking.standing())
@@ -136,7 +137,7 @@ class Agent:
                 self.do_here(command)
 
     def do_here(self, command: state.Command) -> None:
-        """Does what files and processes are for; what the machine doesn't take now is done later."""
+        """Executes a command on files and processes; one that fails with an OSError is tried again later."""
         try:
             match command:
                 case state.Look(serial):
@@ -158,7 +159,7 @@ class Agent:
             self.put_off(command, error)
 
     def put_off(self, command: state.Command, error: OSError) -> None:
-        """Says what the disk or the machine doesn't take; it is tried again later."""
+        """Reports a command that the disk or the machine refused; it is tried again later."""
         one: Record | Row
         if isinstance(command, state.Prepare):
             one = command.row
@@ -169,17 +170,17 @@ class Agent:
         else:
             raise error
         self.pauses[one.serial] = time.monotonic() + PAUSE
-        self.print_once(f"{one.name}: {error.filename or 'it'}: {error.strerror}")
+        self.print_once(f"{one.name}: {error.filename or 'this machine'}: {error.strerror}; the agent tries again")
         if isinstance(command, state.Prepare):
             self.state.prepared(None)
         else:
             self.state.skip()
 
-    # What was asked before.
+    # Runs that were requested before.
 
     def look_at(self, known: Record) -> tuple[Record, bool, bool]:
-        """The record of a run as it stands now, whether a runner has its log, which was seen before, and whether the
-        pause after its try is over. Raises OSError."""
+        """The current record of a run, whether a runner has its log (checked before the record is read), and whether
+        the pause after its try is over. Raises OSError."""
         self.release(known.serial)
         has_runner = record.is_run(self.given.logs, known.serial)
         with contextlib.suppress(record.InvalidRecord, OSError):
@@ -187,7 +188,7 @@ class Agent:
         return known, has_runner, is_rested(known)
 
     def claim(self, one: Record) -> bool:
-        """Whether the log of a record is the agent's now. Raises OSError."""
+        """Takes the lock of a record's log; whether the agent has it now. Raises OSError."""
         log = record.open_log(self.given.logs, one.serial)
         if log is None:
             return False
@@ -195,7 +196,8 @@ class Agent:
         return True
 
     def run(self, one: Record) -> None:
-        """Has a runner begin a job that the desk knows as started; it gets the log with its lock. Raises OSError."""
+        """Starts a runner for a job whose start the desk has accepted; the runner gets the log with its lock. Raises
+        OSError."""
         log = self.logs[one.serial]
         words = [*RUNNER, self.given.logs, str(one.serial), self.given.jobs, str(log)]
         self.runners.append(subprocess.Popen(
@@ -205,7 +207,7 @@ class Agent:
         print_message(f"{one.name} is started{f', {one.try_text}' if one.try_text else ''}")
 
     def forget(self, one: Record, why: str, is_refused: bool) -> None:
-        """Takes a record away, and a log in which nothing stands. Raises OSError."""
+        """Deletes a record, and its log if that is empty. Raises OSError."""
         print_message(f"{one.name}: {why}")
         if is_refused:
             self.pauses[one.serial] = time.monotonic() + PAUSE
@@ -218,20 +220,20 @@ class Agent:
         self.release(one.serial)
 
     def release(self, serial: int) -> None:
-        """Closes the log of a serial, where it is the agent's."""
+        """Closes the log of a serial if the agent has it."""
         if serial in self.logs:
             os.close(self.logs.pop(serial))
 
     # What is ready.
 
     def prepare(self, row: Row, after: int, attempt: int) -> Record | None:
-        """A new record of a try of a row, whose log is the agent's; None where it has no job here, or rests. Raises
-        OSError."""
+        """A new record for a try of a row, with the lock of its log; None if the row has no job here, or pauses after a
+        refusal. Raises OSError."""
         if self.program_of(row.app) is None or self.pauses.get(row.serial, 0) > time.monotonic():
             return None
         log = record.open_log(self.given.logs, row.serial)
         if log is None:
-            self.print_once(f"{row.name}: a run before still holds its log; it isn't begun")
+            self.print_once(f"{row.name}: an earlier run still has its log, so the agent doesn't start it yet")
             return None
         self.logs[row.serial] = log
         key = f"agent-{self.given.name}-{secrets.token_hex(12)}"
@@ -241,38 +243,40 @@ class Agent:
         return one
 
     def program_of(self, app: str) -> str | None:
-        """The path of an application's job, or None where there is no such plain file."""
+        """The path of an application's job, or None if there is no executable regular file that may be run."""
         command = self.jobs.of(app).command
         path = command[0] if command else os.path.join(self.given.jobs, app)
         try:
             mode = os.stat(path, follow_symlinks=bool(command)).st_mode
         except OSError as error:
             if command:
-                self.print_once(f"{path}: {error.strerror}, and so {app} isn't run")
+                self.print_once(f"{path}: {error.strerror}, so {app} isn't run; correct `command` in {self.jobs.path}")
             return None
         if not stat.S_ISREG(mode) or not os.access(path, os.X_OK):
-            self.print_once(f"{path}: it is no executable file itself, and so it isn't run")
+            self.print_once(f"{path}: this isn't an executable file itself, so {app} isn't run; put the program there, "
+                            "executable, and no link")
             return None
         if mode & stat.S_IWOTH:
-            self.print_once(f"{path}: everybody may write it, and so it isn't run")
+            self.print_once(f"{path}: everybody may write this file, so {app} isn't run; remove that right with "
+                            "`chmod o-w`")
             return None
         return path
 
     def print_once(self, text: str) -> None:
-        """Says something that wasn't said yet."""
+        """Prints a message that wasn't printed before."""
         if text not in self.reported:
             self.reported.add(text)
             print_message(text)
 
 
 def is_rested(one: Record) -> bool:
-    """Whether the pause after a try is over, by this machine's clock."""
+    """Whether the pause after a try is over, by this machine's clock; also if the record has no valid end."""
     with contextlib.suppress(ValueError):
         return not one.ended or time.time() >= datetime.datetime.fromisoformat(one.ended).timestamp() + one.pause
     return True
 
 
 def print_message(text: str) -> None:
-    """Says something on standard error, where that takes it."""
+    """Prints a line on standard error; errors of writing are ignored."""
     with contextlib.suppress(OSError):
         print(f"agent: {text}", file=sys.stderr, flush=True)

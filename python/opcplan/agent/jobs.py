@@ -1,5 +1,5 @@
 """The file jobs.toml beside the folder of jobs: how the job of an application is run, how often it is tried, on which
-agents, and how many of a class run at once. It is read again where it changed."""
+agents, and how many of a class run at once. It is read again when it changes."""
 
 import dataclasses
 import fnmatch
@@ -24,9 +24,9 @@ MOST_TRIES, MOST_OF_A_CLASS, MOST_STATUS = 99, 1000, 255
 VARIABLE = re.compile("[A-Za-z_][A-Za-z0-9_]*")
 CLASS = re.compile("[A-Za-z0-9_.-]{1,60}")
 OWN = "OPCPLAN_"
-# what stands for a value of the occurrence within a word of a command
+# a placeholder for a value of the occurrence within a word of a command
 PLACE = re.compile(r"\{(app|ia|serial|try)\}")
-SPAN = "a number of seconds, or a span like \"10m\" or \"2h\", is wanted"
+SPAN = "must be a number of seconds above 0, or a span like \"10m\" or \"2h\""
 
 
 class InvalidJobsFile(Unreadable):
@@ -66,13 +66,13 @@ class Jobs:
 
     def __init__(self, folder: str, agent: str) -> None:
         self.folder, self.path, self.agent = folder, folder + TAIL, agent
-        self.stamp: tuple[int, int, int] | None = None  # what changes where the file does
+        self.stamp: tuple[int, int, int] | None = None  # differs once the file has changed
         self.found: dict[str, Job] = {}
         self.rules = Rules()
         self.read()
 
     def read(self) -> None:
-        """Reads the file where it changed; a faulty one changes nothing. Raises InvalidJobsFile."""
+        """Reads the file if it has changed; a faulty one changes nothing. Raises InvalidJobsFile."""
         try:
             found = os.stat(self.path)
         except FileNotFoundError:
@@ -84,9 +84,11 @@ class Jobs:
         if stamp == self.stamp:
             return
         self.stamp = stamp
-        if not stat.S_ISREG(found.st_mode) or found.st_mode & stat.S_IWOTH:
-            raise InvalidJobsFile(f"{self.path}: it has to be a file that not everybody may write, and so it isn't "
-                                  "read")
+        if not stat.S_ISREG(found.st_mode):
+            raise InvalidJobsFile(f"{self.path}: this isn't a regular file, so the agent doesn't read it")
+        if found.st_mode & stat.S_IWOTH:
+            raise InvalidJobsFile(f"{self.path}: everybody may write this file, so the agent doesn't read it; remove "
+                                  "that right with `chmod o-w`")
         jobs, limits = of_file(self.path)
         self.check_users(jobs)
         elsewhere = frozenset(app for app, job in jobs.items() if not self.is_here(job))
@@ -94,7 +96,7 @@ class Jobs:
         self.found, self.rules = jobs, Rules(elsewhere, classes, limits)
 
     def is_here(self, job: Job) -> bool:
-        """Whether a job is one of this agent."""
+        """Whether this agent may run a job, by its `where`."""
         return fnmatch.fnmatchcase(self.agent, job.where)
 
     def of(self, app: str) -> Job:
@@ -102,17 +104,18 @@ class Jobs:
         return self.found.get(app, USUAL)
 
     def check_users(self, jobs: Mapping[str, Job]) -> None:
-        """Asks that this agent can run each of its jobs as the user who is named. Raises InvalidJobsFile."""
+        """Checks that this agent can run each of its jobs as the user that the file names. Raises InvalidJobsFile."""
         for app, job in jobs.items():
             if job.user is None or not self.is_here(job):
                 continue
             try:
                 user = pwd.getpwnam(job.user)
             except KeyError:
-                raise InvalidJobsFile(f"{self.path}: {app}: user: this machine has no user {job.user!r}") from None
+                raise InvalidJobsFile(f"{self.path}: {app}: `user` names {job.user!r}, whom this machine doesn't "
+                                      "have; name another user, or create this one") from None
             if user.pw_uid != os.geteuid() and os.geteuid():
-                raise InvalidJobsFile(f"{self.path}: {app}: user: only an agent that root runs can run a job as "
-                                      f"{job.user}: take the line away, or run the agent as root or as that user")
+                raise InvalidJobsFile(f"{self.path}: {app}: `user` names {job.user}, and only an agent of root can run "
+                                      "a job as another user; remove the line, or run the agent as root or that user")
 
 
 def of_file(path: str) -> tuple[dict[str, Job], dict[str, int]]:
@@ -123,13 +126,13 @@ def of_file(path: str) -> tuple[dict[str, Job], dict[str, int]]:
     except OSError as error:
         raise InvalidJobsFile(f"{path}: it can't be read: {error.strerror}") from None
     except (ValueError, RecursionError) as error:
-        raise InvalidJobsFile(f"{path}: it isn't TOML: {error}") from None
+        raise InvalidJobsFile(f"{path}: the file isn't valid TOML: {error}") from None
     try:
         limits = limits_of(tables.pop(CLASSES, {}))
         jobs = {app: job_of(app, value) for app, value in tables.items()}
         for app, job in jobs.items():
             if job.group is not None and job.group not in limits:
-                raise ValueError(f"{app}: class: {job.group!r} has no number among {CLASSES}: add "
+                raise ValueError(f"{app}: `class` names {job.group!r}, which has no limit; add a line like "
                                  f"`{CLASSES}.{job.group} = 2` at the top")
     except ValueError as why:
         raise InvalidJobsFile(f"{path}: {why}") from None
@@ -137,70 +140,70 @@ def of_file(path: str) -> tuple[dict[str, Job], dict[str, int]]:
 
 
 def limits_of(table: Any) -> dict[str, int]:
-    """How many of each class may run at once. Raises ValueError."""
+    """How many jobs of each class may run at once, by its name. Raises ValueError."""
     if not isinstance(table, dict):
-        raise ValueError(f"{CLASSES}: lines like `{CLASSES}.db = 2` are wanted")
+        raise ValueError(f"`{CLASSES}` must have lines like `{CLASSES}.db = 2`")
     for name, value in table.items():
         if not CLASS.fullmatch(name) or not is_number(value, 1, MOST_OF_A_CLASS):
-            raise ValueError(f"{CLASSES}.{name}: a number from 1 to {MOST_OF_A_CLASS} is wanted")
+            raise ValueError(f"`{CLASSES}.{name}` must be a number from 1 to {MOST_OF_A_CLASS}")
     return dict(table)
 
 
 def job_of(app: str, table: Any) -> Job:
-    """The job that a table of the file has. Raises ValueError."""
+    """The job that a table of the file describes. Raises ValueError."""
     if not words.NAME.fullmatch(app) or not isinstance(table, dict):
-        raise ValueError(f"{app}: it is no application; a table like [PAY] has the job of one, and {CLASSES} the "
-                         "numbers of classes")
+        raise ValueError(f"{app}: this is no application; write a table like [PAY] for the job of one, and lines like "
+                         f"`{CLASSES}.db = 2` for the limits of classes")
     given: dict[str, Any] = {"environment": ()}
     for name, value in table.items():
         if name not in READERS:
-            raise ValueError(f"{app}: {name}: there is no such key; the keys are {', '.join(READERS)}")
+            raise ValueError(f"{app}: there is no key `{name}`; the keys are {', '.join(READERS)}")
         field, read = READERS[name]
         try:
             given[field] = read(value)
         except ValueError as why:
-            raise ValueError(f"{app}: {name}: {why}") from None
+            raise ValueError(f"{app}: `{name}` {why}") from None
     return Job(**given)
 
 
 def is_number(value: Any, least: int, most: int) -> bool:
-    """Whether a value is a whole number between two others."""
+    """Whether a value is a whole number from `least` to `most`."""
     return isinstance(value, int) and not isinstance(value, bool) and least <= value <= most
 
 
 def text_of(value: Any) -> str:
-    """A text that a process can be given. Raises ValueError."""
+    """A text that can be passed to a process. Raises ValueError."""
     if not isinstance(value, str) or not value or "\0" in value:
-        raise ValueError("a text in quotes is wanted")
+        raise ValueError("must be a text in quotes")
     return value
 
 
 def command_of(value: Any) -> tuple[str, ...]:
     """The words of a command; the first one is the path of a program. Raises ValueError."""
     if not isinstance(value, list) or not value or not all(isinstance(one, str) and "\0" not in one for one in value):
-        raise ValueError("a list of words is wanted, as [\"/usr/bin/pay\", \"{ia}\"]")
+        raise ValueError("must be a list of words, like [\"/usr/bin/pay\", \"{ia}\"]")
     if not os.path.isabs(value[0]):
-        raise ValueError(f"the first word is the whole path of a program, and {value[0]!r} is none")
+        raise ValueError(f"must begin with the absolute path of a program, and {value[0]!r} is none")
     return tuple(value)
 
 
 def folder_of(value: Any) -> str:
     """The path of a folder. Raises ValueError."""
     if not os.path.isabs(text_of(value)):
-        raise ValueError("the whole path of a folder is wanted")
+        raise ValueError("must be the absolute path of a folder")
     return text_of(value)
 
 
 def environment_of(value: Any) -> tuple[tuple[str, str], ...]:
-    """Variables with their values. Raises ValueError."""
+    """Variables with their values, in the order of the file. Raises ValueError."""
     if not isinstance(value, dict):
-        raise ValueError("variables are wanted, as { LANG = \"C.UTF-8\" }")
+        raise ValueError("must have variables, like { LANG = \"C.UTF-8\" }")
     for name, text in value.items():
         if not VARIABLE.fullmatch(name) or name.startswith(OWN):
-            raise ValueError(f"{name}: this is no name that a variable of a job can have; {OWN} begins those that the "
-                             "agent sets")
+            raise ValueError(f"has `{name}`, which can't name a variable of a job; use letters, digits and `_`, and no "
+                             f"{OWN} at its beginning")
         if not isinstance(text, str) or "\0" in text:
-            raise ValueError(f"{name}: a text in quotes is wanted")
+            raise ValueError(f"has `{name}`, which must be a text in quotes")
     return tuple(value.items())
 
 
@@ -223,25 +226,25 @@ def pauses_of(value: Any) -> tuple[float, ...]:
 def tries_of(value: Any) -> int:
     """How often a job is tried. Raises ValueError."""
     if not is_number(value, 1, MOST_TRIES):
-        raise ValueError(f"a number from 1 to {MOST_TRIES} is wanted")
+        raise ValueError(f"must be a number from 1 to {MOST_TRIES}")
     return int(value)
 
 
 def complete_of(value: Any) -> tuple[int, ...]:
     """Exit statuses. Raises ValueError."""
     if not isinstance(value, list) or not value or not all(is_number(one, 0, MOST_STATUS) for one in value):
-        raise ValueError("a list of exit statuses is wanted, as [0, 4]")
+        raise ValueError("must be a list of exit statuses, like [0, 4]")
     return tuple(value)
 
 
 def class_of(value: Any) -> str:
     """The name of a class. Raises ValueError."""
     if not CLASS.fullmatch(text_of(value)):
-        raise ValueError("the name of a class is wanted, as \"db\"")
+        raise ValueError("must be the name of a class, like \"db\"")
     return text_of(value)
 
 
-# by the key of the file: the field of Job, and what reads it
+# by the key in the file: the field of Job, and the function that reads its value
 READERS: dict[str, tuple[str, Callable[[Any], Any]]] = {
     "command": ("command", command_of), "user": ("user", text_of), "folder": ("folder", folder_of),
     "environment": ("environment", environment_of), "limit": ("limit", span_of), "tries": ("tries", tries_of),

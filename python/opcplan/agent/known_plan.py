@@ -1,4 +1,4 @@
-"""The current plan as an agent knows it: rows, what they wait for, and who gave each its status. It opens nothing."""
+"""The current plan as an agent knows it: rows, what they wait for, and which entry gave each its status. No I/O."""
 
 import functools
 import re
@@ -12,7 +12,7 @@ from opcplan.rules import moments, statements
 STATUS = re.compile(statements.CHANGED)
 IN_THE_WAY = "WSE"
 moment_of = functools.lru_cache(10_000)(moments.moment_of)
-# what has to be asked anew
+# what has to be fetched again: nothing, the rows, or rows and pairs
 NOTHING, STATUSES, ALL = range(3)
 
 
@@ -28,7 +28,7 @@ class Row(NamedTuple):
 
     @property
     def name(self) -> str:
-        """The occurrence, in words."""
+        """The occurrence as messages name it."""
         return f"{self.app} {self.ia} (serial {self.serial})"
 
 
@@ -40,7 +40,7 @@ class Pair(NamedTuple):
 
 
 class Entry(NamedTuple):
-    """An entry of the desk's journal, which is also what a statement is answered."""
+    """An entry of the desk's journal, which is also the answer to a statement."""
 
     seq: int
     statement: str
@@ -50,12 +50,12 @@ class Entry(NamedTuple):
 
     @property
     def changes_pairs(self) -> bool:
-        """Whether it may have changed rows or pairs otherwise than by a status."""
+        """Whether it may have changed more than the status of one row."""
         return self.reply.startswith("ok") and self.statement.split(" ", 1)[0] not in statements.ON_A_STATUS
 
     @property
     def is_old(self) -> bool:
-        """Whether it may be an old answer: a caller's own number is answered again as it once was."""
+        """Whether it may be an old answer: the desk answers a caller's own job number again as it once did."""
         return self.job < entry.FIRST_JOB
 
 
@@ -67,8 +67,8 @@ class Latest(NamedTuple):
 
 
 class KnownPlan:
-    """The current plan at a position of the desk's journal, None where it isn't known yet. Of entries up to `since`
-    nothing is known."""
+    """The current plan at a position of the desk's journal, None if it isn't known yet. Entries up to `since` aren't
+    known."""
 
     def __init__(self) -> None:
         self.position: int | None = None
@@ -77,26 +77,26 @@ class KnownPlan:
         self.rows: dict[int, Row] = {}
         self.before: dict[int, tuple[int, ...]] = {}
         self.latest: dict[int, Latest] = {}
-        self.sure: dict[int, Latest | None] = {}  # `latest` as it was before entries that may be old answers
+        self.sure: dict[int, Latest | None] = {}  # `latest` before entries that may be old answers
 
     @property
     def last(self) -> int:
-        """The entry up to which nothing more is asked for."""
+        """The last entry that isn't requested any more."""
         return max(self.since, self.position or 0)
 
     def begin(self, since: int) -> None:
-        """Nothing is known; entries behind a position will be taken."""
+        """Drops what is known; entries after a position will follow."""
         self.position, self.since, self.stale = None, since, NOTHING
         self.latest, self.sure = {}, {}
 
     def skip(self, seq: int) -> None:
-        """The journal has no entries up to one any more: who gave an occurrence its status isn't known."""
+        """The journal lacks the entries up to `seq`, so it isn't known which entry gave a row its status."""
         self.since, self.stale = seq, ALL
         self.latest.clear()
         self.sure.clear()
 
     def take(self, one: Entry) -> None:
-        """Takes the entry that comes next."""
+        """Applies the next entry."""
         self.take_latest(one)
         self.position = one.seq
         found = STATUS.fullmatch(one.reply)
@@ -109,7 +109,7 @@ class KnownPlan:
             self.rows[row.serial] = row._replace(status=found[2])
 
     def take_latest(self, one: Entry) -> None:
-        """Notes who gave an occurrence its status. An old answer doesn't start what is started."""
+        """Notes the entry that gave an occurrence its status. An old answer doesn't start what is started."""
         found = STATUS.fullmatch(one.reply)
         if not found:
             return
@@ -121,7 +121,7 @@ class KnownPlan:
             self.latest[serial] = Latest(status, one.key)
 
     def settle(self) -> None:
-        """Takes back what the rows don't show: a caller's own number that was answered again as it once was."""
+        """Undoes what the rows don't show: it came from an old answer to a caller's own job number."""
         for serial, known in self.sure.items():
             row, found = self.rows.get(serial), self.latest.get(serial)
             if row and found and row.status != found.status:
@@ -131,19 +131,19 @@ class KnownPlan:
         self.sure = {}
 
     def take_rows(self, rows: Mapping[int, Row], position: int) -> None:
-        """The rows are these, at a position up to which all entries are known."""
+        """Sets the rows, at a position up to which all entries are known."""
         self.rows, self.position, self.stale = dict(rows), position, NOTHING
         self.settle()
 
     def take_pairs(self, pairs: Iterable[Pair]) -> None:
-        """These wait for each other."""
+        """Sets which occurrence waits for which."""
         found: dict[int, list[int]] = {}
         for one in pairs:
             found.setdefault(one.successor, []).append(one.predecessor)
         self.before = {serial: tuple(others) for serial, others in found.items()}
 
     def ready(self, now: int) -> list[Row]:
-        """The rows that have arrived at a moment and wait for nothing, the earliest deadline first."""
+        """The rows that are ready at a moment, the earliest deadline first."""
         found = [row for row in self.rows.values() if row.arrival <= now and self.is_ready(row.serial)]
         return sorted(found, key=lambda row: (row.deadline, row.ia, row.app))
 
@@ -155,7 +155,7 @@ class KnownPlan:
 
 
 def row_of(fields: Any) -> Row | None:
-    """The row that is told, or None where it isn't one that a plan can have."""
+    """The row of decoded JSON, or None if no plan can have such a row."""
     try:
         serial, app, ia, status = (fields[name] for name in ("serial", "app", "ia", "status"))
         arrival, deadline = moment_of(ia), moment_of(fields["deadline"])
@@ -168,7 +168,7 @@ def row_of(fields: Any) -> Row | None:
 
 
 def entry_of(fields: Any) -> Entry:
-    """The entry that is told. Raises KeyError and TypeError."""
+    """The entry of decoded JSON. Raises KeyError and TypeError."""
     seq, statement, job, reply = (fields[name] for name in ("seq", "statement", "job", "reply"))
     if not (isinstance(seq, int) and isinstance(job, int) and isinstance(statement, str) and isinstance(reply, str)):
         raise TypeError
@@ -176,5 +176,5 @@ def entry_of(fields: Any) -> Entry:
 
 
 def pair_of(fields: Any) -> Pair:
-    """The pair that is told. Raises KeyError and TypeError."""
+    """The pair of decoded JSON. Raises KeyError and TypeError."""
     return Pair(fields["successor"], fields["predecessor"])

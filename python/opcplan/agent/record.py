@@ -1,11 +1,11 @@
-"""What is kept of a run that an agent asks for, beside the log of its output, by serial.
+"""The record of a run: a file beside the log of its output, named by the serial.
 
-The agent writes a record before it says that the job is started. From then on it is the runner's: that writes when it
-begins the job and how the job ended. The lock of the log belongs to the agent first and then to the runner, for as long
-as that is there.
+The agent writes the record before it sends the start to the desk. From then on only the runner writes it: first that
+the job begins, then how it ended. The lock of the log belongs to the agent first, and then to the runner as long as it
+lives.
 
-Each step of a run is sent under a key that the record alone makes: the key of the run, the number of the try, and the
-step. An agent that begins anew therefore sends a step again under the key that it had."""
+The record alone determines the key of each step: the key of the run, the number of the try, and the step. So an agent
+that is started anew sends a step again under the same key."""
 
 import contextlib
 import dataclasses
@@ -20,7 +20,7 @@ from opcplan.errors import Unreadable
 
 FILE = re.compile(r"([0-9]{9})\.run")
 RESET = re.compile(r".*\.([0-9]{1,3})-reset")
-# what a file has as lists
+# the fields that are lists in the file
 OF_LISTS = ("command", "complete", "pauses")
 
 
@@ -31,51 +31,51 @@ class Record:
     serial: int
     app: str
     ia: str  # as statements have it
-    key: str  # names the run; under it a desk is asked to start the first try
-    after: int  # the position of the desk's journal behind which it is asked
+    key: str  # names the run; the start of the first try is sent under it
+    after: int  # the position of the desk's journal when the start was requested
     limit: float | None  # in seconds
     began: str | None = None
     ended: str | None = None
     status: int | None = None  # of the job: its exit status, or less than 0 the signal that ended it
-    why: str | None = None  # what else there is to say of its end
-    attempt: int = 1  # which try this is
-    tries: int = 1  # how many there may be
-    pauses: tuple[float, ...] = ()  # seconds from the end of a try to the next one; the last one counts for all later
-    complete: tuple[int, ...] = (0,)  # exit statuses of a job that did what it had to do
-    command: tuple[str, ...] = ()  # its words, none for the file of the application
-    folder: str | None = None  # in which it runs, else that of the jobs
+    why: str | None = None  # what else is known of its end
+    attempt: int = 1  # the number of this try
+    tries: int = 1  # how many tries are allowed
+    pauses: tuple[float, ...] = ()  # seconds from the end of a try to the next; the last counts for all later
+    complete: tuple[int, ...] = (0,)  # exit statuses that count as complete
+    command: tuple[str, ...] = ()  # empty: the file of the application
+    folder: str | None = None  # where it runs, else the folder of the jobs
     user: str | None = None  # as whom it runs, else as the agent
-    environment: tuple[tuple[str, str], ...] | None = None  # None: that of the agent
+    environment: tuple[tuple[str, str], ...] | None = None  # None: the agent's
     offset: int = 0  # where the output of this try begins in the log
 
     @property
     def name(self) -> str:
-        """The occurrence, in words."""
+        """The occurrence as messages name it."""
         return f"{self.app} {self.ia} (serial {self.serial})"
 
     @property
     def is_good(self) -> bool:
-        """Whether a job that ended did what it had to do."""
+        """Whether a job that ended counts as complete."""
         return self.status in self.complete and self.why is None
 
     @property
     def is_tried_again(self) -> bool:
-        """Whether a job that ended is to be tried once more."""
+        """Whether another try follows one that ended."""
         return not self.is_good and self.attempt < self.tries
 
     @property
     def start_key(self) -> str:
-        """The key under which a desk is asked to start this try."""
+        """The key under which the start of this try is sent."""
         return self.key if self.attempt == 1 else f"{self.key}.{self.attempt}"
 
     @property
     def end_key(self) -> str:
-        """The key under which a desk is told how the job ended."""
+        """The key under which the end of this try is sent."""
         return f"{self.start_key}-end"
 
     @property
     def reset_key(self) -> str:
-        """The key under which a desk is asked to let a try that failed wait again."""
+        """The key under which the reset after this try, if it failed, is sent."""
         return f"{self.key}.{self.attempt}-reset"
 
     @property
@@ -85,17 +85,17 @@ class Record:
 
     @property
     def try_text(self) -> str:
-        """Which try it is, in words; empty where there is one alone."""
+        """The number of the try as messages have it; empty if one try is all."""
         return f"try {self.attempt} of {self.tries}" if self.tries > 1 else ""
 
     def next_try(self, after: int) -> "Record":
-        """The record of the next try, which is asked behind a position."""
+        """The record of the next try, whose start is requested at a position."""
         return dataclasses.replace(self, attempt=self.attempt + 1, after=after, began=None, ended=None, status=None,
                                    why=None, offset=0)
 
     @property
     def ended_text(self) -> str:
-        """How the job ended, in words."""
+        """How the job ended, as messages have it."""
         if self.status is None:
             return self.why or ""
         how = f"status {self.status}" if self.status >= 0 else f"by signal {-self.status}"
@@ -103,14 +103,14 @@ class Record:
 
 
 def try_after(key: str | None) -> int:
-    """The number of the try that comes next where an entry of a key let an occurrence wait: agents count on what others
-    tried before."""
+    """The number of an occurrence's next try, if the entry with this key gave it its status: agents count on from the
+    tries of others."""
     found = RESET.fullmatch(key or "")
     return int(found[1]) + 1 if found else 1
 
 
 class InvalidRecord(Unreadable):
-    """What is wrong with a file of a record."""
+    """What is wrong with the file of a record."""
 
 
 def path_of(folder: str, serial: int) -> str:
@@ -124,7 +124,7 @@ def log_of(folder: str, serial: int) -> str:
 
 
 def write(folder: str, one: Record) -> None:
-    """Puts a record in the place of what was there, on the disk, whole. Raises OSError."""
+    """Replaces the file of a record, atomically and synced. Raises OSError."""
     path = path_of(folder, one.serial)
     part = f"{path}.part"
     number = os.open(part, os.O_WRONLY | os.O_CREAT | os.O_TRUNC | os.O_NOFOLLOW | os.O_CLOEXEC, 0o600)
@@ -137,7 +137,7 @@ def write(folder: str, one: Record) -> None:
 
 
 def sync(folder: str) -> None:
-    """Has the disk keep which files a folder has."""
+    """Syncs a folder's list of files to the disk. Raises OSError."""
     number = os.open(folder, os.O_RDONLY | os.O_DIRECTORY | os.O_CLOEXEC)
     try:
         os.fsync(number)
@@ -152,14 +152,14 @@ def read(folder: str, serial: int) -> Record:
         try:
             one = of_json(json.load(file))
         except (ValueError, TypeError, AttributeError):
-            raise InvalidRecord(f"{path}: it is no record of a run") from None
+            raise InvalidRecord(f"{path}: this file isn't the record of a run") from None
     if one.serial != serial:
-        raise InvalidRecord(f"{path}: it is the record of another serial, {one.serial}")
+        raise InvalidRecord(f"{path}: this is the record of another serial, {one.serial}")
     return one
 
 
 def of_json(fields: Any) -> Record:
-    """The record that a file has. Raises ValueError, TypeError and AttributeError."""
+    """The record of a file's fields. Raises ValueError, TypeError and AttributeError."""
     given = {name: tuple(value) if name in OF_LISTS else value for name, value in fields.items()}
     if given.get("environment") is not None:
         given["environment"] = tuple((str(name), str(value)) for name, value in given["environment"])
@@ -167,12 +167,12 @@ def of_json(fields: Any) -> Record:
 
 
 def serials(folder: str) -> list[int]:
-    """The serials of which there are records."""
+    """The serials that have records, in their order. Raises OSError."""
     return sorted(int(found[1]) for found in map(FILE.fullmatch, os.listdir(folder)) if found)
 
 
 def remove_log(folder: str, serial: int) -> bool:
-    """Takes the log of a serial away, whether no run needs it. Raises OSError."""
+    """Deletes the log of a serial unless a run needs it; whether it did. Raises OSError."""
     with locked_log(folder, serial) as log:
         is_free = log is not None and not os.path.exists(path_of(folder, serial))
         if is_free:
@@ -181,13 +181,13 @@ def remove_log(folder: str, serial: int) -> bool:
 
 
 def forget(folder: str, serial: int) -> None:
-    """Takes a record away."""
+    """Deletes a record. Raises OSError."""
     os.remove(path_of(folder, serial))
     sync(folder)
 
 
 def open_log(folder: str, serial: int) -> int | None:
-    """The number of the log's open file, with its lock; None where another one has that. Raises OSError."""
+    """The descriptor of the log, with its lock; None if another process has the lock. Raises OSError."""
     flags = os.O_WRONLY | os.O_CREAT | os.O_APPEND | os.O_NOFOLLOW | os.O_CLOEXEC
     path = log_of(folder, serial)
     while True:
@@ -197,11 +197,11 @@ def open_log(folder: str, serial: int) -> int | None:
             return None
         if is_at(number, path):
             return number
-        os.close(number)  # who prunes logs took it away meanwhile
+        os.close(number)  # a prune of logs deleted it meanwhile
 
 
 def is_at(number: int, path: str) -> bool:
-    """Whether an open file is the one of a path."""
+    """Whether a path still names an open file. Raises OSError."""
     try:
         return os.path.samestat(os.fstat(number), os.stat(path, follow_symlinks=False))
     except FileNotFoundError:
@@ -210,7 +210,7 @@ def is_at(number: int, path: str) -> bool:
 
 @contextlib.contextmanager
 def locked_log(folder: str, serial: int) -> Iterator[int | None]:
-    """A context with the number of the log's open file, as `open_log` has it, which is closed then. Raises OSError."""
+    """A context with what `open_log` returns, which is closed at its end. Raises OSError."""
     number = open_log(folder, serial)
     try:
         yield number
@@ -220,7 +220,7 @@ def locked_log(folder: str, serial: int) -> Iterator[int | None]:
 
 
 def is_taken(number: int) -> bool:
-    """Whether an open file got its lock."""
+    """Takes the lock of an open file; whether it got it."""
     try:
         fcntl.flock(number, fcntl.LOCK_EX | fcntl.LOCK_NB)
     except BlockingIOError:
@@ -229,6 +229,6 @@ def is_taken(number: int) -> bool:
 
 
 def is_run(folder: str, serial: int) -> bool:
-    """Whether a runner has the job of a serial. Raises OSError."""
+    """Whether a runner has the log of a serial. Raises OSError."""
     with locked_log(folder, serial) as log:
         return log is None

@@ -1,8 +1,8 @@
-"""Runs one job for an agent, and leaves in its record when it began and how it ended. It outlives the agent.
+"""Runs one job for an agent, and writes into its record when the job began and how it ended. It outlives the agent.
 
-Its words are the folder of the records, a serial, the folder of the jobs, and the number of the open log, whose lock it
-has. The job gets a session of its own, and neither the lock nor the token for the desk. Where the record names a user,
-it runs as that one, with all groups of that user and none of the agent's."""
+Its arguments are the folder of the records, a serial, the folder of the jobs, and the descriptor of the log, whose lock
+it has. The job gets a session of its own, and neither the lock nor the token for the desk. If the record names a user,
+the job runs as that user, with all groups of that user and none of the agent's."""
 
 import dataclasses
 import datetime
@@ -18,12 +18,12 @@ from typing import NamedTuple
 from opcplan.agent import record
 from opcplan.agent.record import Record
 
-# between the signal that asks a job to end and the one that ends it
+# seconds between SIGTERM and SIGKILL
 GRACE = 10
-# the last one is where systemd puts the file of the token
+# variables that no job sees; systemd puts the file of the token into the folder of the last one
 PRIVATE = ("OPCPLAN_TOKEN", "OPCPLAN_TOKEN_FILE", "CREDENTIALS_DIRECTORY")
 REST = 1
-# of a job that is described: what its environment has, and what it has of the agent's
+# of a job in jobs.toml: the fixed values of its environment, and the variables that it gets from the agent's
 PATH, SHELL = "/usr/local/sbin:/usr/local/bin:/usr/sbin:/usr/bin:/sbin:/bin", "/bin/sh"
 KEPT = ("LANG", "LC_ALL", "TZ")
 
@@ -31,7 +31,7 @@ KEPT = ("LANG", "LC_ALL", "TZ")
 def main(folder: str, serial: str, jobs: str, number: str) -> None:
     """Runs the job of a serial to its end."""
     for one in (signal.SIGTERM, signal.SIGINT, signal.SIGHUP):
-        signal.signal(one, lambda *_: None)  # the job gets its own signals; how it ended is told all the same
+        signal.signal(one, lambda *_: None)  # the job gets its own signals; the record still gets its end
     os.chdir("/")  # it began in the folder of the package
     log = int(number)
     os.set_inheritable(log, False)
@@ -46,7 +46,7 @@ def main(folder: str, serial: str, jobs: str, number: str) -> None:
 
 
 def outcome(one: Record, jobs: str, log: str) -> tuple[int | None, str | None]:
-    """The status with which a job ends, and what else there is to say."""
+    """Runs a job to its end; its status (None if it can't be run), and what else is known of the end."""
     words = one.command or (os.path.join(jobs, one.app), one.app, one.ia, str(one.serial))
     try:
         user = switched(one.user)
@@ -62,11 +62,11 @@ def outcome(one: Record, jobs: str, log: str) -> tuple[int | None, str | None]:
     try:
         return job.wait(one.limit), None
     except subprocess.TimeoutExpired:
-        return stopped(job), f"it ran longer than {one.limit:g} seconds, and was ended"
+        return stopped(job), f"it ran longer than {one.limit:g} seconds, so the agent ended it"
 
 
 class Switch(NamedTuple):
-    """The user and groups that a job gets, None where it keeps those of the agent."""
+    """The user and groups to which a job switches, None if it keeps those of the agent."""
 
     uid: int | None = None
     gid: int | None = None
@@ -74,7 +74,7 @@ class Switch(NamedTuple):
 
 
 def switched(name: str | None) -> Switch:
-    """What makes a job that of a user. Raises KeyError."""
+    """The Switch for a job of a user. Raises KeyError if there is no such user."""
     if name is None:
         return Switch()
     found = pwd.getpwnam(name)
@@ -84,13 +84,13 @@ def switched(name: str | None) -> Switch:
 
 
 def environment() -> dict[str, str]:
-    """The environment of this process without the token and its place: a job can read that of its runner."""
+    """The environment of this process without the token and its file, because a job can read its runner's."""
     return {name: value for name, value in os.environ.items() if name not in PRIVATE}
 
 
 def environment_of(one: Record) -> dict[str, str]:
-    """The environment of a job: that of the agent, or where the jobs are described a small one and what is named there;
-    and what says which occurrence it is. Raises KeyError."""
+    """The environment of a job: the agent's, or for a job in jobs.toml a small one and what the file names; and in both
+    the variables that name the occurrence. Raises KeyError if there is no user of the record's name."""
     own = {"OPCPLAN_APP": one.app, "OPCPLAN_IA": one.ia, "OPCPLAN_SERIAL": str(one.serial),
            "OPCPLAN_TRY": str(one.attempt)}
     if one.environment is None:
@@ -109,7 +109,7 @@ class User(NamedTuple):
 
 
 def user_of(name: str | None) -> User:
-    """The user of a name, or the one of this process. Raises KeyError where there is none of that name."""
+    """The user of a name, or the one of this process. Raises KeyError if there is no user of that name."""
     try:
         found = pwd.getpwnam(name) if name else pwd.getpwuid(os.geteuid())
     except KeyError:
@@ -120,7 +120,7 @@ def user_of(name: str | None) -> User:
 
 
 def stopped(job: subprocess.Popen[bytes]) -> int:
-    """Ends a job and all of its group; its status."""
+    """Ends a job and all of its process group; its status."""
     os.killpg(job.pid, signal.SIGTERM)
     try:
         job.wait(GRACE)
@@ -134,7 +134,7 @@ def stopped(job: subprocess.Popen[bytes]) -> int:
 
 
 def keep(folder: str, one: Record) -> None:
-    """Writes the record, as soon as the disk takes it."""
+    """Writes the record, and tries again until the disk takes it."""
     while True:
         try:
             return record.write(folder, one)
@@ -143,7 +143,7 @@ def keep(folder: str, one: Record) -> None:
 
 
 def say(log: int, text: str) -> None:
-    """A line in the log, where the disk takes it."""
+    """Writes a line into the log; errors are ignored."""
     try:
         os.write(log, f"== agent: {text}\n".encode())
     except OSError:
@@ -151,7 +151,7 @@ def say(log: int, text: str) -> None:
 
 
 def clock() -> str:
-    """This moment by the local clock."""
+    """This moment by the local clock, with its zone, by ISO 8601."""
     return datetime.datetime.now().astimezone().isoformat(" ", "seconds")
 
 

@@ -1,4 +1,4 @@
-"""An agent from its beginning to its end."""
+"""./plan agent as a process: its start, its loop, its shutdown."""
 
 import dataclasses
 import os
@@ -14,27 +14,29 @@ from opcplan.desk import client
 from opcplan.errors import Error, UsageError
 
 LOCK = ".agent"
-# a token that an agent gives itself
+# the prefix of the file of a token that an agent passes to itself
 PIPE = "/dev/fd/"
-# how long it rests at most while nothing can be asked, in seconds
+# the longest rest in seconds while no desk answers
 LONGEST_REST = 30
 
 
 class AgentNotStarted(Error):
-    """Why an agent doesn't begin."""
+    """Why an agent doesn't start."""
 
 
 def run(name: str | None, given: Settings) -> int:
-    """Works for the desk of a name, or else the usual one; the exit status. Raises UsageError and AgentNotStarted."""
+    """Works for the desk of this address, or the one in OPCPLAN_DESK; the exit status. Raises UsageError and
+    AgentNotStarted."""
     name = name or client.usual()
     if name is None:
-        raise UsageError("agent: --desk is wanted; ./plan agent --help says more")
+        raise UsageError("agent: no desk is named; add --desk DESK or set OPCPLAN_DESK (./plan agent --help says more)")
     try:
         desk = client.Client(name, private_token())
     except client.InvalidAddress as why:
         raise UsageError(f"agent: {why}") from None
     except OSError as error:
-        raise AgentNotStarted(f"agent: {error.filename}: the token can't be read: {error.strerror}") from None
+        raise AgentNotStarted(f"agent: {error.filename}: the token can't be read: {error.strerror}; name another "
+                              "file in OPCPLAN_TOKEN_FILE") from None
     try:
         given = with_folders(dataclasses.replace(given, name=given.name or own_name()))
         number = locked(given.logs)
@@ -51,8 +53,8 @@ def run(name: str | None, given: Settings) -> int:
 
 
 def private_token() -> str | None:
-    """The token for the desk. Where the environment has it, this process is run anew without: jobs can read with which
-    environment an agent of their user was begun. Raises OSError."""
+    """The token for the desk. If it is in the environment, this process runs itself anew without it, because a job can
+    read the environment with which an agent of the same user started. Raises OSError."""
     found = client.token()
     if "OPCPLAN_TOKEN" in os.environ:
         reader, writer = os.pipe()
@@ -68,38 +70,39 @@ def private_token() -> str | None:
 
 
 def own_name() -> str:
-    """The name of an agent that was given none: that of its machine. Raises AgentNotStarted."""
+    """The name of this machine, for an agent without --name. Raises AgentNotStarted."""
     found = socket.gethostname()
     if not executor.NAME.fullmatch(found):
-        raise AgentNotStarted(f"this machine's name, {found!r}, can't be an agent's; --name gives it another one")
+        raise AgentNotStarted(f"this machine's name, {found!r}, can't be the name of an agent; choose one with --name")
     return found
 
 
 def with_folders(given: Settings) -> Settings:
-    """The same with whole paths; the folder of logs is made where there is none. Raises AgentNotStarted and OSError."""
+    """The settings with absolute paths; makes the folder of logs if it doesn't exist. Raises AgentNotStarted and
+    OSError."""
     jobs = os.path.realpath(given.jobs)
     if not os.path.isdir(jobs):
-        raise AgentNotStarted(f"{jobs}: there is no such folder")
+        raise AgentNotStarted(f"{jobs}: there is no such folder; make it, or name another one with --jobs")
     if os.stat(jobs).st_mode & stat.S_IWOTH:
-        raise AgentNotStarted(f"{jobs}: everybody may write into it, so no job of it is run")
+        raise AgentNotStarted(f"{jobs}: everybody may write into this folder, so the agent runs no job from it; remove "
+                              "that right with `chmod o-w`")
     logs = os.path.realpath(given.logs or os.path.join(jobs, "log"))
     os.makedirs(logs, mode=0o750, exist_ok=True)
     return dataclasses.replace(given, jobs=jobs, logs=logs)
 
 
 def locked(folder: str) -> int:
-    """The number of the open file whose lock says that an agent has a folder of logs. Raises AgentNotStarted and
-    OSError."""
+    """The open file whose lock says that an agent uses a folder of logs. Raises AgentNotStarted and OSError."""
     number = os.open(os.path.join(folder, LOCK), os.O_WRONLY | os.O_CREAT | os.O_CLOEXEC | os.O_NOFOLLOW, 0o600)
     if not record.is_taken(number):
         os.close(number)
-        raise AgentNotStarted(f"{folder}: another agent has it")
+        raise AgentNotStarted(f"{folder}: another agent uses this folder of logs; name another one with --logs")
     return number
 
 
 def watch(given: Settings, agent: executor.Agent) -> int:
-    """Looks until it is to end; the exit status. Raises AgentNotStarted where the desk refuses it from the
-    beginning."""
+    """Looks again and again until a signal; the exit status. Raises AgentNotStarted if the desk refuses the first
+    request."""
     stop = threading.Event()
     for one in (signal.SIGTERM, signal.SIGINT):
         signal.signal(one, lambda *_: stop.set())
@@ -116,9 +119,10 @@ def watch(given: Settings, agent: executor.Agent) -> int:
                 raise AgentNotStarted(f"agent: {name}: {why}") from None
             if str(why) != trouble:
                 trouble = str(why)
-                executor.print_message(f"{trouble}; it is tried again")
+                executor.print_message(f"{trouble}; the agent tries again")
             rest = min(max(2 * rest, given.every), LONGEST_REST)
         stop.wait(rest)
     if agent.state.running:
-        executor.print_message(f"ends; {agent.state.running} of its jobs go on, and the next agent tells how they end")
+        executor.print_message(f"shuts down; {agent.state.running} of its jobs go on, and the next agent reports how "
+                               "they end")
     return 0

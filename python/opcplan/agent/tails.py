@@ -1,5 +1,5 @@
-"""The ends of logs, as an agent gives them to its desk: operators read them there. Nothing of the plan waits for them,
-and where the desk doesn't take one, the log is still here."""
+"""Sends the ends of jobs' logs to the desk, where operators read them. The plan never waits for that. If the desk
+doesn't accept one, the agent still has the whole log."""
 
 import os
 import time
@@ -10,12 +10,12 @@ from opcplan.agent import record
 from opcplan.agent.record import Record
 from opcplan.desk import client
 
-# between two tails of a job that runs, and after one that wasn't taken, in seconds
+# seconds between two tails of a job that runs, and after one that the desk didn't accept
 EVERY, PAUSE = 5.0, 60.0
 
 
 class Sent(NamedTuple):
-    """What was given of a run: of which try, up to which byte of its log, and when by the steady clock."""
+    """What was last sent of a run: the key of its try, the size of the log then in bytes, and the monotonic time."""
 
     key: str
     end: int
@@ -23,15 +23,15 @@ class Sent(NamedTuple):
 
 
 class Tails:
-    """Gives a desk the ends of logs in a folder, so many bytes of each try at most; none where that is 0."""
+    """Sends a desk the ends of the logs in a folder: at most `size` bytes of each try, nothing if `size` is 0."""
 
     def __init__(self, desk: client.Client, folder: str, size: int, say: Callable[[str], None]) -> None:
         self.desk, self.folder, self.size, self.say = desk, folder, size, say
         self.sent: dict[int, Sent] = {}
-        self.rests = 0.0  # until when nothing is given
+        self.rests = 0.0  # nothing is sent before this time
 
     def give(self, one: Record, is_last: bool) -> None:
-        """Gives the end of a try's log, where there is more of it than was given, and that long enough ago."""
+        """Sends the end of a try's log if the log has grown and the last tail is EVERY seconds old, or `is_last`."""
         known, now = self.sent.get(one.serial), time.monotonic()
         if not self.size or one.began is None or now < self.rests:
             return
@@ -43,22 +43,23 @@ class Tails:
                 self.desk.request("PUT", f"/logs/{one.serial}?try={one.attempt}", data, {"Content-Type": "text/plain"})
         except (client.DeskUnreachable, client.RequestRefused, OSError) as why:
             self.rests = now + PAUSE
-            self.say(f"the desk doesn't take the ends of logs: {why}; they stay in {self.folder}")
+            self.say(f"the desk didn't accept the end of a log: {why}; the whole logs stay in {self.folder}, and the "
+                     "agent tries again later")
             return
         self.sent[one.serial] = Sent(one.start_key, end, now)
 
     def give_running(self, runs: Iterable[Record]) -> None:
-        """Gives those of jobs that run."""
+        """Sends the ends of the logs of jobs that run."""
         for one in runs:
             if one.ended is None:
                 self.give(one, False)
 
     def forget(self, serial: int) -> None:
-        """A run is over."""
+        """Drops what is known of a run that is over."""
         self.sent.pop(serial, None)
 
     def tail(self, one: Record) -> tuple[int, bytes]:
-        """Where the log of a try ends, and what is in it before that. Raises OSError."""
+        """The size of a try's log in bytes, and its last bytes, at most `size` of them. Raises OSError."""
         with open(record.log_of(self.folder, one.serial), "rb") as file:
             end = os.fstat(file.fileno()).st_size
             begin = one.offset if one.offset <= end else 0
