@@ -319,11 +319,11 @@ class Step(Room):
 
         def request(method, path, *_):
             if path != "/health":
-                raise client.RequestRefused(401, "a token is wanted")
+                raise client.RequestRefused(401, "the request has no token")
             return {}, b'{"status": "ok"}'
 
         desk.request = request
-        with self.assertRaisesRegex(client.RequestRefused, "a token is wanted"):
+        with self.assertRaisesRegex(client.RequestRefused, "the request has no token"):
             self.agent(desk).step()
         for answer in (b"", b"[]", b"<html>", b'{"position": "9"}', b'{"position": null}', b"\xff"):
             desk.request = lambda *_, answer=answer: ({}, answer)

@@ -230,7 +230,8 @@ class Ends(desks.Case):
         for name in (self.plan, self.room / "link.db"):
             ran = plans.plan("desk", name, "--program", plans.PROGRAM, "--listen", "127.0.0.1:0", "--journal",
                              self.room / "other")
-            self.assertEqual((ran.returncode, ran.stderr), (1, f"plan: {name}: another desk has it\n"))
+            self.assertEqual((ran.returncode, ran.stderr),
+                             (1, f"plan: {name}: another desk uses this file; end that desk first\n"))
         other = plans.copy_of(plans.of_stream(desks.CENTRE), self.room, "other.db")
         for words in (("--socket", desk.socket), ("--listen", f"127.0.0.1:{desk.port}"), ("--socket", self.room),
                       ("--journal", other), ("--tokens", other), ("--users", self.room / "none")):

@@ -91,7 +91,7 @@ class Journals(desks.Case):
         journal = f"{self.plan}.journal"
         desk = self.desk()
         desk.posted(START)
-        self.assertIn("another desk has it", self.refused(other, "--journal", journal))
+        self.assertIn("another desk uses this file", self.refused(other, "--journal", journal))
         self.end(desk)
         strange = desks.Desk(other)
         self.desks.append(strange)
@@ -152,7 +152,7 @@ class Still(desks.Case):
         os.kill(desk.open(), signal.SIGSTOP)
         with closing(desks.raw(desk.port, self.post(desk, START))):
             found = desk.comes(lambda found: found["why"])
-            self.assertIn("opcplan has said nothing for", found["why"])
+            self.assertIn("opcplan has printed nothing for", found["why"])
             self.assertEqual(found["status"], "stopped")
         desk.comes(lambda found: found["status"] == "ok")
         self.end(desk)

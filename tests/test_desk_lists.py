@@ -178,8 +178,8 @@ class Turned(unittest.TestCase):
     def test_lines_of_another_form_are_refused_in_a_sentence(self):
         line = b"000000007 APP1             A RC       2024-01-01 08.00 2024-01-01 20.00\n"
         for text in (line + b"000000008 APP1\n", line * 20_000 + b"x\n"):
-            with self.assertRaisesRegex(errors.StatementRejected, "^the list can't be made: opcplan shows the list "
-                                        "`ltp`") as one:
+            with self.assertRaisesRegex(errors.StatementRejected, "^the desk can't make the list: opcplan prints the "
+                                        "list `ltp`") as one:
                 self.turn(text, rows.Selection("ltp"))
             self.assertEqual((one.exception.status, str(one.exception).count("\n")), (503, 0))
 

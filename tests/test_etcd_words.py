@@ -108,10 +108,10 @@ class Nobody(desks.Case):
         new = self.room / "new.db"
         for source in (f"http://127.0.0.1:{free_port()}", str(self.room / "none.socket"), "ftp://h"):
             message = self.refused("desk", new, "--log", ETCD, "--from", source, "--program", plans.PROGRAM)
-            self.assertIn("there is no plan to begin with", message)
+            self.assertIn("the plan of this desk can't be fetched", message)
         alone = self.desk()
         message = self.refused("desk", new, "--log", ETCD, "--from", alone.socket, "--program", plans.PROGRAM)
-        self.assertIn("no desk over a log that others share", message)
+        self.assertIn("this desk shares no log", message)
         self.end(alone)
         self.assertEqual([name for name in os.listdir(self.room) if name.startswith("new")], [])
 
@@ -121,7 +121,7 @@ class Nobody(desks.Case):
             Path(f"{new}{tail}").write_bytes(b"x" * 100)
             message = self.refused("desk", new, "--log", ETCD, "--from", "http://127.0.0.1:9", "--program",
                                    plans.PROGRAM)
-            self.assertIn(f"{new}{tail} is left of another plan", message)
+            self.assertIn(f"{new}{tail}: this file is left from another plan", message)
             self.assertFalse(new.exists())
 
     def test_no_plan_and_no_desk_named(self):

@@ -40,7 +40,7 @@ class Digests(Case):
         self.caught_up(third, 1)
         serving[0].posted("\n".join([COMPLETE, *ADDS[:3]]))
         found = third.comes(lambda found: found.get("status") == "stopped")
-        self.assertIn("entry 3 was answered otherwise here", found["why"])
+        self.assertIn("this desk answered entry 3 differently from desk", found["why"])
         self.assertIn("--from", found["why"])
         for path in ("/rows?list=cp", "/snapshot", "/page/data"):
             self.assertEqual(third.asked("GET", path)[0], 503, path)

@@ -39,7 +39,7 @@ class Late(Case):
         self.assertEqual(machines.entries(self.etcd, self.name)[0].seq, 1)
         wrong = plans.plan("log", self.log, "--trim", "--forget", "nobody")
         self.assertEqual((wrong.returncode, wrong.stdout), (1, ""))
-        self.assertIn("no desk nobody said", wrong.stderr)
+        self.assertIn("nobody: no desk of this name has published its position", wrong.stderr)
         self.trim("--keep", "10", "--forget", gone)
         self.trim_behind(20, "--keep", "10")
         self.assertIn("--from", self.refused("b"))

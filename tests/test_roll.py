@@ -240,7 +240,7 @@ class ByDesk(desks.Case):
         ran = plans.plan("roll", "--desk", f"http://127.0.0.1:{desk.port}", *WORDS, "--program", plans.PROGRAM,
                          env={**os.environ, "OPCPLAN_TOKEN": "nobody's"})
         self.assertEqual((ran.returncode, ran.stdout, ran.stderr.count("\n")), (1, "", 1), ran.stderr)
-        self.assertIn("a token is wanted", ran.stderr)
+        self.assertIn("the request has no token that this desk knows", ran.stderr)
 
 
 if __name__ == "__main__":

@@ -309,7 +309,7 @@ class ToADesk(desks.Case):
         desk = self.desk("--tokens", tokens)
         where = ["--desk", f"http://127.0.0.1:{desk.port}"]
         for words, text, env, message in (
-            ([*where, "list", "cp"], None, {}, "a token is wanted"),
+            ([*where, "list", "cp"], None, {}, "the request has no token that this desk knows"),
             ([*where, "dp-replan"], None, {"OPCPLAN_TOKEN": "secret"}, "job may not dp-replan"),
             (where, "define applications --job 7\nA,A,\n", {"OPCPLAN_TOKEN": "secret"}, "nothing was done"),
             ([*where, "list", "cp"], None, {"OPCPLAN_TOKEN_FILE": str(self.room / "none")}, "nothing was sent"),

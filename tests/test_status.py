@@ -141,7 +141,7 @@ class OfADesk(desks.Case):
         self.end(desk)
         ran = plans.plan(*words)
         self.assertEqual((ran.returncode, ran.stdout, ran.stderr.count("\n")), (1, "", 1))
-        self.assertIn("there is no desk", ran.stderr)
+        self.assertIn("no desk answers there", ran.stderr)
 
 
 if __name__ == "__main__":

@@ -82,28 +82,29 @@ class Rules(unittest.TestCase):
 
     def test_what_is_wrong_is_reported(self):
         for text, reason in (
-            ("x", "no TOML"), ("", "[who.NAME]"), (WHO, "[[rule]]"), ('rules = 1\n' + GOOD, "did you mean rule?"),
-            (GOOD.replace('"me"\n', '"you"\n'), "there is no [who.you]"),
+            ("x", "isn't valid TOML"), ("", "[who.NAME]"), (WHO, "[[rule]]"),
+            ('rules = 1\n' + GOOD, "did you mean rule?"),
+            (GOOD.replace('"me"\n', '"you"\n'), "there is no table [who.you]"),
             (GOOD.replace('"error"', '"errors"'), "did you mean error?"),
-            (GOOD.replace('on = "error"', 'on = "late"'), "lacks `minutes`"),
-            (GOOD.replace('call = "me"\n', ""), "lacks `call`"),
-            (GOOD + "minutes = 3\n", "has no word `minutes`"), (GOOD + 'apps = []\n', "`apps` has to be"),
-            (GOOD + 'name = ""\n', "`name` has to be a text"), (GOOD + 'name = "a b"\n', "its name is 'a b'"),
-            (GOOD + '[[rule]]\non = "error"\ncall = "me"\n', "that no other rule has"),
-            (GOOD.replace('["true"]', '[]'), "`command` has to be"),
+            (GOOD.replace('on = "error"', 'on = "late"'), "lacks the line `minutes`"),
+            (GOOD.replace('call = "me"\n', ""), "lacks the line `call`"),
+            (GOOD + "minutes = 3\n", "can't have the word `minutes`"), (GOOD + 'apps = []\n', "`apps` must be"),
+            (GOOD + 'name = ""\n', "`name` must be a text"), (GOOD + 'name = "a b"\n', "`name` is 'a b'; it must"),
+            (GOOD + '[[rule]]\non = "error"\ncall = "me"\n', "another rule has the name 'error'"),
+            (GOOD.replace('["true"]', '[]'), "`command` must be"),
             (GOOD.replace('["true"]', '["a\\u0000"]'), "`command`"),
             (GOOD.replace("command", "comand"), "did you mean command?"),
             (GOOD.replace('command = ["true"]', ""), "one of command"),
-            (GOOD.replace('command = ["true"]', 'mail = "a b"'), "no address of a mail"),
-            (GOOD.replace('command = ["true"]', 'mail = "-oQ/tmp"'), "no address of a mail"),
-            *((GOOD.replace('command = ["true"]', f'webhook = "{url}"'), "no address of a webhook")
+            (GOOD.replace('command = ["true"]', 'mail = "a b"'), "is not a mail address"),
+            (GOOD.replace('command = ["true"]', 'mail = "-oQ/tmp"'), "is not a mail address"),
+            *((GOOD.replace('command = ["true"]', f'webhook = "{url}"'), "is not the address of a webhook")
               for url in ("chat", "ftp://a/b", "http:///x", "http://a:b@c/", "http://a:99999/", "http://a/ b",
                           "http://a/#x")),
-            (GOOD.replace('command = ["true"]', 'mail = "a@b"\nsecret = "/x"'), "a secret goes with a webhook"),
-            (GOOD.replace("who.me", 'who."a b"'), "a name has"),
+            (GOOD.replace('command = ["true"]', 'mail = "a@b"\nsecret = "/x"'), "only a webhook has a secret"),
+            (GOOD.replace("who.me", 'who."a b"'), "the name must have"),
             *((f'{WHO}[[rule]]\non = "late"\ncall = "me"\nminutes = {value}\n', "a number from 0")
               for value in ('"1"', "true", "-1", "inf", "nan", "1000001")),
-            (f'{WHO}rule = 3\n', "[[rule]]"), (f'rule = [1]\n{WHO}', "has to be one of"),
+            (f'{WHO}rule = 3\n', "[[rule]]"), (f'rule = [1]\n{WHO}', "must be one of"),
         ):
             with self.subTest(text), self.assertRaises(rulebook.InvalidRules) as why:
                 rulebook.of_text(text)
@@ -250,10 +251,10 @@ class Calls(unittest.TestCase):
         target = Target("me", webhook=hook.url, secret=str(secret))
         self.assertIn("the secret can't be read: No such file", self.undelivered(target))
         secret.write_text("\n")
-        self.assertIn("there is no secret in it", self.undelivered(target))
+        self.assertIn("the file has no secret", self.undelivered(target))
         secret.write_text("key\n")
-        self.assertIn("it answers with status 503", self.undelivered(target))
-        self.assertIn("there is no whole answer", self.undelivered(target))
+        self.assertIn("it answered with status 503", self.undelivered(target))
+        self.assertIn("no complete answer came", self.undelivered(target))
         self.deliver(target)
         self.assertEqual([body for _, body in [*hook.refused, *hook.taken]], [calls.payload(call_of(), "the desk")] * 3)
         # the HMAC of RFC 2104 over the body, by openssl
@@ -265,7 +266,7 @@ class Calls(unittest.TestCase):
         self.assertIsNone(hook.taken[2][0]["X-Opcplan-Signature"])
         hook.server.shutdown()
         hook.server.server_close()
-        self.assertIn("there is no whole answer: ", self.undelivered(target))
+        self.assertIn("no complete answer came: ", self.undelivered(target))
 
     def test_a_webhook_that_leads_elsewhere(self):
         class Elsewhere(http.server.BaseHTTPRequestHandler):
@@ -349,7 +350,7 @@ class Watches(desks.Case):
         for _ in range(2):
             ran = plans.plan(*self.words(desk.socket, "--once"))
             self.assertEqual(ran.returncode, 1)
-            self.assertIn("watch: me: sh: it ended with status 1; it is tried again", ran.stderr)
+            self.assertIn("watch: me: sh: it ended with status 1; the watch tries again", ran.stderr)
         self.write()
         self.assertEqual(plans.plan(*self.words(desk.socket, "--once")).returncode, 0)
         self.assertEqual(self.calls(), [("new", "late:2")] * 3)
@@ -436,7 +437,7 @@ class Watches(desks.Case):
         self.comes(lambda: self.calls() == [("new", "late:2")])
         second = plans.plan(*self.words(desk.socket, "--once"))
         self.assertEqual((second.returncode, second.stdout), (1, ""))
-        self.assertIn("another watch has it", second.stderr)
+        self.assertIn("another watch uses this state", second.stderr)
         self.end(desk)
         self.comes(lambda: self.calls()[1:] == [("new", f"desk:{desk.socket}")])
         watch.send_signal(signal.SIGKILL)
@@ -469,11 +470,12 @@ class Watches(desks.Case):
     def test_what_is_wrong_is_reported(self):
         for words, status, reason in (
             (["--rules", self.rules], 2, "give --desk DESK"),
-            (["--desk", "x y", "--rules", self.rules, "--once"], 2, "is no desk"),
+            (["--desk", "x y", "--rules", self.rules, "--once"], 2, "doesn't name a desk"),
             (["--desk", "/x", "--rules", self.room / "nothing"], 1, "it can't be read: No such file"),
-            (["--desk", "/x", "--rules", self.plan], 2, "no text in UTF-8"),
+            (["--desk", "/x", "--rules", self.plan], 2, "isn't text in UTF-8"),
             (["--desk", "/x", "--rules", self.rules, "--every", "0"], 2, "is not a number of seconds"),
-            (["--desk", "/x", "--rules", self.rules, "--state", self.room / "no" / "x"], 1, "it can't be kept there"),
+            (["--desk", "/x", "--rules", self.rules, "--state", self.room / "no" / "x"], 1,
+             "the state can't be stored there"),
             (["--desk", "/x"], 2, "--rules"),
             (["--desk", "/x", "--rules", self.rules, "--try", "--once"], 2, "not allowed"),
         ):
@@ -485,7 +487,7 @@ class Watches(desks.Case):
             self.state.write_text(text)
             ran = plans.plan(*self.words("/x", "--once"))
             self.assertEqual((ran.returncode, ran.stderr.count("\n")), (1, 1), ran.stderr)
-            self.assertIn("take it away", ran.stderr)
+            self.assertIn("move the file away", ran.stderr)
             self.assertEqual(self.state.read_text(), text)
         self.rules.write_text('on = "error"\n')
         ran = plans.plan(*self.words("/x", "--once"))

@@ -1,7 +1,7 @@
-"""What scripts use: `opcplan.Plan`, the file of a plan that is read, and `opcplan.Desk`, a desk that is asked.
+"""The library for scripts: `opcplan.Plan` reads the file of a plan, and `opcplan.Desk` sends requests to a desk.
 
-docs/use/PYTHON.md explains both. Moments are `datetime.datetime` values without a zone, as a plan has no zone; where a
-moment is given, a text such as `2026-11-25/06.00` will do too."""
+docs/use/PYTHON.md explains both. Moments are `datetime.datetime` values without a zone, because a plan has no zone. An
+argument that is a moment may also be a text such as `2026-11-25/06.00`."""
 
 import contextlib
 import dataclasses
@@ -27,14 +27,14 @@ Moment = datetime.datetime | str
 OF_PLACE = {**dict.fromkeys("WSECD", "cp"), "L": "ltp", "H": "history", **dict.fromkeys("owp", "deletions")}
 TABLES = {"ltp": "ltp_row", "cp": "cp_row", "history": "history_row", "deletions": "deletion_row"}
 LISTS = tuple(TABLES)
-# names the state of a desk that lacks entries which a reader doesn't have (desk/events.py)
+# the tag of a desk that lacks entries which a reader doesn't have (desk/events.py)
 ANEW = "anew-0"
 
 
 @dataclasses.dataclass(frozen=True)
 class Row:
-    """An occurrence: its serial, application, input arrival and deadline, and the run cycle that named it (None where
-    it was added by hand); the list that has it, `ltp`, `cp`, `history` or `deletions`; its status (W S E C D) in the
+    """An occurrence: its serial, application, input arrival and deadline, and the run cycle that named it (None if it
+    was added by hand); the list that has it, `ltp`, `cp`, `history` or `deletions`; its status (W S E C D) in the
     current plan and history, and the reason (O W P) in the deletions."""
 
     serial: int
@@ -54,7 +54,7 @@ class Row:
 
 @dataclasses.dataclass(frozen=True)
 class Why:
-    """Why an occurrence is where it is: the row (None where no list has it), a state (`planned`, `its time is to come`,
+    """Why an occurrence is where it is: the row (None if no list has it), a state (`planned`, `its time is to come`,
     `blocked`, `ready`, `started`, `in error`, `complete`, `deleted`, `withdrawn` or `nowhere`), its predecessors that
     aren't complete, and of these and theirs those that wait for nothing."""
 
@@ -66,8 +66,8 @@ class Why:
 
 @dataclasses.dataclass(frozen=True)
 class Answer:
-    """A statement and what it was answered: its number in the journal and its job (None where it changes nothing), the
-    lines of its rows, its reply, when it was taken, and the key under which it was sent."""
+    """A statement and its answer: its number in the journal and its job number (None if it changes nothing), the lines
+    of its rows, its reply, when the desk took it, and the key under which it was sent."""
 
     statement: str
     reply: str
@@ -84,8 +84,8 @@ class Answer:
 
 
 class Plan:
-    """The file of a plan, as it was when this was made: a private copy is read, so nothing holds the file. Raises
-    Plan.Unreadable. To be closed by `with` or `close`."""
+    """The file of a plan, as it was when this was made: it reads a private copy, so it doesn't keep the file open.
+    Close it by `with` or `close`. Raises Plan.Unreadable."""
 
     Unreadable = Unreadable
 
@@ -101,25 +101,25 @@ class Plan:
         self.close()
 
     def close(self) -> None:
-        """Takes the private copy away."""
+        """Deletes the private copy."""
         self._end()
 
     def rows(self, name: str = "cp", *, app: str | None = None, first: Moment | None = None,
              last: Moment | None = None, status: str | None = None) -> list[Row]:
-        """The rows of a list by input arrival, application and serial: of an application, that arrive from a moment to
-        another one, that have one of some statuses (`"WE"`)."""
+        """The rows of a list, by input arrival, application and serial: perhaps only those of an application, that
+        arrive from `first` to `last`, or that have one of some statuses (`"WE"`). Raises ValueError."""
         check_list(name)
         begin, end = (None if one is None else minutes_of(one) for one in (first, last))
         found = map(row_of, waits.rows_of_set(self._plan, TABLES[name], app, begin, end))
         return [row for row in found if status is None or (row.status or "-") in status]
 
     def ready(self, now: Moment | None = None, *, app: str | None = None) -> list[Row]:
-        """What may be started at a moment (else by the clock), the earliest deadline first."""
+        """What may be started at a moment, else now, the earliest deadline first. Raises ValueError."""
         at = moments.now() if now is None else minutes_of(now)
         return [row_of(one) for one in ready.of_plan(self._plan, at, app)]
 
     def why(self, app: str, ia: Moment, now: Moment | None = None) -> Why:
-        """Why the occurrence of a key is where it is at a moment (else by the clock)."""
+        """Why the occurrence of a key is where it is, at a moment, else now. Raises ValueError."""
         at = moments.now() if now is None else minutes_of(now)
         found = waits.rows_of_key(self._plan, app, minutes_of(ia))
         if not found:
@@ -132,16 +132,16 @@ class Plan:
                    tuple(map(row_of, waits.roots(chain, found[0]))))
 
     def definitions(self) -> Definitions:
-        """The definitions by name, as opcplan.rules.definitions has them: days are numbers since 1970-01-01."""
+        """The definitions, as opcplan.rules.definitions has them: days are numbers since 1970-01-01."""
         return plan_definitions.of_plan(self._plan)
 
 
 class Desk:
-    """A desk, by its address (`http://HOST:PORT`), the path of its socket, or several with commas between them; and a
-    token, else that of the environment (OPCPLAN_TOKEN_FILE, OPCPLAN_TOKEN). Raises Desk.Wrong.
+    """A desk, by its address (`http://HOST:PORT`) or the path of its socket, or several of these with commas between
+    them; and a token, else that of the environment (OPCPLAN_TOKEN_FILE, OPCPLAN_TOKEN). Raises Desk.Wrong.
 
-    Each method raises Desk.Refused where the desk doesn't do what it is asked (`status` has HTTP's), and Desk.Away
-    where there is no whole answer (`may_be_done` tells whether it may be done all the same)."""
+    Each method raises Desk.Refused if the desk refuses the request (`status` is HTTP's), and Desk.Away if no complete
+    answer came (`may_be_done` says whether the request may be done all the same)."""
 
     Away, Refused, Wrong = client.DeskUnreachable, client.RequestRefused, client.InvalidAddress
 
@@ -149,9 +149,8 @@ class Desk:
         self._client = client.Client(url, client.token() if token is None else token)
 
     def statements(self, stream: str, key: str | None = None, *, wait: float = 60) -> list[Answer]:
-        """Sends a job stream, and answers what each of its statements was answered. It is done once under its key
-        (else under one of its own), however often it is sent; while the desk is away it is sent again for so many
-        seconds."""
+        """Sends a job stream; the answers to its statements. The stream is done once under its key (else under a new
+        one), however often it is sent. While the desk is away, it is sent again for `wait` seconds."""
         data = stream if stream.endswith("\n") else f"{stream}\n"
         heads = {"Accept": "application/x-ndjson"}
         used = key or secrets.token_hex(16)
@@ -160,8 +159,8 @@ class Desk:
 
     def rows(self, name: str = "cp", *, app: str | None = None, first: datetime.date | str | None = None,
              last: datetime.date | str | None = None, status: str | None = None, fresh: bool = False) -> list[Row]:
-        """The rows of a list, as of Plan, but by the days of their arrival. `fresh` asks of a desk that shares its log
-        that it has all that any desk answered till now."""
+        """The rows of a list, as those of Plan, but `first` and `last` are days. With `fresh`, a desk that shares its
+        log answers with all that any desk of the log has answered till now. Raises ValueError."""
         check_list(name)
         asked = {"list": name, "app": app, "from": day_text(first), "to": day_text(last), "status": status,
                  "fresh": "1" if fresh else None}
@@ -170,13 +169,13 @@ class Desk:
         return [row_of_object(json.loads(line), name) for line in found.decode().splitlines()]
 
     def log(self, serial: int) -> str:
-        """The ends of the logs of an occurrence's job, one try behind the other, as agents gave them to the desk; empty
-        where none did. Asks for the role `operate`."""
+        """The ends of the logs of an occurrence's job, one try after the other, as agents sent them to the desk; empty
+        if none did. It needs the role `operate`."""
         return self._client.request("GET", f"/logs/{int(serial)}")[1].decode()
 
     def events(self, since: int | None = None) -> Iterator[Answer]:
-        """Each change once it is answered, without an end: those behind an entry of the journal, else those that come.
-        Raises Desk.Refused with status 410 where the desk doesn't have all of these any more."""
+        """Each change once it is answered, without an end: all after an entry of the journal, else those that come from
+        now on. Raises Desk.Refused with status 410 if the desk doesn't have all of these any more."""
         heads = {} if since is None else {"Last-Event-ID": str(since)}
         with self._client.answer("GET", "/events", None, heads) as answer:
             for event, fields in events_of(answer):
@@ -188,13 +187,13 @@ class Desk:
 
 
 def check_list(name: str) -> None:
-    """Asks that a list has rows. Raises ValueError."""
+    """Checks that a name is that of a list of rows. Raises ValueError."""
     if name not in LISTS:
         raise ValueError(f"there is no list {name!r} of rows; the lists are {', '.join(LISTS)}")
 
 
 def minutes_of(moment: Moment) -> int:
-    """A moment in minutes, as a plan has it. Raises ValueError."""
+    """A moment in minutes since 1970, as a plan has it. Raises ValueError."""
     if isinstance(moment, str):
         found = moments.typed_moment(moment)
         if found is None:
@@ -206,17 +205,17 @@ def minutes_of(moment: Moment) -> int:
 
 
 def day_text(day: datetime.date | str | None) -> str | None:
-    """A day as a desk takes it."""
+    """A day as text, as a desk accepts it."""
     return f"{day:%Y-%m-%d}" if isinstance(day, datetime.date) else day
 
 
 def moment_of(minutes: int) -> datetime.datetime:
-    """A moment of a plan."""
+    """A moment of a plan, from its minutes since 1970."""
     return moments.EPOCH + datetime.timedelta(minutes=minutes)
 
 
 def row_of(row: waits.Row) -> Row:
-    """The row of a plan."""
+    """The Row of a plan's row."""
     name, is_gone = OF_PLACE[row.place], row.place in "owp"
     status = None if is_gone or name == "ltp" else "C" if name == "history" else row.place
     return Row(row.serial, row.app, moment_of(row.ia), moment_of(row.deadline), row.cycle, name, status,
@@ -224,14 +223,14 @@ def row_of(row: waits.Row) -> Row:
 
 
 def row_of_object(fields: Mapping[str, Any], name: str) -> Row:
-    """The row that a desk tells."""
+    """The Row of an object in a desk's list."""
     ia, deadline = (moment_of(minutes_of(fields[word])) for word in ("ia", "deadline"))
     return Row(fields["serial"], fields["app"], ia, deadline, fields["run_cycle"], name, fields.get("status"),
                fields.get("reason"))
 
 
 def answer_of(fields: Mapping[str, Any]) -> Answer:
-    """The answer that a desk tells."""
+    """The Answer of an object in a desk's answer."""
     return Answer(fields["statement"], fields["reply"], fields["seq"], fields["job"], tuple(fields["rows"]),
                   fields.get("at"),
                   fields.get("key"))

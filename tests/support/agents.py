@@ -71,7 +71,7 @@ class PlainDesk:
         if fault == "before":
             raise client.DeskUnreachable("it is away", False)
         if key not in self.keys and condition not in (None, f'"{self.life}-{len(self.log)}"'):
-            raise client.RequestRefused(412, "the plan has changed since it was looked at; nothing was done")
+            raise client.RequestRefused(412, "the plan is no longer in the state that If-Match names; nothing was done")
         if key not in self.keys:
             self.keys[key] = self.put(text.strip(), key)
         if fault == "after":

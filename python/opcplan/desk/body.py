@@ -1,4 +1,4 @@
-"""A caller's stream that is under way, and the bytes of its answers."""
+"""A caller's stream in progress, and the bytes of its answers."""
 
 import asyncio
 import hashlib
@@ -14,43 +14,43 @@ from opcplan.plans import chain, entry
 if TYPE_CHECKING:
     from opcplan.desk.core import Desk
 
-# statements of one stream that stand in the queue at once
+# statements of one stream that are in the queue at once
 WINDOW = 32
 
 
 class SubmittedItem(NamedTuple):
-    """A statement of a stream, and the Submission that becomes of it."""
+    """A statement of a stream, and a future of its Submission."""
 
     asked: StreamItem
     answer: asyncio.Future[Submission]
 
 
 class AnsweredItem(NamedTuple):
-    """A statement of a stream, and its Submission, which is answered."""
+    """A statement of a stream, and its answered Submission."""
 
     asked: StreamItem
     ask: Submission
 
 
 class Body:
-    """The statements of a stream, put into the queue in their order; it goes on where its caller hangs up."""
+    """The statements of a stream. They go into the queue in their order, even after the caller has hung up."""
 
     def __init__(self, desk: "Desk", asked: Sequence[StreamItem], who: str, key: str | None,
                  condition: str | None) -> None:
         self.desk, self.asked, self.who, self.key, self.condition = desk, asked, who, key, condition
         self.at = entry.moment_now()
-        self.last: Submission | None = None  # the change that the next one stands behind, where there is a condition
+        self.last: Submission | None = None  # the change after which the next one comes, if there is a condition
         self.asks: asyncio.Queue[SubmittedItem] = asyncio.Queue()
         self.room = asyncio.Semaphore(WINDOW)
         self.has_changes = any(one.changes for one in asked)
-        self.is_left = False  # nobody reads its answers any more
-        self.is_broken = False  # one of its statements wasn't taken, so none behind it is
+        self.is_left = False  # the caller doesn't read its answers any more
+        self.is_broken = False  # a statement was rejected, so none after it is accepted
         self.digest = None if key is None else requests_digest(asked)
-        self.is_claimed, self.is_put, self.left = False, False, 0  # `left`: statements that aren't answered
+        self.is_claimed, self.is_put, self.left = False, False, 0  # `left`: the number of statements without an answer
 
     async def take(self) -> None:
-        """Puts all statements into the queue, up to the first that isn't taken; as many wait as its caller leaves
-        unread, and one where the caller is gone."""
+        """Puts the statements into the queue, up to the first that is rejected: WINDOW of them at a time that the
+        caller hasn't read, or one at a time once the caller is gone."""
         try:
             for place, one in enumerate(self.asked):
                 if not self.is_left:
@@ -66,10 +66,10 @@ class Body:
             self.release()
 
     def put(self, one: StreamItem, place: int) -> asyncio.Future[Submission]:
-        """A future of a statement's Submission."""
+        """Puts a statement into the queue; a future of its Submission."""
         try:
             if self.is_broken:
-                raise StatementRejected(503, "a statement before this one wasn't taken")
+                raise StatementRejected(503, "an earlier statement of the stream was rejected, so this one wasn't done")
             ask = self.ask(one, place)
             ask.streams.append(self)
             future = ask.wait()
@@ -82,19 +82,19 @@ class Body:
         return future
 
     def settle(self, done: asyncio.Future[Submission]) -> None:
-        """A statement is answered, or its caller sent away."""
+        """Notes that a statement is answered or rejected."""
         _ = done.cancelled() or done.exception()
         self.left -= 1
         self.release()
 
     def release(self) -> None:
-        """Gives the key back once nothing of the stream is under way."""
+        """Releases the key once nothing of the stream is in progress."""
         if self.key is not None and self.is_claimed and self.is_put and not self.left:
             self.is_claimed = False
             self.desk.release(self.who, self.key)
 
     def leave(self) -> None:
-        """Nobody reads on."""
+        """Notes that the caller reads no more answers."""
         self.is_left = True
         self.room.release()
 
@@ -107,24 +107,24 @@ class Body:
         if not one.changes:
             return self.desk.ask_question(one.name, one.text, self.has_changes)
         ask = self.desk.ask_change(one.name, self.wanted(one, place), self.condition and (self.last or self.condition))
-        if ask.is_change:  # one that was done before under its key asks for no state
+        if ask.is_change:  # one that was done before under its key needs no state
             self.last = ask
         return ask
 
     def wanted(self, one: StreamItem, place: int) -> entry.Wanted:
-        """What the log is to have of a change."""
+        """The change as it goes to the log."""
         key = self.key if place == 0 or self.key is None else f"{self.key}#{place}"
         return entry.Wanted(self.who, key, one.words, one.data, one.job, self.at, self.digest)
 
     async def claim(self) -> None:
-        """Takes the key for this stream. Raises StatementRejected where it stands for another one."""
+        """Claims the key for this stream. Raises StatementRejected if it belongs to another one."""
         changes = [self.wanted(one, place) for place, one in enumerate(self.asked) if one.changes and one.reply is None]
         if self.key is not None and changes:
             await self.desk.claim(self.who, self.key, changes)
             self.is_claimed = True
 
     async def next(self) -> AnsweredItem:
-        """The next statement, once it is answered. Raises StatementRejected and PlannerStopped."""
+        """Waits for the next answered statement. Raises StatementRejected and PlannerStopped."""
         one, answer = await self.asks.get()
         ask = await answer
         self.room.release()
@@ -134,7 +134,7 @@ class Body:
 
 
 def requests_digest(found: Sequence[StreamItem]) -> str:
-    """What tells a stream from others under one key."""
+    """A digest of a stream, by which the desk sees another stream under the same key."""
     whole = hashlib.sha256()
     for one in found:
         data = b"" if one.data is None else one.data

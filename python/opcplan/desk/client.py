@@ -1,5 +1,5 @@
-"""A desk as its callers see it: an address or a socket, a token, and streams that are sent again until they are
-answered, under one key, so that nothing is done twice."""
+"""A client of a desk: an address or a socket, a token, and streams that are sent again under one key until they are
+answered, so that nothing is done twice."""
 
 import contextlib
 import email.message
@@ -16,7 +16,7 @@ from typing import IO, NamedTuple
 
 from opcplan.errors import Error, UsageError
 
-# of one answer, in seconds; and where another desk can be asked
+# seconds to wait for an answer; and if there are several desks
 PATIENCE, PATIENCE_OF_MANY = 300, 30
 SHORTEST_REST, LONGEST_REST = 0.05, 2.0
 BETWEEN = re.compile(r",(?=https?://|/)")
@@ -25,11 +25,11 @@ NO_HEADS: Heads = {}
 
 
 class InvalidAddress(UsageError):
-    """What is wrong with the name of a desk."""
+    """Why a text doesn't name a desk."""
 
 
 class DeskUnreachable(Error):
-    """Why there is no whole answer; `may_be_done` tells whether the stream may have been taken all the same."""
+    """Why no complete answer came. `may_be_done` says whether the stream may have been done all the same."""
 
     def __init__(self, text: str, may_be_done: bool) -> None:
         super().__init__(text)
@@ -37,7 +37,7 @@ class DeskUnreachable(Error):
 
 
 class RequestRefused(Error):
-    """Why a desk does nothing of what it was asked, in its words, with HTTP's status."""
+    """Why a desk refused a request, in its words, with HTTP's status. Nothing was done."""
 
     def __init__(self, status: int, text: str) -> None:
         super().__init__(text)
@@ -45,14 +45,14 @@ class RequestRefused(Error):
 
 
 class Place(NamedTuple):
-    """Where a desk is reached: the path of a socket, or by http or https a host and perhaps a port."""
+    """Where a desk is reached: the path of a socket; or for http or https a host, and perhaps a port."""
 
     scheme: str
     name: str
     port: int | None = None
 
     def connection(self, patience: float) -> http.client.HTTPConnection:
-        """A connection that isn't begun yet, whose answers are waited for so many seconds."""
+        """A connection, not opened yet, with a timeout in seconds."""
         if self.scheme == "socket":
             return BySocket(self.name, patience)
         if self.scheme == "https":
@@ -61,21 +61,21 @@ class Place(NamedTuple):
 
 
 class BySocket(http.client.HTTPConnection):
-    """A connection by a Unix socket."""
+    """A connection to a Unix socket."""
 
     def __init__(self, path: str, patience: float) -> None:
         super().__init__("localhost", timeout=patience)
         self.path = path
 
     def connect(self) -> None:
-        """Begins it."""
+        """Opens it. Raises OSError."""
         self.sock = socket.socket(socket.AF_UNIX, socket.SOCK_STREAM)
         self.sock.settimeout(self.timeout)
         self.sock.connect(self.path)
 
 
 def place_of(name: str) -> Place:
-    """Where a desk is reached. Raises InvalidAddress."""
+    """The Place of a desk's name. Raises InvalidAddress."""
     if "/" in name and "://" not in name:
         return Place("socket", name)
     found = urllib.parse.urlsplit(name if "://" in name else f"http://{name}")
@@ -83,31 +83,31 @@ def place_of(name: str) -> Place:
         is_plain = found.path in ("", "/") and not found.query and re.fullmatch("[!-~]+", name)
         if found.scheme in ("http", "https") and found.hostname and is_plain:
             return Place(found.scheme, found.hostname, found.port)
-    raise InvalidAddress(f"{name!r} is no desk: a desk is http://HOST:PORT, or the path of its socket")
+    raise InvalidAddress(f"{name!r} doesn't name a desk; write http://HOST:PORT, or the path of its socket")
 
 
 class Client:
-    """Asks a desk: `http://HOST:PORT`, `https://NAME`, `HOST:PORT`, or the path of a socket. Several desks of one log,
-    with commas between them, are asked in turn. Raises InvalidAddress."""
+    """Sends requests to a desk: `http://HOST:PORT`, `https://NAME`, `HOST:PORT`, or the path of a socket. Of several
+    desks of one log, with commas between them, it uses the next one when one fails. Raises InvalidAddress."""
 
     def __init__(self, name: str, token: str | None = None) -> None:
         self.name, self.token = name, token
         self.places, self.turn = [place_of(one) for one in BETWEEN.split(name)], 0
 
     def connection(self) -> http.client.HTTPConnection:
-        """A connection to the desk whose turn it is."""
+        """A connection to the current desk, not opened yet."""
         patience = PATIENCE if len(self.places) == 1 else PATIENCE_OF_MANY
         return self.places[self.turn % len(self.places)].connection(patience)
 
     def go_over(self) -> None:
-        """The next desk is asked from here on, where there are several."""
+        """Goes over to the next desk, if there are several."""
         self.turn += 1
 
     def request(
         self, method: str, path: str, body: bytes | None = None, heads: Heads = NO_HEADS
     ) -> tuple[email.message.Message, bytes]:
-        """Headers and body of an answer; of several desks the first that answers gives it, from the one on that did
-        last. What changes something has a key. Raises DeskUnreachable and RequestRefused."""
+        """Headers and body of an answer. Of several desks the first that answers gives it, beginning with the one that
+        did last. A request that changes something needs a key. Raises DeskUnreachable and RequestRefused."""
         for left in reversed(range(len(self.places))):
             try:
                 return self.asked(method, path, body, heads)
@@ -127,8 +127,7 @@ class Client:
             return answer.headers, answer.read()
 
     def download(self, path: str, file: IO[bytes]) -> email.message.Message:
-        """Puts the body of an answer into a file, and answers its headers. Raises DeskUnreachable and
-        RequestRefused."""
+        """Writes the body of an answer into a file; its headers. Raises DeskUnreachable and RequestRefused."""
         with self.answer("GET", path) as answer:
             shutil.copyfileobj(answer, file)
             if answer.length:
@@ -139,7 +138,7 @@ class Client:
     def answer(
         self, method: str, path: str, body: bytes | None = None, heads: Heads = NO_HEADS
     ) -> Iterator[http.client.HTTPResponse]:
-        """A context with an answer that isn't read yet. Raises DeskUnreachable and RequestRefused."""
+        """A context with an answer whose body isn't read yet. Raises DeskUnreachable and RequestRefused."""
         given = {"X-Opcplan": "desk", **heads}
         if self.token:
             given["Authorization"] = f"Bearer {self.token}"
@@ -147,7 +146,7 @@ class Client:
             try:
                 connection.connect()
             except OSError as error:
-                raise DeskUnreachable(f"{self.name}: there is no desk: {error.strerror or error}", False) from None
+                raise DeskUnreachable(f"{self.name}: no desk answers there: {error.strerror or error}", False) from None
             try:
                 connection.request(method, path, body, given)
                 answer = connection.getresponse()
@@ -159,7 +158,7 @@ class Client:
                 raise DeskUnreachable(f"{self.name}: the answer broke off: {error}", True) from None
 
     def statements(self, text: bytes, key: str, until: float, heads: Heads = NO_HEADS) -> bytes:
-        """What a stream is answered; it is sent again, up to a moment of the steady clock, while the desk is away.
+        """The answer to a stream. While the desk is away, it is sent again, up to `until` on the monotonic clock.
         Raises DeskUnreachable and RequestRefused."""
         rest, may_be_done = SHORTEST_REST, False
         heads = {"Idempotency-Key": key, "Content-Type": "text/plain", **heads}
@@ -183,12 +182,12 @@ class Client:
 
 
 def usual() -> str | None:
-    """The desk that the environment names, or None."""
+    """The desk that OPCPLAN_DESK names, or None."""
     return os.environ.get("OPCPLAN_DESK") or None
 
 
 def token() -> str | None:
-    """The token that the environment has, or that stands in the file it names, or None. Raises OSError."""
+    """The token in the file that OPCPLAN_TOKEN_FILE names, or in OPCPLAN_TOKEN, or None. Raises OSError."""
     if path := os.environ.get("OPCPLAN_TOKEN_FILE"):
         with open(path, encoding="utf-8") as file:
             return file.read().strip()

@@ -1,7 +1,8 @@
-"""The connections of a desk: how many there may be, and how long one may take to say who it is.
+"""The connections of a desk: how many there may be, and how long a caller may take to authenticate.
 
-A connection is known once one of its requests came from somebody who may look at the plan. Whoever isn't known yet has
-ten seconds, and the oldest of them go where they are too many, so that nobody keeps others out by saying nothing."""
+A connection is known once one of its requests came from a caller who may read the plan. An unknown one has ten seconds,
+and if there are too many, the oldest are closed. So nobody keeps others out by opening connections and sending
+nothing."""
 
 import asyncio
 import collections
@@ -15,18 +16,18 @@ from typing import Any, IO
 
 from aiohttp import http_exceptions, web
 
-# connections at once, at most; and of those who haven't said who they are
+# the most connections at once; and the most whose callers haven't authenticated
 MOST, MOST_UNKNOWN = 4000, 200
-# descriptors that the journal, the plan, opcplan, files of rows and connections that are sent away may take
+# descriptors for the journal, the plan, opcplan, files of rows, and connections that are being closed
 RESERVE = 300
-# seconds in which a caller has to say who it is; and a body has to come, with one more for so many bytes of it
+# seconds for a caller to authenticate; seconds for a body, and the bytes for which it gets one second more
 HEADER, BODY, BYTES_A_SECOND = 10.0, 30.0, 50_000
 # seconds between two lines about the same trouble
 QUIET = 60.0
 
 
 def most_open() -> int:
-    """How many connections the descriptors of this process allow; as many descriptors as it may have are taken."""
+    """How many connections the descriptors of this process allow; raises their limit as far as needed."""
     soft, hard = resource.getrlimit(resource.RLIMIT_NOFILE)
     wanted = MOST + RESERVE if hard == resource.RLIM_INFINITY else min(hard, MOST + RESERVE)
     if soft != resource.RLIM_INFINITY and soft < wanted:
@@ -36,7 +37,7 @@ def most_open() -> int:
 
 
 class Connections:
-    """All connections that are open, the unknown ones in the order in which they came."""
+    """All open connections, the unknown ones in the order in which they came."""
 
     def __init__(self) -> None:
         self.most = most_open()
@@ -47,38 +48,38 @@ class Connections:
         self.said: dict[str, float] = {}
 
     def begin(self, transport: asyncio.Transport) -> None:
-        """A connection begins; the oldest unknown ones go where there are too many."""
+        """Notes a new connection; closes the oldest unknown ones if there are too many."""
         self.unknown[transport] = time.monotonic()
         while len(self.unknown) > self.most_unknown or self.unknown and len(self.unknown) + len(self.known) > self.most:
             oldest, _ = self.unknown.popitem(last=False)
             oldest.abort()
-            self.say("connections", "there are too many connections whose callers haven't said who they are")
+            self.say("connections", "too many connections have no authenticated caller; the desk closes the oldest")
 
     def know(self, transport: asyncio.Transport) -> None:
-        """A connection's caller may look at the plan."""
+        """Notes that a connection's caller may read the plan."""
         if self.unknown.pop(transport, None) is not None:
             self.known.add(transport)
 
     def end(self, transport: asyncio.Transport | None) -> None:
-        """A connection is over."""
+        """Notes that a connection is closed."""
         if transport is not None:
             self.unknown.pop(transport, None)
             self.known.discard(transport)
 
     def start(self, server: web.Server, meet: Callable[[asyncio.BaseTransport], None]) -> None:
-        """Sees each connection of a server begin and end, for as long as this runs; `meet` sees it begin."""
+        """Follows all connections of a server from now on; calls `meet` for each new one."""
         begin, end = server.connection_made, server.connection_lost
         known_as: dict[object, asyncio.Transport] = {}
 
         def connection_made(handler: Any, transport: asyncio.Transport) -> None:
-            """A connection begins."""
+            """Notes a new connection, and has aiohttp serve it."""
             known_as[handler] = transport
             meet(transport)
             self.begin(transport)
             begin(handler, transport)
 
         def connection_lost(handler: Any, error: BaseException | None = None) -> None:
-            """A connection is over."""
+            """Notes that a connection is closed, and passes that on to aiohttp."""
             self.end(known_as.pop(handler, None))
             end(handler, error)
 
@@ -89,12 +90,12 @@ class Connections:
         self.task = asyncio.create_task(self.watch())
 
     def close(self) -> None:
-        """Looks at no connection any more."""
+        """Stops closing connections."""
         if self.task is not None:
             self.task.cancel()
 
     async def watch(self) -> None:
-        """Sends those away who take too long to say who they are."""
+        """Closes connections whose callers take too long to authenticate."""
         while True:
             await asyncio.sleep(HEADER / 10)
             late = time.monotonic() - HEADER
@@ -103,14 +104,14 @@ class Connections:
                 transport.abort()
 
     def on_fault(self, loop: asyncio.AbstractEventLoop, context: dict[str, Any]) -> None:
-        """What went wrong beside all requests: want of descriptors is told once a minute."""
+        """Handles an error outside all requests; a lack of descriptors is printed once a minute."""
         if "accept" in context.get("message", ""):
-            self.say("descriptors", f"no connection can be taken for now: {context.get('exception')}")
+            self.say("descriptors", f"the desk can't accept connections for now: {context.get('exception')}")
         elif not isinstance(context.get("exception"), ConnectionError):
             loop.default_exception_handler(context)
 
     def say(self, about: str, text: str) -> None:
-        """A line on standard error, one a minute about one thing."""
+        """Prints a line on standard error, at most one a minute about one thing."""
         if time.monotonic() >= self.said.get(about, 0.0):
             self.said[about] = time.monotonic() + QUIET
             with contextlib.suppress(OSError):
@@ -118,26 +119,27 @@ class Connections:
 
 
 def is_defect(record: logging.LogRecord) -> bool:
-    """Whether what aiohttp tells of a request is no caller's doing: one that hangs up, or speaks no HTTP."""
+    """Whether aiohttp reports a defect, and not a caller who hangs up or speaks no HTTP."""
     error = record.exc_info[1] if record.exc_info else None
     return not isinstance(error, (http_exceptions.HttpProcessingError, ConnectionError, asyncio.TimeoutError))
 
 
 async def body_of(request: web.Request, most: int) -> bytes:
-    """The body of a request. Raises HTTPRequestEntityTooLarge, and HTTPRequestTimeout where it takes too long."""
+    """The body of a request, at most `most` bytes. Raises HTTPRequestEntityTooLarge, and HTTPRequestTimeout if it takes
+    too long."""
     length = request.content_length
     if length is not None and length > most:
         raise web.HTTPRequestEntityTooLarge(max_size=most, actual_size=length)
     patience = BODY + (most if length is None else length) / BYTES_A_SECOND
     try:
-        async with asyncio.timeout(patience):  # no task of its own: what is there is read also where the caller hung up
+        async with asyncio.timeout(patience):  # no task of its own: what has come is read even if the caller hung up
             return await request.read()
     except TimeoutError:
-        raise web.HTTPRequestTimeout(text="the body didn't come in time; nothing was done\n") from None
+        raise web.HTTPRequestTimeout(text="the body didn't arrive in time; nothing was done\n") from None
 
 
 async def sent_file(request: web.Request, heads: Mapping[str, str], file: IO[bytes], size: int) -> web.StreamResponse:
-    """Sends so many bytes of a file, which others may read too; the system copies them, and callers aren't held up. A
+    """Sends `size` bytes of a file, which others may read too. The system copies them, so no other caller waits. A
     caller who reads too slowly is cut off."""
     response = web.StreamResponse(headers=heads)
     response.content_length = size

@@ -1,4 +1,4 @@
-"""A desk: what its callers ask, and what they are answered."""
+"""A desk: its callers' requests, and their answers."""
 
 import asyncio
 import contextlib
@@ -18,13 +18,13 @@ from opcplan.errors import LogUnwritable
 from opcplan.plans.entry import Entry, Wanted
 from opcplan.plans.journal import JournalReply
 
-# seconds until replies are put into the journal where no change comes that takes them along
+# seconds until replies go into the journal if no further change takes them along
 LATE = 0.5
 
 
 class Desk:
-    """The desk over HeldFiles, of which it has the locks, and a log. What the journal has without a reply is asked
-    again before anything else."""
+    """The desk over HeldFiles, whose locks it has, and a log. First of all it sends the planner again what the journal
+    has without a reply."""
 
     def __init__(self, program: str, files: HeldFiles, the_log: Log, why_not: Callable[[], str], limit: float) -> None:
         self.log, self.files = the_log, files
@@ -40,13 +40,13 @@ class Desk:
         self.writing: asyncio.Task[None] | None = None
 
     def start(self) -> None:
-        """Begins."""
+        """Starts the planner, the queues, and the writing of replies."""
         self.planner.start()
         self.feed.start()
         self.writing = asyncio.create_task(self.write_late())
 
     async def close(self) -> None:
-        """Ends what is in flight, and leaves the plan in one file and the journal whole."""
+        """Finishes what is in flight. Then the plan is one file, and the journal is complete."""
         await self.feed.close()
         await self.planner.close()
         if self.writing is not None:
@@ -58,38 +58,38 @@ class Desk:
 
     @property
     def is_busy(self) -> bool:
-        """Whether changes are under way."""
+        """Whether changes are in progress."""
         return bool(self.feed.queue or self.feed.batch or self.state.changes)
 
-    # What is taken.
+    # Requests.
 
     @property
     def position(self) -> int:
-        """The entry up to which the plan has all."""
+        """The last entry that the plan has."""
         return self.state.position
 
     def tag(self) -> str:
-        """Names the state of the plan."""
+        """The tag of the plan's state."""
         return self.state.tag
 
     def after(self, last: int, most: int) -> list[Entry]:
-        """At most so many answered Entries behind one, as far as there are any."""
+        """The answered Entries after one, at most `most` of them."""
         due = self.state.due(last, most)
         if not isinstance(due, state.Read):
             return due
         found = self.log.entries(due.since, most, due.upto) or self.state.due(due.upto, most)
-        assert not isinstance(found, state.Read)  # what is due up to there is in memory
+        assert not isinstance(found, state.Read)  # what comes after that is in memory
         return found
 
     def ask_question(self, name: str, text: bytes, waits: bool = False) -> Submission:
-        """An Submission of a statement that changes nothing; it perhaps waits for the changes before it. Raises
+        """The Submission of a statement that changes nothing. If `waits`, it comes after the changes before it. Raises
         StatementRejected."""
         ask = Submission(name, text)
         self.feed.put(ask, not waits)
         return ask
 
     def ask_change(self, name: str, wanted: Wanted, condition: str | Submission | None = None) -> Submission:
-        """An Submission of a change, perhaps the one that its key stands for already. Raises StatementRejected."""
+        """The Submission of a change, perhaps the earlier one under its key. Raises StatementRejected."""
         known = self.known(wanted)
         if known is not None:
             return known
@@ -101,14 +101,14 @@ class Desk:
         return ask
 
     def known(self, wanted: Wanted) -> Submission | None:
-        """The Submission that the key of a change stands for, or None. Raises StatementRejected where it is another
+        """The Submission that already has the key of a change, or None. Raises StatementRejected if that is another
         change."""
         if wanted.key is None:
             return None
         ask = self.state.known(wanted.who, wanted.key)
         if ask is None:
             old = self.log.find(wanted.who, wanted.key)
-            if old is None or old.reply is None:  # of a plan that is older than its journal
+            if old is None or old.reply is None:  # the plan is older than its journal
                 return None
             ask = Submission("", old.text)
             ask.entry, ask.reply = old, old.reply
@@ -121,53 +121,53 @@ class Desk:
         return ask
 
     async def claim(self, who: str, key: str, wanted: Sequence[Wanted]) -> None:
-        """Takes a caller's key for a stream, whose changes these are, until `release`. Raises StatementRejected where
-        the key stands for another one."""
+        """Claims a caller's key for a stream with these changes, until `release`. Raises StatementRejected if the key
+        belongs to another stream."""
         unknown = [one for one in wanted if self.known(one) is None]
-        with contextlib.suppress(LogUnwritable):  # who appends them is told
+        with contextlib.suppress(LogUnwritable):  # the append reports it
             for place, one in (await self.log.used(unknown)).items():
                 if one is None:
                     raise used_otherwise(unknown[place].key)
         stream = wanted[0].stream
-        assert stream is not None  # of one that has a key
+        assert stream is not None  # a stream with a key has a digest
         if not self.state.claim(who, key, stream, self.log.stream_of(who, key)):
             raise used_otherwise(key)
 
     def release(self, who: str, key: str) -> None:
-        """A stream is over for which its caller's key was taken."""
+        """Releases a caller's key, once its stream is over."""
         self.state.release(who, key)
 
     def ask_of(self, one: Entry, name: str | None) -> Submission:
-        """An Submission of an Entry, which its key finds."""
+        """The Submission of an Entry, which can be found by the entry's key."""
         ask = ask_of(one, name)
         if one.key is not None:
             self.state.wants(one.who, one.key, ask)
         return ask
 
     async def catch_up(self) -> int:
-        """Waits until the plan has what the log has now, and answers the last entry. Raises StatementRejected."""
+        """Waits until the plan has what the log has now; the last entry. Raises StatementRejected."""
         until = time.monotonic() + PATIENCE
         try:
             last = await self.log.ask_last(until)
         except LogUnwritable as why:
-            raise StatementRejected(503, f"it isn't known how far the log is: {why}") from None
+            raise StatementRejected(503, f"the last entry of the log isn't known: {why}") from None
         while self.position < last:
             if self.planner.stopped or time.monotonic() > until:
-                raise StatementRejected(503, f"the plan here is behind the log, which has entry {last}: "
-                                   f"{self.trouble or 'try again'}")
+                raise StatementRejected(503, f"this desk hasn't applied the log up to entry {last} yet: "
+                                        f"{self.trouble or 'try again'}")
             await asyncio.sleep(LATE / 50)
         return last
 
     def forget(self, ask: Submission) -> None:
-        """Lets a statement go that wasn't taken."""
+        """Drops a statement that was rejected."""
         if ask.wanted is not None and ask.wanted.key is not None:
             self.state.forget(ask.wanted.who, ask.wanted.key, ask)
         self.lists.forget(ask)
 
-    # What comes back.
+    # Answers.
 
     def on_answer(self, one: state.Answer[Submission]) -> None:
-        """Takes the Answer of a statement, and has its callers hear it."""
+        """Passes the Answer of a statement on to its callers."""
         ask = one.item
         if ask.name is not None:
             self.metrics.count(ask, one.reply)
@@ -182,7 +182,7 @@ class Desk:
         ask.answer(one.reply)
 
     def on_stop(self, why: str) -> None:
-        """Sends all away who wait for the planner; what stands in the log stays."""
+        """Rejects all that waits for the planner; what is in the log stays there."""
         self.feed.drop_queue(PlannerStopped(why))
         self.feed.drop_questions(PlannerStopped(why))
         for ask in (*self.feed.batch, *self.feed.asking):
@@ -190,8 +190,8 @@ class Desk:
         self.lists.clear()
 
     async def write_late(self) -> None:
-        """Has the log keep replies that no change takes along, takes digests from other desks, and looks whether the
-        files have their places, also where nobody asks anything."""
+        """Writes replies that no further change takes along, adopts digests of other desks, and checks that the files
+        are in their places, also while no request comes."""
         while True:
             await asyncio.sleep(LATE)
             self.planner.has_moved()
@@ -202,25 +202,25 @@ class Desk:
                     await self.keep_replies()
 
     async def keep_replies(self) -> None:
-        """Has the log keep what was answered. Raises Unwritable."""
+        """Writes the replies that the journal lacks. Raises LogUnwritable."""
         entries = self.state.unkept()
         if entries:
             await self.log.keep_replies(self.replies_of(entries))
             self.state.keeps(entries)
 
     def replies_of(self, entries: Sequence[Entry]) -> list[JournalReply]:
-        """The replies of answered Entries as the journal keeps them."""
+        """The replies of answered Entries, as the journal stores them."""
         return [JournalReply(one.seq, one.reply or "", digest) for one,
                 digest in zip(entries, self.state.digests(entries))]
 
     @property
     def trouble(self) -> str:
-        """Why the desk answers nothing, or takes no change, for now."""
+        """Why the desk answers nothing, or accepts no change, for now; empty if it does both."""
         return self.planner.trouble or self.log.trouble
 
 
 def ask_of(one: Entry, name: str | None) -> Submission:
-    """An Submission of an Entry."""
+    """The Submission of an Entry."""
     ask = Submission(name, one.text)
     ask.entry = one
     return ask

@@ -1,33 +1,33 @@
-"""What desks of one log say of their answers, and whether it is the same.
+"""The digests that desks of one log publish of their answers, and how they are compared.
 
-The digest of an entry has in it all entries and replies before it, so of two desks that ever answered otherwise all
-later digests differ."""
+The digest of an entry covers all entries and replies before it. So once two desks have answered one entry differently,
+all their later digests differ."""
 
 from collections.abc import Mapping
 from typing import NamedTuple
 
-# entries of which a desk says the digest, the last ones, and the letters that it says
+# how many of its last entries a desk publishes the digest of, and how many letters of each
 MOST, LETTERS = 24, 8
-WAY_OUT = ("One of the plans was changed by another program than its desk. Where that is {0}: end this desk, move the "
-           "plan and its journal away, and start with --from http://OTHERDESK; what a desk said that is gone "
-           "`./plan log .. --trim --forget DESK` takes away (this one is {1})")
+WAY_OUT = ("Another program than its desk changed one of the plans. If it changed {0}, end this desk, move the plan "
+           "and its journal away, and start with --from http://OTHERDESK. If the other desk is gone permanently, "
+           "remove it with `./plan log .. --trim --forget DESK` (this one is {1})")
 
 
 class FirstDifference(NamedTuple):
-    """The first entry of those that two desks can compare which they answered otherwise, and the first of all these."""
+    """Of the entries that two desks can compare: the first that they answered differently, and the first of all."""
 
     entry: int
     first: int
 
 
 def short(found: Mapping[int, str]) -> dict[str, str]:
-    """Digests by the numbers of their entries, as a desk says them."""
+    """Digests by the numbers of their entries, as a desk publishes them."""
     return {str(seq): digest[:LETTERS] for seq, digest in found.items()}
 
 
 def difference(own: Mapping[int, str], others: Mapping[str, Mapping[str, str]]) -> str:
-    """Why a desk isn't to go on: as many others answered otherwise as answered alike, itself counted, or more. `own`
-    has its digests by number, `others` what each other desk says."""
+    """Why a desk has to stop, or nothing: at least as many others answered differently as answered alike, itself
+    counted. `own` has its digests by number, `others` what each other desk publishes."""
     alike = 1
     otherwise: dict[str, FirstDifference] = {}
     for name, said in others.items():
@@ -41,4 +41,4 @@ def difference(own: Mapping[int, str], others: Mapping[str, Mapping[str, str]]) 
         return ""
     name, (entry, first) = min(otherwise.items(), key=lambda one: one[1])
     where = f"entry {entry}" if entry > first else f"entry {entry} or one before it"
-    return f"{where} was answered otherwise here than at desk {name}"
+    return f"this desk answered {where} differently from desk {name}"

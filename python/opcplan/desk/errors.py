@@ -1,10 +1,10 @@
-"""Why a desk doesn't take a statement."""
+"""Why a desk rejects a statement."""
 
 from opcplan.errors import Error
 
 
 class StatementRejected(Error):
-    """Why a statement isn't taken, with HTTP's status."""
+    """Why a statement is rejected, with HTTP's status."""
 
     def __init__(self, status: int, text: str) -> None:
         super().__init__(text)
@@ -12,5 +12,5 @@ class StatementRejected(Error):
 
 
 def used_otherwise(key: str | None) -> StatementRejected:
-    """The StatementRejected of a key that stands for another statement."""
-    return StatementRejected(409, f"the key {key} stands for another statement")
+    """The StatementRejected for a key that belongs to another statement."""
+    return StatementRejected(409, f"the key {key} belongs to another statement; nothing was done")

@@ -1,4 +1,4 @@
-"""etcd as a desk asks it: the JSON gateway of its nodes, one after another until one answers."""
+"""A client of etcd: the JSON gateway of its nodes, one after another until one answers."""
 
 import asyncio
 import contextlib
@@ -15,9 +15,9 @@ from opcplan.desk.log_entries import in_base64, of_base64
 from opcplan.desk.log_words import Access
 from opcplan.errors import Error
 
-# how long one call may take, in seconds
+# the longest time of one call, in seconds
 CALL = 2.0
-# codes of gRPC after which another node may do better: unknown, deadline, internal, unavailable
+# codes of gRPC after which another node is tried: unknown, deadline, internal, unavailable
 ELSEWHERE = (2, 4, 13, 14)
 NO_LOGIN, EXHAUSTED, NOT_FOUND, INVALID = 16, 8, 5, 3
 STALE_LOGIN = ("invalid auth token", "user name is empty", "revision of auth store is old")
@@ -25,11 +25,11 @@ MOST_OF_A_WATCH, MOST_OF_MESSAGE = 1 << 20, 300
 
 
 class EtcdUnreachable(Error):
-    """Why no node answers; what was asked may be done all the same."""
+    """Why no node answers. The request may be done all the same."""
 
 
 class EtcdError(Error):
-    """What etcd says against a call: nothing was done."""
+    """Why etcd refused a call. Nothing was done."""
 
     def __init__(self, code: int, text: str) -> None:
         super().__init__(text)
@@ -38,19 +38,19 @@ class EtcdError(Error):
 
 @dataclasses.dataclass(frozen=True)
 class Member:
-    """How a node stands; of one that doesn't answer `why` says so, and the others are as they are here."""
+    """The state of a node. If it doesn't answer, `why` says why, and the fields after that have their defaults."""
 
     endpoint: str
     answers: bool
     why: str = ""
-    bytes: int = 0  # of its database
+    bytes: int = 0  # the size of its database
     in_use: int = 0
     quota: int | None = None
     leads: bool = False
     version: str = ""
 
     def values(self) -> dict[str, Any]:
-        """What is told of it in JSON, by name."""
+        """Its fields as JSON has them, by name."""
         if not self.answers:
             return {"endpoint": self.endpoint, "answers": False, "why": self.why}
         return {"endpoint": self.endpoint, "answers": True, "bytes": self.bytes, "in use": self.in_use,
@@ -58,7 +58,7 @@ class Member:
 
 
 class Etcd:
-    """The nodes of etcd that are named."""
+    """A client of some nodes of etcd."""
 
     def __init__(self, endpoints: Sequence[str], access: Access) -> None:
         scheme = "https" if access.tls else "http"
@@ -77,11 +77,11 @@ class Etcd:
 
     @property
     def endpoint(self) -> str:
-        """The node that is asked first."""
+        """The node that gets the next request first."""
         return self.endpoints[self.turn % len(self.endpoints)]
 
     async def post(self, path: str, said: Mapping[str, Any], until: float | None = None) -> Any:
-        """What the first node that answers says, up to a moment of the steady clock. Raises EtcdUnreachable and
+        """The answer of the first node that gives one, up to `until` on the monotonic clock. Raises EtcdUnreachable and
         EtcdError."""
         why = ""
         for _ in self.endpoints:
@@ -93,12 +93,12 @@ class Etcd:
                 return await self.at(at, path, said, left)
             except EtcdUnreachable as error:
                 why = str(error)
-                if at == self.endpoint:  # no other call went on meanwhile
+                if at == self.endpoint:  # no other call went over to the next node meanwhile
                     self.turn += 1
         raise EtcdUnreachable(f"etcd doesn't answer: {why}" if why else "etcd doesn't answer in time")
 
     async def at(self, endpoint: str, path: str, said: Mapping[str, Any], patience: float = CALL) -> Any:
-        """What one node says. Raises EtcdUnreachable and EtcdError."""
+        """The answer of one node, after a new login if the old one is stale. Raises EtcdUnreachable and EtcdError."""
         try:
             return await self.once(endpoint, path, said, patience)
         except EtcdError as why:
@@ -109,7 +109,7 @@ class Etcd:
         return await self.once(endpoint, path, said, patience)
 
     async def once(self, endpoint: str, path: str, said: Mapping[str, Any], patience: float) -> Any:
-        """What one node says, with a login where etcd has users. Raises EtcdUnreachable and EtcdError."""
+        """The answer of one node, with a login if etcd has users. Raises EtcdUnreachable and EtcdError."""
         heads: dict[str, str] = {}
         if self.access.user is not None:
             if self.token is None:
@@ -121,7 +121,7 @@ class Etcd:
 
     async def sent(self, endpoint: str, path: str, said: Mapping[str, Any], heads: Mapping[str, str],
                    patience: float) -> Any:
-        """What one node says to a question with these headers. Raises EtcdUnreachable and EtcdError."""
+        """The answer of one node to a request with these headers. Raises EtcdUnreachable and EtcdError."""
         limit = aiohttp.ClientTimeout(total=patience)
         try:
             async with self.session.post(endpoint + path, json=said, headers=heads, timeout=limit) as answer:
@@ -136,10 +136,10 @@ class Etcd:
         except ValueError:
             message = data[:MOST_OF_MESSAGE].decode("utf-8", "replace").strip()
             if "CommonName" in message:
-                message += "; where etcd has users, --etcd-user says who asks, and --etcd-cert has no CommonName"
+                message += "; if etcd has users, name one with --etcd-user, and use a certificate without CommonName"
             if 400 <= status < 500:
                 raise EtcdError(INVALID, f"{endpoint}: status {status}: {message}") from None
-            raise EtcdUnreachable(f"{endpoint}: status {status}, and no answer of etcd's JSON gateway") from None
+            raise EtcdUnreachable(f"{endpoint}: status {status}; this isn't an answer of etcd's JSON gateway") from None
         if status == 200:
             return found
         code, message = found.get("code", 2), found.get("message") or found.get("error") or f"status {status}"
@@ -148,7 +148,7 @@ class Etcd:
         raise EtcdError(code, message)
 
     async def watch(self, key: str, on_value: Callable[[bytes], None]) -> None:
-        """Calls `on_value` with each value that a key gets, until the node ends it. Raises EtcdUnreachable and
+        """Calls `on_value` with each new value of a key, until the node ends the watch. Raises EtcdUnreachable and
         EtcdError."""
         said = {"create_request": {"key": in_base64(key)}}
         limit = aiohttp.ClientTimeout(total=None, sock_connect=CALL, sock_read=60)
@@ -163,25 +163,25 @@ class Etcd:
                         for event in json.loads(one).get("result", {}).get("events", ()):
                             on_value(of_base64(event["kv"].get("value")))
                     if len(line) > MOST_OF_A_WATCH:
-                        raise EtcdUnreachable(f"{self.endpoint}: it says more of a watch than it should")
+                        raise EtcdUnreachable(f"{self.endpoint}: its answer to a watch is too long")
         except (aiohttp.ClientError, asyncio.TimeoutError, OSError, ValueError) as error:
             raise EtcdUnreachable(f"{self.endpoint}: {error}") from None
 
     async def quota(self, endpoint: str) -> int | None:
-        """The bytes that a node's database may have, or None where it doesn't tell."""
+        """The largest size of a node's database in bytes, or None if the node doesn't say it."""
         if endpoint in self.quotas:
             return self.quotas[endpoint]
         limit = aiohttp.ClientTimeout(total=CALL)
         with contextlib.suppress(aiohttp.ClientError, asyncio.TimeoutError, OSError, ValueError):
             async with self.session.get(f"{endpoint}/metrics", timeout=limit) as answer:
-                data = await answer.read()  # whole: aiohttp may hang in what a half-read connection is asked next
+                data = await answer.read()  # whole: aiohttp may hang in the next request on a half-read connection
             found = re.search(rb"^etcd_server_quota_backend_bytes ([0-9.e+]+)$", data, re.M)
             if found:
                 self.quotas[endpoint] = int(float(found[1]))
         return self.quotas.get(endpoint)
 
     async def standing(self, endpoint: str) -> Member:
-        """How a node stands."""
+        """The state of a node."""
         try:
             found = await self.at(endpoint, "/v3/maintenance/status", {})
         except (EtcdUnreachable, EtcdError) as why:

@@ -1,4 +1,4 @@
-"""The log that several desks share: it stands in etcd, and any desk appends to it where it knows all that is there."""
+"""The log that several desks share. It is in etcd, and a desk may append to it if it knows all that is there."""
 
 import asyncio
 import contextlib
@@ -19,22 +19,22 @@ from opcplan.errors import LogUnwritable
 from opcplan.plans import chain, entry
 from opcplan.plans.journal import Journal, JournalReply
 
-# seconds between two looks at the head where nothing is heard of it, and between two at the nodes
+# seconds between two requests for the head if no news of it comes, and between two looks at the nodes
 POLL, LOOK = 0.5, 5.0
 REST = 0.1
-# without a word of the head, in seconds, until that is told; a node that is asked in vain takes two of them
+# seconds without news of the head until the desk reports that; one node that doesn't answer takes two of them
 SILENT = 4.0
-# a caller's key stands for a week at least: a lease goes on for a day
+# a caller's key is kept for a week at least: a lease is used for a day
 DAY = 24 * 3600
 LEASE = 8 * DAY
-# a desk says what it answered after so many entries and so many seconds at least, and compares so many of its own
-# entries with what others say
+# a desk publishes its digests after at least so many entries and so many seconds, and compares so many of its own
+# entries with those of others
 EVERY, REPORT, MOST_COMPARED = 16, 2.0, 1000
 
 
 class EtcdLog(log.Log):
-    """The log under a name of etcd, of which a plan has the entries up to one; `version` is the opcplan that this desk
-    has, `path` the plan."""
+    """The log under a name in etcd. The plan at `path` has its entries up to `given`; `version` is this desk's
+    opcplan."""
 
     is_shared = True
 
@@ -45,7 +45,7 @@ class EtcdLog(log.Log):
         begun = journal.begun()
         assert begun is not None  # `bootstrap.joined` has kept it
         self.applied, self.begun, self.begins = given, begun, begun.seq
-        # appended batches are read whole: the first one may have begun before
+        # batches are read whole: the first one may begin before the next entry
         self.read_behind = max(0, given - log.MOST_TOGETHER + 1)
         self.has_news = given < stands.head.last
         self.heard = time.monotonic()
@@ -75,12 +75,13 @@ class EtcdLog(log.Log):
 
     @property
     def held(self) -> str:
-        """Why the desk holds back: another opcplan has to answer what comes next."""
+        """Why the desk waits, or nothing: another opcplan has to answer the next entry."""
         theirs = version_at(self.versions, self.given + 1)
         if theirs == self.version:
             return ""
-        return (f"the log goes on from entry {self.given + 1} with {first_line(theirs)}, and this desk has "
-                f"{first_line(self.version)}{different(theirs, self.version)}: start it again with that program")
+        return (f"entries from {self.given + 1} on need {first_line(theirs)}, and this desk runs "
+                f"{first_line(self.version)}{different(theirs, self.version)}; start it again with the program that "
+                "they need")
 
     def chain_at(self, position: int) -> str | None:
         base = self.begins
@@ -100,7 +101,7 @@ class EtcdLog(log.Log):
             await self.report()
         await super().close()
 
-    # What is appended.
+    # Appending.
 
     async def append(self, batch: Sequence[entry.Wanted], replies: Sequence[JournalReply],
                      until: float) -> list[entry.Entry]:
@@ -123,14 +124,14 @@ class EtcdLog(log.Log):
             await self.keep(entries, replies)
         except LogUnwritable as why:
             self.has_news = True
-            raise log.AppendUncertain(f"{why}; it stands in the log, and is done once the journal can be "
+            raise log.AppendUncertain(f"{why}; the statement is in the log, and is done once the journal can be "
                                       "written") from None
         self.notice(came.head)
         return entries
 
     async def appended(self, head: Head, entries: Sequence[entry.Entry], until: float) -> Appended:
-        """What came of a batch behind a head, whatever is heard of another one meanwhile. Where an answer is lost, it
-        is asked again under the same mark, by which one sees that it is done. Raises Unwritable."""
+        """Appends a batch after a head; what came of it. If an answer is lost, the batch is sent again with the same
+        mark, which shows whether it was done before. Raises LogUnwritable."""
         mark = secrets.token_hex(8)
         while True:
             try:
@@ -139,7 +140,7 @@ class EtcdLog(log.Log):
             except EtcdUnreachable as why:
                 self.away = str(why)
                 if time.monotonic() >= until:
-                    raise log.AppendUncertain(f"{why}; it may be done all the same") from None
+                    raise log.AppendUncertain(f"{why}; the statement may be done all the same") from None
                 await asyncio.sleep(REST)
                 continue
             except EtcdError as why:
@@ -154,14 +155,14 @@ class EtcdLog(log.Log):
             return came
 
     def refused(self, why: EtcdError) -> str:
-        """A sentence for what etcd says against a change."""
+        """The sentence for etcd's refusal of a change."""
         if why.code == EXHAUSTED and "space" in str(why):
-            self.full = f"etcd takes nothing: {why}; `./plan log {self.store.where} --trim` makes room"
+            self.full = f"etcd accepts no change: {why}; make room with `./plan log {self.store.where} --trim`"
             return self.full
-        return f"etcd takes nothing: {why}"
+        return f"etcd accepts no change: {why}"
 
     async def lease(self) -> str:
-        """The lease under which callers' keys are put now. Raises EtcdUnreachable and EtcdError."""
+        """The lease for the keys that callers use now. Raises EtcdUnreachable and EtcdError."""
         if self.lease_id is None or time.monotonic() > self.lease_begun + DAY:
             begun = time.monotonic()
             self.lease_id = await self.store.lease(LEASE)
@@ -173,7 +174,7 @@ class EtcdLog(log.Log):
         if entries:
             self.applied = self.read_behind = entries[-1].seq
 
-    # What others appended.
+    # Entries of others.
 
     async def others(self) -> list[entry.Entry]:
         if not self.has_news or self.lost:
@@ -187,13 +188,15 @@ class EtcdLog(log.Log):
             self.away = str(why)
             raise LogUnwritable(str(why)) from None
         except (KeyError, TypeError, ValueError) as error:
-            self.lost = f"what stands in etcd below {self.store.root} is nothing that a desk writes: {error!r}"
+            self.lost = (f"etcd has something below {self.store.root} that no desk writes: {error!r}; end the program "
+                         "that writes there, and start the desk again")
             raise LogUnwritable(self.lost) from None
         self.notice(head, least)
         found = [one for batch in batches for one in batch.entries if one.seq > self.given]
         if head and head.last > self.given and (not found or found[0].seq != self.given + 1):
-            self.lost = (f"the log is trimmed behind entry {self.given}, which is the last one of this plan: end the "
-                         "desk, and begin with the plan of another one, by --from")
+            self.lost = (f"the log is trimmed beyond entry {self.given}, the last one of this plan. Take another "
+                         f"desk's plan: end this desk, move {self.path} away, and start it with --from "
+                         "http://OTHERDESK")
             found = []
         found = [one for one in found if version_at(self.versions, one.seq) == self.version]
         if not found and head == self.head:
@@ -201,12 +204,13 @@ class EtcdLog(log.Log):
         return found
 
     def notice(self, head: Head | None, least: int = 0) -> None:
-        """Takes what is heard of the head; what was asked when the plan had `least` can't be before that."""
+        """Takes news of the head. The answer to a request that was made when the plan had entry `least` can't be
+        less."""
         self.heard, self.away = time.monotonic(), ""
         if head is None or head.last < least:
             has = f"ends with entry {head.last}" if head else "is gone"
-            self.lost = (f"the log {has}, and this plan has entry {least}: etcd isn't as it was. End all desks; "
-                         "`./plan log --help` says how a new log begins behind a plan")
+            self.lost = (f"the log {has}, and this plan has entry {least}: etcd's data were changed or restored. End "
+                         "all desks of the plan; `./plan log --help` says how to begin a new log from a plan")
         elif head > self.head or head.last > self.given:
             self.head = max(head, self.head)
             if self.head.last > self.given or self.head.moves != self.moves:
@@ -236,12 +240,12 @@ class EtcdLog(log.Log):
             return {first: None}
         return {place: known_entry(wanted[place], found[key]) for place, key in keyed.items() if key in found}
 
-    # What goes on besides.
+    # What runs in the background.
 
     async def watch(self) -> None:
-        """Hears of the head as soon as it moves; what isn't heard is seen by `poll`."""
+        """Follows the head; `poll` sees what this misses."""
         def on_value(data: bytes) -> None:
-            """Takes another head."""
+            """Takes a new head."""
             with contextlib.suppress(ValueError, TypeError):
                 self.notice(head_of(data))
         while True:
@@ -250,7 +254,7 @@ class EtcdLog(log.Log):
             await asyncio.sleep(POLL)
 
     async def poll(self) -> None:
-        """Asks for the head where nothing was heard of it for a while."""
+        """Requests the head if no news of it came for a while."""
         while True:
             await asyncio.sleep(POLL)
             if time.monotonic() - self.heard >= POLL:
@@ -261,7 +265,7 @@ class EtcdLog(log.Log):
                     self.away = str(why)
 
     async def look(self) -> None:
-        """Sees how the nodes stand, and says how this desk stands."""
+        """Keeps the states of the nodes and etcd's alarms up to date."""
         etcd = self.store.etcd
         while True:
             self.members = await asyncio.gather(*map(etcd.standing, etcd.endpoints))
@@ -272,8 +276,8 @@ class EtcdLog(log.Log):
             await asyncio.sleep(LOOK)
 
     async def compare(self, on_difference: Callable[[str], None]) -> None:
-        """Says how this desk stands and what it answered, at once and whenever it has some more entries or some time is
-        over, and compares that with what others say."""
+        """Publishes this desk's position and digests, at once and then after some more entries or some time, and
+        compares the digests with those of others."""
         while True:
             with contextlib.suppress(EtcdUnreachable, EtcdError, KeyError, TypeError, ValueError):
                 await self.report()
@@ -292,7 +296,8 @@ class EtcdLog(log.Log):
         return self.known_chains
 
     async def report(self) -> None:
-        """Says in etcd how far this desk is and what it answered, where that changed."""
+        """Publishes in etcd this desk's position and digests, if they have changed. Raises EtcdUnreachable and
+        EtcdError."""
         found = self.journal.digests(digests.MOST, self.given)
         last = max(found, default=None)
         current = Report(self.given, self.path, self.version)
@@ -307,14 +312,14 @@ class EtcdLog(log.Log):
         except EtcdError as why:
             if why.code != NOT_FOUND:
                 raise
-            self.lease_id = None  # it is gone; the next report takes a new one
+            self.lease_id = None  # the lease is gone; the next report takes a new one
 
     def standing(self, position: int) -> dict[str, Any]:
         return {"log": str(self.store.where), "head": self.head.last, "behind": max(0, self.head.last - position),
                 "etcd": {**self.sizes(), "why": self.away, "members": [one.values() for one in self.members]}}
 
     def gauges(self, position: int) -> dict[str, float]:
-        """Those of the log and of etcd, as far as they are known."""
+        """The numbers of the log and of etcd, as far as they are known."""
         known: dict[str, float | None] = {
             "head": self.head.last, "behind": max(0, self.head.last - position),
             "etcd_members_up": sum(one.answers for one in self.members),
@@ -322,14 +327,14 @@ class EtcdLog(log.Log):
         return {name: value for name, value in known.items() if value is not None}
 
     def sizes(self) -> dict[str, int | None]:
-        """The bytes of the greatest of etcd's databases, and the least quota."""
+        """The size of the largest of etcd's databases and the least quota, in bytes; None if not known."""
         answer = [one for one in self.members if one.answers]
         return {"bytes": max((one.bytes for one in answer), default=None),
                 "quota": min((one.quota for one in answer if one.quota), default=None)}
 
 
 def name_of(path: str) -> str:
-    """The name of the desk over a plan of this machine."""
+    """The name of the desk over a plan on this machine, from the host, the machine id and the path."""
     machine = b""
     with contextlib.suppress(OSError), open("/etc/machine-id", "rb") as file:
         machine = file.read()
@@ -337,7 +342,7 @@ def name_of(path: str) -> str:
 
 
 def known_entry(wanted: entry.Wanted, holder: KeyHolder) -> entry.Entry | None:
-    """The Entry for which a key stands, by what etcd has of it, or None where it is another statement's."""
+    """The Entry that has a key, by what etcd has of it, or None if it is another statement's."""
     text = wanted.text(holder.job)
     if text_sum(text) != holder.sum or holder.stream not in (None, wanted.stream):
         return None

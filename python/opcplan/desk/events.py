@@ -1,4 +1,4 @@
-"""Events as a server sends them: each entry once it is answered, and the state of the plan behind it."""
+"""Server-sent events: each entry once it is answered, and the state of the plan after it."""
 
 import asyncio
 import contextlib
@@ -12,28 +12,28 @@ from opcplan.plans.entry import Entry
 if TYPE_CHECKING:
     from opcplan.desk.core import Desk
 
-# entries that are told together
+# entries that are sent together
 PAGE = 500
-# seconds without an event until the reader is told that the desk is there
+# seconds without an event until the reader gets a comment, which shows that the desk is there
 QUIET = 15
-# names no state: entries are lacking here that the reader doesn't have, so it has to look at all anew
+# the tag of no state: this desk lacks entries that the reader doesn't have, so the reader has to load all again
 ANEW = "anew-0"
 
 
 class Events:
-    """Those who listen to a desk. Each has the number of the last entry that it was told, and gets what comes then."""
+    """The readers of a desk's events. Each has the number of the last entry that it got, and gets those after it."""
 
     def __init__(self, desk: "Desk") -> None:
         self.desk, self.is_closed = desk, False
         self.listeners: set[asyncio.Event] = set()
 
     def wake(self) -> None:
-        """Has all listeners look for what came."""
+        """Wakes all readers to look for new entries."""
         for listener in self.listeners:
             listener.set()
 
     def close(self) -> None:
-        """Has all listeners end, once they have all that there is."""
+        """Ends all readers, once they have all entries."""
         self.is_closed = True
         self.wake()
 
@@ -55,8 +55,8 @@ class Events:
         return response
 
     async def follow(self, response: web.StreamResponse, listener: asyncio.Event, since: int | None) -> None:
-        """Tells what the log has behind a position, and what comes; after each entry behind which none waits, the
-        state."""
+        """Sends the entries after a position, and those that follow; and the state after each entry after which none
+        waits."""
         last = self.desk.position if since is None else since
         if last < self.desk.log.begins:
             await response.write(self.state_text(ANEW))
@@ -76,14 +76,14 @@ class Events:
                 await self.wait(response, listener)
 
     async def wait(self, response: web.StreamResponse, listener: asyncio.Event) -> None:
-        """Waits for the next entry, and now and then says that the desk is there."""
+        """Waits for the next entry; after QUIET seconds sends a comment."""
         with contextlib.suppress(asyncio.TimeoutError):
             await asyncio.wait_for(listener.wait(), QUIET)
             return
         await response.write(b": the desk is there\n\n")
 
     def state_text(self, tag: str | None = None) -> bytes:
-        """The event that names the state of the plan."""
+        """The event with the tag of the plan's state, or with this tag."""
         values = {"tag": tag or self.desk.tag(), "position": self.desk.position}
         return f"event: state\ndata: {json.dumps(values)}\n\n".encode()
 
@@ -94,10 +94,10 @@ def entry_text(one: Entry) -> bytes:
 
 
 def since_of(request: web.Request) -> int | None:
-    """The position behind which a reader goes on, or None. Raises HTTPBadRequest."""
+    """The position after which a reader goes on, or None. Raises HTTPBadRequest."""
     text = request.headers.get("Last-Event-ID") or request.query.get("since")
     if text is None:
         return None
     if not text.isascii() or not text.isdigit() or len(text) > 15:
-        raise web.HTTPBadRequest(text="Last-Event-ID is the number of an entry\n")
+        raise web.HTTPBadRequest(text="`Last-Event-ID` or `since` must be the number of an entry\n")
     return int(text)

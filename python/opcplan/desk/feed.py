@@ -1,4 +1,4 @@
-"""How statements go through one queue into the log, and then to the kept opcplan, with what others appended."""
+"""How statements go through one queue into the log, and then to the planner, with what other desks appended."""
 
 import asyncio
 import collections
@@ -17,19 +17,18 @@ if TYPE_CHECKING:
     from opcplan.desk.core import Desk
 
 MOST_QUEUED = 5000
-# of changes that are put into the log together
+# the most bytes of changes that are appended together
 BATCH_BYTES = 1 << 19
-# seconds in which the log has to take a change
+# seconds in which the log has to accept a change
 PATIENCE = 10.0
-# seconds until what can't be taken for now is tried again
+# seconds until the log is tried again
 REST = 0.1
-# so many times as long as the last question or copy took, changes go first; who waits for them waits so many seconds
-# at most
+# changes go first for so many times as long as the last question or copy took, but for at most so many seconds
 SHARE, MOST_HELD = 3, 10.0
 
 
 class Turns:
-    """The turns of what isn't a change. As long as changes are under way, it has a quarter of the time."""
+    """The turns of questions or copies. While changes are in progress, they have a quarter of the time."""
 
     def __init__(self, feed: "Feed") -> None:
         self.feed = feed
@@ -37,7 +36,7 @@ class Turns:
 
     @contextlib.asynccontextmanager
     async def next(self) -> AsyncIterator[None]:
-        """A turn; before it, changes go three times as long as the last one took."""
+        """A context for a turn; before it, changes have three times as long as the last turn took."""
         until = self.over + min(SHARE * self.took, MOST_HELD)
         while self.feed.desk.is_busy and time.monotonic() < until and not self.feed.is_closing:
             await asyncio.sleep(REST / 20)
@@ -50,8 +49,8 @@ class Turns:
 
 
 class Feed:
-    """The queues of a desk, and the two pumps that empty them: that of changes and of questions which wait for changes,
-    and that of other questions."""
+    """The queues of a desk, and the two loops that empty them: one for changes and for questions that wait for changes,
+    and one for other questions."""
 
     def __init__(self, desk: "Desk") -> None:
         self.desk, self.log = desk, desk.log
@@ -60,18 +59,18 @@ class Feed:
         self.questions: collections.deque[Submission] = collections.deque()
         self.wake, self.question_wake, self.hold = asyncio.Event(), asyncio.Event(), asyncio.Lock()
         self.is_closing: bool = False
-        self.asking: list[Submission] = []  # the question that opcplan has
+        self.asking: list[Submission] = []  # the question that opcplan is answering
         self.turns, self.copies = Turns(self), Turns(self)  # of questions, and of copies of the plan
         self.copying = asyncio.Lock()
         self.pumps: list[asyncio.Task[None]] = []
 
     def start(self) -> None:
-        """Begins."""
+        """Starts the loops."""
         self.log.start(self.wake.set, self.desk.planner.halt)
         self.pumps = [asyncio.create_task(one) for one in (self.pump(), self.pump_questions())]
 
     async def close(self) -> None:
-        """Ends what waits."""
+        """Finishes what waits, or drops it if the planner is stopped."""
         self.is_closing = True
         self.wake.set()
         self.question_wake.set()
@@ -79,20 +78,20 @@ class Feed:
             await asyncio.wait(self.pumps, timeout=REST)
             if self.desk.planner.stopped:
                 for pump in self.pumps:
-                    pump.cancel()  # what it holds stands in the log
+                    pump.cancel()  # its changes are in the log
 
     def put(self, ask: Submission, is_alone: bool = False) -> None:
         """Puts a statement into the queue of changes, or that of questions alone. Raises StatementRejected."""
         if self.is_closing:
-            raise StatementRejected(503, "the desk is being ended")
+            raise StatementRejected(503, "the desk is shutting down; nothing was done")
         if self.desk.planner.stopped:
             raise StatementRejected(503, f"the desk is stopped: {self.desk.planner.stopped}")
         if len(self.queue) + len(self.questions) >= MOST_QUEUED:
-            raise StatementRejected(503, "too much is waiting; try again")
+            raise StatementRejected(503, "too many statements are waiting; nothing was done; try again")
         (self.questions if is_alone else self.queue).append(ask)
         (self.question_wake if is_alone else self.wake).set()
 
-    # What goes to the log, and then to the planner.
+    # Statements go to the log, and then to the planner.
 
     async def pump(self) -> None:
         """Empties the queue of changes, until the desk closes."""
@@ -127,13 +126,13 @@ class Feed:
 
     @contextlib.asynccontextmanager
     async def at_rest(self) -> AsyncIterator[None]:
-        """A context in which no statement is in flight, or opcplan is stopped: for one copy of the plan at a time."""
+        """A context in which no statement is in flight, or the planner is stopped. There is one at a time."""
         async with self.copying, self.copies.next(), self.hold:
             await self.desk.planner.idle_or_stopped()
             yield
 
     async def answered(self, ask: Submission) -> None:
-        """Gives a question over, and waits until it is answered."""
+        """Sends the planner a question, and waits for the answer."""
         future, self.asking = ask.wait(), [ask]
         await self.give([ask])
         await asyncio.wait([future])
@@ -142,14 +141,14 @@ class Feed:
         self.asking = []
 
     async def give(self, asks: Sequence[Submission]) -> None:
-        """Gives statements over to the planner."""
+        """Sends the planner statements."""
         for ask in asks:
             await self.desk.planner.room.wait()
             async with self.hold:
                 await self.desk.planner.give(ask)
 
     async def take_others(self) -> bool:
-        """Gives over what others appended; whether all of it was."""
+        """Sends the planner what other desks appended; whether it got all."""
         try:
             while entries := await self.log.others():
                 if self.desk.planner.stopped:
@@ -163,11 +162,12 @@ class Feed:
         return True
 
     def log_is_late(self) -> bool:
-        """Whether those who wait have waited long enough for the log."""
+        """Whether the first statement in the queue has waited too long for the log."""
         return bool(self.queue) and self.queue[0].begun + PATIENCE < time.monotonic()
 
     async def next_batch(self) -> list[Submission]:
-        """The next statements; one with a condition stands alone, and only where its state is that of the plan."""
+        """The next statements of the queue. One with a condition comes alone, and is rejected unless the plan is in its
+        state."""
         batch: list[Submission] = []
         size = 0
         while self.queue and self.queue[0].condition is None and len(batch) < log.MOST_TOGETHER and size < BATCH_BYTES:
@@ -181,10 +181,10 @@ class Feed:
                 return []  # what others appended comes first
             await self.desk.planner.idle_or_stopped()
             if not (self.desk.state.is_state(ask.asked_tag) or await self.is_done(ask)):
-                why = StatementRejected(412, "the plan has changed since it was looked at; nothing was done")
+                why = StatementRejected(412, "the plan is no longer in the state that If-Match names; nothing was done")
         except LogUnwritable as error:
             why = StatementRejected(503, f"{error}; nothing was done")
-        if not self.queue or self.queue[0] is not ask:  # it was sent away meanwhile
+        if not self.queue or self.queue[0] is not ask:  # it was rejected meanwhile
             return []
         self.queue.popleft()
         if why is not None:
@@ -192,7 +192,7 @@ class Feed:
         return [] if why is not None else [ask]
 
     async def is_done(self, ask: Submission) -> bool:
-        """Whether a change stands in the log under its key, and is answered as it was. Raises Unwritable."""
+        """Whether a change is in the log under its key, and gets its old answer. Raises LogUnwritable."""
         if ask.is_again or ask.wanted is None or ask.wanted.key is None:
             return ask.is_again
         known = self.known_since(ask) or (await self.log.used([ask.wanted])).get(0)
@@ -202,7 +202,7 @@ class Feed:
         return True
 
     async def enter(self, batch: Sequence[Submission]) -> bool:
-        """Whether the changes of a batch stand in the log; where they don't, those who wait are told."""
+        """Appends the changes of a batch to the log; whether it did. Otherwise their callers get the reason."""
         changes = [ask for ask in batch if ask.is_change]
         if not changes:
             return True
@@ -222,10 +222,10 @@ class Feed:
         return True
 
     async def not_entered(self, batch: Sequence[Submission], changes: Sequence[Submission], why: Exception) -> None:
-        """Has the statements of a batch, none of which stands in the log, tried again, or sends away who waits."""
+        """Puts the statements of a batch back into the queue, or rejects them; none of them is in the log."""
         if isinstance(why, log.AppendUncertain):
             self.drop_all(batch, StatementRejected(503, str(why)))
-            self.drop_queue(StatementRejected(503, "what was sent before isn't answered; nothing was done"))
+            self.drop_queue(StatementRejected(503, "an earlier change has no answer yet; nothing was done"))
             return
         if isinstance(why, LogUnwritable):
             self.drop_all(batch, StatementRejected(503, f"{why}; nothing was done"))
@@ -238,7 +238,7 @@ class Feed:
         for place, one in found.items():
             ask = changes[place]
             if ask not in self.queue:
-                continue  # it went with one of its stream
+                continue  # it was rejected with one of its stream
             assert ask.wanted is not None
             if one is None or one.text != ask.wanted.text(one.job):
                 self.queue.remove(ask)
@@ -247,14 +247,14 @@ class Feed:
                 ask.stands_for(one)
 
     def is_used(self, ask: Submission) -> bool:
-        """Whether the key of a change stands for another stream by now, at another desk."""
+        """Whether the key of a change belongs to another stream by now, from another desk."""
         wanted = ask.wanted
         if wanted is None or wanted.key is None or wanted.stream is None:
             return False
         return self.log.stream_of(wanted.who, wanted.key.partition("#")[0]) not in (None, wanted.stream)
 
     def known_since(self, ask: Submission) -> Entry | None:
-        """The Entry that the key of a change stands for by now, at another desk, or None."""
+        """The Entry that has the key of a change by now, from another desk, or None."""
         if ask.wanted is None or ask.wanted.key is None:
             return None
         other = self.desk.state.known(ask.wanted.who, ask.wanted.key)
@@ -262,21 +262,21 @@ class Feed:
             return other.entry
         return self.log.find(ask.wanted.who, ask.wanted.key)
 
-    # Who is sent away.
+    # Rejections.
 
     def drop_queue(self, error: Exception) -> None:
-        """Sends all away who wait in the queue."""
+        """Rejects all that is in the queue."""
         queue, self.queue = list(self.queue), collections.deque()
         self.drop_all(queue, error)
 
     def drop_questions(self, error: Exception) -> None:
-        """Sends those away who wait for no change."""
+        """Rejects the questions that wait for no change."""
         while self.questions:
             self.drop(self.questions.popleft(), error)
 
     def drop_all(self, asks: Sequence[Submission], error: Exception) -> None:
-        """Sends those away who wait for statements that aren't in the log, and for what their streams have behind them:
-        nothing of a stream is done before what stands before it."""
+        """Rejects statements that aren't in the log, and what their streams have after them: no statement of a stream
+        is done before those in front of it."""
         while asks:
             for ask in asks:
                 self.drop(ask, error)
@@ -287,7 +287,7 @@ class Feed:
             self.queue, asks = left, broken
 
     def drop(self, ask: Submission, error: Exception) -> None:
-        """Sends those away who wait for a statement."""
+        """Rejects a statement."""
         for one in ask.streams:
             one.is_broken = True
         self.desk.forget(ask)

@@ -1,4 +1,4 @@
-"""Who may ask a desk for what: hosts, origins, an own header, tokens, users and roles."""
+"""Who may use a desk, and for what: hosts, origins, a header, tokens, users and roles."""
 
 import asyncio
 import contextlib
@@ -28,19 +28,20 @@ LOGIN_HEADER = "X-Forwarded-User"
 COOKIE, SESSION_SECONDS = "opcplan-desk", 12 * 3600
 MOST_SESSIONS = 10_000
 EVERYONE, NOBODY = "*", "nobody"
+NO_TOKEN = "the request has no token that this desk knows; send `Authorization: Bearer TOKEN`\n"
 Handler = Callable[[web.Request], Awaitable[web.StreamResponse]]
 Value = TypeVar("Value")
 
 
 class Bearer(NamedTuple):
-    """Who has a token, and what that one may."""
+    """The user who has a token, and that user's role."""
 
     who: str
     role: int
 
 
 class Caller(NamedTuple):
-    """Who asks, what that one may, and whether a browser's page may be behind it."""
+    """Who sent a request, with which role, and whether it may come from a browser's page."""
 
     who: str
     role: int
@@ -48,14 +49,14 @@ class Caller(NamedTuple):
 
 
 class Session(NamedTuple):
-    """The token that a cookie stands for, and until when, by the steady clock."""
+    """The hash of the token of a cookie, and until when the cookie is valid, by the monotonic clock."""
 
     digest: str
     until: float
 
 
 class Listing(NamedTuple, Generic[Value]):
-    """What a line lists under a name, or under the hash of a token."""
+    """What a line lists: the name of a user, or the hash of a token, and its value."""
 
     name: str
     value: Value
@@ -66,18 +67,19 @@ class InvalidAccessFile(Error):
 
 
 class Listed(Generic[Value]):
-    """A file of lines `NAME ROLE` or `HASH NAME ROLE`, read again where it changed; a faulty one lists nobody."""
+    """A file of users or tokens, whose lines have a `form`. It is read again when it changes; a faulty one lists
+    nobody. Raises InvalidAccessFile."""
 
-    def __init__(self, path: str, read: Callable[[Sequence[str]], Listing[Value]]) -> None:
-        self.path, self.read, self.wrong = path, read, ""
-        self.stamp: tuple[int, int, int] | None = None  # what changes where the file does
+    def __init__(self, path: str, form: str, read: Callable[[Sequence[str]], Listing[Value]]) -> None:
+        self.path, self.form, self.read, self.wrong = path, form, read, ""
+        self.stamp: tuple[int, int, int] | None = None  # differs once the file has changed
         self.found: dict[str, Value] = {}
         self.now()
         if self.wrong:
             raise InvalidAccessFile(self.wrong)
 
     def now(self) -> dict[str, Value]:
-        """What the file lists now."""
+        """What the file lists now; `wrong` says what is wrong with it."""
         try:
             stat = os.stat(self.path)
             stamp = stat.st_mtime_ns, stat.st_size, stat.st_ino
@@ -91,7 +93,7 @@ class Listed(Generic[Value]):
         return self.found
 
     def of_file(self) -> dict[str, Value]:
-        """What stands in the file. Raises InvalidAccessFile, OSError and UnicodeDecodeError."""
+        """What the file lists. Raises InvalidAccessFile, OSError and UnicodeDecodeError."""
         found = {}
         with open(self.path, encoding="utf-8") as file:
             for number, line in enumerate(file, 1):
@@ -101,7 +103,8 @@ class Listed(Generic[Value]):
                 try:
                     name, value = self.read(words)
                 except (ValueError, KeyError):
-                    raise InvalidAccessFile(f"line {number} isn't of the form that docs/use/DESK.md has") from None
+                    raise InvalidAccessFile(f"line {number} must be `{self.form}`, with the role read, operate or "
+                                            "plan") from None
                 found[name] = value
         return found
 
@@ -121,26 +124,26 @@ def token_line(words: Sequence[str]) -> Listing[Bearer]:
 
 
 class Guard:
-    """Says who asks and what that one may."""
+    """Finds who sent a request, and checks what that caller may do."""
 
     def __init__(self, given: Settings) -> None:
-        self.users = Listed(given.users, user_line) if given.users else None
-        self.tokens = Listed(given.tokens, token_line) if given.tokens else None
+        self.users = Listed(given.users, "USER ROLE", user_line) if given.users else None
+        self.tokens = Listed(given.tokens, "SHA256 USER ROLE", token_line) if given.tokens else None
         self.proxy = proxy_of(given.proxy)
         self.hosts = {host.lower() for host in given.hosts}
         self.sessions: dict[str, Session] = {}  # by cookie
         self.users_of: weakref.WeakKeyDictionary[asyncio.BaseTransport, int | None] = weakref.WeakKeyDictionary()
-        self.lesser: dict[routes.Route, Handler] = {}  # for callers who lack the role of the route
+        self.lesser: dict[routes.Route, Handler] = {}  # the handlers for callers who lack the role of a route
 
     def add_listener(self, host: str, port: int) -> None:
-        """Takes the names of an address that is listened on among the hosts."""
+        """Adds the names of an address of the desk to the hosts."""
         shown = f"[{host}]" if ":" in host else host
         names = {shown, "localhost"} if ipaddress.ip_address(host).is_loopback else {shown}
         self.hosts |= {f"{name}:{port}" for name in names}
 
     @web.middleware
     async def middleware(self, request: web.Request, handler: Handler) -> web.StreamResponse:
-        """Asks who the caller is and that this one has the role of the route, for each route alike."""
+        """Authenticates the caller and checks the role of the route, for every route."""
         caller = self.caller_of(request)
         request["who"], request["role"] = caller.who, caller.role
         route = routes.of_request(request)
@@ -155,53 +158,53 @@ class Guard:
         return response
 
     def caller_of(self, request: web.Request) -> Caller:
-        """Who asks. Raises HTTPForbidden and HTTPUnauthorized."""
+        """Who sent a request. Raises HTTPForbidden and HTTPUnauthorized."""
         peer = request.transport.get_extra_info("socket") if request.transport else None
         if peer is None:
             raise web.HTTPForbidden(text="the caller is gone\n")
         by_socket = peer.family == socket.AF_UNIX
         caller = self.by_socket(request, peer) if by_socket else self.by_address(request)
         if not caller.role and not is_open(request):
-            raise web.HTTPForbidden(text=f"{caller.who} may not use this desk\n")
+            raise web.HTTPForbidden(text=f"{caller.who} may not use this desk; list this user in the file of --users\n")
         self.check_origin(request, caller.is_page)
         if request.method not in ("GET", "HEAD") and request.headers.get(OWN_HEADER) != OWN_VALUE:
-            raise web.HTTPForbidden(text=f"a change has the header `{OWN_HEADER}: {OWN_VALUE}`\n")
+            raise web.HTTPForbidden(text=f"each request other than GET needs the header `{OWN_HEADER}: {OWN_VALUE}`\n")
         return caller
 
     def check_origin(self, request: web.Request, is_page: bool) -> None:
-        """Asks that a page of this desk asks, and not one of another place, or of another name for this one."""
+        """Checks that a request doesn't come from a page of another site, or of another name for this one."""
         if is_page and request.headers.get("Host", "").lower() not in self.hosts:
-            raise web.HTTPForbidden(text="the desk isn't known under the host of this request; --host names one\n")
+            raise web.HTTPForbidden(text="the desk doesn't know the host that this request names; add it with --host\n")
         origin = request.headers.get("Origin")
         if origin is not None and re.sub("^https?://", "", origin.lower()) not in self.hosts:
-            raise web.HTTPForbidden(text="a page of another origin asks\n")
+            raise web.HTTPForbidden(text="the request comes from a page of another origin; add that host with --host\n")
 
     # By a Unix socket.
 
     def by_socket(self, request: web.Request, peer: socket.socket) -> Caller:
-        """Who asks by the socket. Raises HTTPUnauthorized."""
+        """Who sent a request to the socket. Raises HTTPUnauthorized."""
         uid = peers.of_socket(peer)
         who = peers.name_of(uid)
         if self.proxy.user is not None and who == self.proxy.user:
             name = request.headers.get(LOGIN_HEADER, "")
             if not re.fullmatch(r"[!-~]{1,100}", name) or name == EVERYONE:
-                raise web.HTTPUnauthorized(text=f"the proxy names no user by {LOGIN_HEADER}\n")
+                raise web.HTTPUnauthorized(text=f"the proxy must name a user in the header {LOGIN_HEADER}\n")
             return Caller(name, self.role_of(name, 0), True)
         return Caller(who, self.role_of(who, PLAN if peers.is_own(uid) else 0), False)
 
     def role_of(self, who: str, usual: int) -> int:
-        """The role of a user by the file of users, 0 where there is none."""
+        """The role of a user by the file of users, else `usual`, else that of everyone; 0 if there is none."""
         listed = self.users.now() if self.users else {}
         return listed.get(who) or usual or listed.get(EVERYONE, 0)
 
     # By an address.
 
     def by_address(self, request: web.Request) -> Caller:
-        """Who asks by TCP; a browser's page may be behind it. Raises HTTPForbidden and HTTPUnauthorized."""
+        """Who sent a request by TCP, perhaps from a browser's page. Raises HTTPForbidden and HTTPUnauthorized."""
         remote = ipaddress.ip_address((request.remote or "").partition("%")[0])
         remote = getattr(remote, "ipv4_mapped", None) or remote
         if not remote.is_loopback and remote != self.proxy.address:
-            raise web.HTTPForbidden(text="this address isn't that of the proxy\n")
+            raise web.HTTPForbidden(text="from other machines the desk accepts requests of the proxy only (--proxy)\n")
         if self.tokens is None:
             user = self.user_of(request)
             return Caller(user.who, self.role_of(user.who, user.role), True)
@@ -209,32 +212,32 @@ class Guard:
         if found is None and is_open(request):
             return Caller(NOBODY, 0, True)
         if found is None:
-            raise web.HTTPUnauthorized(text="a token is wanted: `Authorization: Bearer TOKEN`\n",
-                                       headers={"WWW-Authenticate": "Bearer"})
+            raise web.HTTPUnauthorized(text=NO_TOKEN, headers={"WWW-Authenticate": "Bearer"})
         return Caller(found.who, found.role, True)
 
     def meet(self, transport: asyncio.BaseTransport) -> None:
-        """Notes whose connection begins: once it ends, the system doesn't tell any more."""
+        """Notes whose connection begins: once it has ended, the system doesn't say it any more."""
         peer = transport.get_extra_info("socket")
         if self.tokens is None and peer is not None and peer.family != socket.AF_UNIX:
             with contextlib.suppress(OSError):
                 self.users_of[transport] = peers.of_address(peer)
 
     def user_of(self, request: web.Request) -> Bearer:
-        """The user of this machine that asks by a connection, and the role where the file of users has none. Raises
+        """The user of this machine who has a connection, and the role if the file of users has none. Raises
         HTTPForbidden."""
         uid = None if request.transport is None else self.users_of.get(request.transport)
         if uid is None:
-            raise web.HTTPForbidden(text="this machine doesn't tell whose connection this is: take --tokens\n")
+            raise web.HTTPForbidden(text="this machine doesn't say whose connection this is; start the desk with "
+                                     "--tokens\n")
         return Bearer(peers.name_of(uid), PLAN if peers.is_own(uid) else 0)
 
     def of_token(self, request: web.Request) -> Bearer | None:
-        """The bearer of the token that a request has, or None."""
+        """The bearer of a request's token, or None."""
         kind, _, token = request.headers.get("Authorization", "").partition(" ")
         return self.of_text(token.strip()) if kind.lower() == "bearer" else None
 
     def of_text(self, token: str) -> Bearer | None:
-        """A token's bearer, or None."""
+        """The bearer of a token, or None."""
         digest = hashlib.sha256(token.encode("utf-8", "surrogateescape")).hexdigest()
         found = None
         for known, bearer in (self.tokens.now() if self.tokens else {}).items():
@@ -243,7 +246,7 @@ class Guard:
         return found
 
     def of_session(self, request: web.Request) -> Bearer | None:
-        """Whose session a cookie is, as long as its token is listed, or None."""
+        """The bearer of a request's cookie, while its token is listed, or None."""
         session = self.sessions.get(request.cookies.get(COOKIE, ""))
         if self.tokens is None or session is None or time.monotonic() >= session.until:
             return None
@@ -252,12 +255,12 @@ class Guard:
     async def begin_session(self, request: web.Request) -> web.StreamResponse:
         """POST /session: a cookie in place of the token, for pages."""
         if self.tokens is None or self.of_token(request) is None:
-            raise web.HTTPUnauthorized(text="a token is wanted: `Authorization: Bearer TOKEN`\n")
+            raise web.HTTPUnauthorized(text=NO_TOKEN)
         token = request.headers["Authorization"].partition(" ")[2].strip()
         now, name = time.monotonic(), secrets.token_urlsafe(32)
         self.sessions = {one: held for one, held in self.sessions.items() if held.until > now}
         if len(self.sessions) >= MOST_SESSIONS:
-            raise web.HTTPServiceUnavailable(text="there are too many sessions\n")
+            raise web.HTTPServiceUnavailable(text="there are too many sessions; try again later\n")
         digest = hashlib.sha256(token.encode("utf-8", "surrogateescape")).hexdigest()
         self.sessions[name] = Session(digest, now + SESSION_SECONDS)
         response = web.json_response({"who": request["who"], "role": role_name(request["role"])})
@@ -266,7 +269,7 @@ class Guard:
         return response
 
     async def end_session(self, request: web.Request) -> web.StreamResponse:
-        """DELETE /session: the cookie is worth nothing from now on."""
+        """DELETE /session: the cookie is no longer valid."""
         self.sessions.pop(request.cookies.get(COOKIE, ""), None)
         response = web.Response(status=204)
         response.del_cookie(COOKIE)
@@ -274,7 +277,7 @@ class Guard:
 
 
 def is_open(request: web.Request) -> bool:
-    """Whether a request is one that a caller without a token is refused by the role alone, if at all."""
+    """Whether a caller without a token gets as far as the role of the request's route."""
     route = routes.of_request(request)
     return route is not None and route.is_open
 
@@ -285,14 +288,14 @@ def role_name(role: int) -> str:
 
 
 class Proxy(NamedTuple):
-    """The address, or the user, of the proxy that is named."""
+    """The proxy that --proxy names: its address, or its user."""
 
     address: ipaddress.IPv4Address | ipaddress.IPv6Address | None = None
     user: str | None = None
 
 
 def proxy_of(text: str | None) -> Proxy:
-    """The Proxy that is named."""
+    """The Proxy of a text."""
     if text is None:
         return Proxy()
     try:
@@ -302,6 +305,6 @@ def proxy_of(text: str | None) -> Proxy:
 
 
 def needed(request: web.Request, role: int, what: str) -> None:
-    """Asks that the caller has a role at least. Raises HTTPForbidden."""
+    """Checks that the caller has at least a role. Raises HTTPForbidden."""
     if request["role"] < role:
-        raise web.HTTPForbidden(text=f"{request['who']} may not {what}: it takes the role {role_name(role)}\n")
+        raise web.HTTPForbidden(text=f"{request['who']} may not {what}: that needs the role {role_name(role)}\n")

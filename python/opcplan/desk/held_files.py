@@ -1,4 +1,4 @@
-"""The files of a desk: the plan and the journal, each open and locked, which have to keep their places."""
+"""The files of a desk: the plan and the journal, open and locked, which must stay where they are."""
 
 import contextlib
 import os
@@ -9,12 +9,12 @@ from opcplan.plans import locks
 
 
 class FileReplaced(Error):
-    """Another file has the place of one of a desk's files, or none."""
+    """One of a desk's files was removed, or another file has taken its place."""
 
 
 class HeldFiles:
-    """A plan and a journal that a desk holds open, by their paths. SQLite's logs beside them count as soon as they are
-    there; that of the plan goes with each life of opcplan."""
+    """A plan and a journal that a desk holds open. SQLite's logs (`-wal`) beside them count too, once they are there;
+    that of the plan may be a new file for each process of opcplan."""
 
     def __init__(self, plan: str, journal: str) -> None:
         self.plan = os.path.realpath(plan)
@@ -41,7 +41,7 @@ class HeldFiles:
             yield
 
     def drop_unused(self) -> None:
-        """Removes a journal that was made here and that nothing was put into: no desk came of it."""
+        """Removes a journal that was made here and is empty: the desk didn't start."""
         seen = os.fstat(self.numbers[self.journal])
         if self.is_new and not seen.st_size and place_of(self.journal) == (seen.st_dev, seen.st_ino):
             os.unlink(self.journal)
@@ -53,31 +53,31 @@ class HeldFiles:
         self.numbers = {}
 
     def forget_log(self) -> None:
-        """A life of opcplan begins or is over: its log may be another file from now on."""
+        """Notes that opcplan starts or has ended: the plan's log may be another file from now on."""
         self.logs.pop(self.plan, None)
 
     def moved(self) -> str:
-        """What is wrong with the places of the files, or nothing."""
+        """Which file isn't in its place any more, as a sentence, or nothing."""
         for path, number in self.numbers.items():
             own, log = os.fstat(number), place_of(f"{path}-wal")
             if not own.st_nlink:
-                return f"{path} was taken away while the desk ran"
+                return f"{path} was removed while the desk ran"
             if place_of(path) != (own.st_dev, own.st_ino):
-                return f"another file has the place of {path}"
+                return f"another file has taken the place of {path}"
             if self.logs.get(path, log) != log:
-                return f"the log of {path} was taken away while the desk ran"
+                return f"{path}-wal was removed or replaced while the desk ran"
             if log is not None:
                 self.logs[path] = log
         return ""
 
     def check(self) -> None:
-        """Asks that the files have their places. Raises FileReplaced."""
+        """Checks that the files are in their places. Raises FileReplaced."""
         if why := self.moved():
             raise FileReplaced(why)
 
 
 def place_of(path: str) -> tuple[int, int] | None:
-    """Device and inode of a file, or None where there is none."""
+    """Device and inode of a file, or None if there is none."""
     try:
         found = os.stat(path)
     except OSError:

@@ -1,4 +1,4 @@
-"""The ends of the logs of jobs at a desk: an agent gives them, by serial and try, and who may operate reads them."""
+"""The ends of jobs' logs at a desk: agents send them, by serial and try, and users who may operate read them."""
 
 import asyncio
 import re
@@ -14,7 +14,7 @@ SERIAL, TRY = re.compile(routes.SERIAL), re.compile(routes.TRY)
 
 
 class JobTails:
-    """Answers what is asked of the logs in a folder."""
+    """The handlers of the requests for logs, over a folder."""
 
     def __init__(self, folder: str) -> None:
         self.logs = JobLogs(folder)
@@ -24,17 +24,17 @@ class JobTails:
         serial, most = serial_of(request), job_logs.MOST_OF_A_TRY
         attempt = request.query.get("try", "1")
         if not TRY.fullmatch(attempt):
-            raise StatementRejected(400, f"`try` is a number from 1 to {job_logs.LAST_TRY}; nothing was kept")
+            raise StatementRejected(400, f"`try` must be a number from 1 to {job_logs.LAST_TRY}; nothing was stored")
         try:
             data = await connections.body_of(request, most)
         except web.HTTPRequestEntityTooLarge:
             data = b" " * (most + 1)
         if len(data) > most:
-            raise StatementRejected(413, f"the end of a log has {most >> 10} KiB at most; nothing was kept")
+            raise StatementRejected(413, f"the end of a log may have at most {most >> 10} KiB; nothing was stored")
         try:
             await asyncio.to_thread(self.logs.put, serial, int(attempt), data)
         except OSError as error:
-            raise StatementRejected(507, f"the log can't be kept: {error.strerror}; the agent still has it") from None
+            raise StatementRejected(507, f"the log can't be stored: {error.strerror}; the agent still has it") from None
         return web.Response(status=204)
 
     async def get(self, request: web.Request) -> web.StreamResponse:
@@ -53,5 +53,5 @@ def serial_of(request: web.Request) -> int:
     """The serial that a request names. Raises StatementRejected."""
     found = request.match_info["serial"]
     if not SERIAL.fullmatch(found):
-        raise StatementRejected(400, f"a serial is a number from 1 to {job_logs.LAST_SERIAL}")
+        raise StatementRejected(400, f"the serial must be a number from 1 to {job_logs.LAST_SERIAL}")
     return int(found)

@@ -13,25 +13,25 @@ from opcplan.errors import Error
 
 
 class DeskNotStarted(Error):
-    """Why a desk doesn't begin."""
+    """Why a desk doesn't start, or had to end."""
 
 
 class Listener(NamedTuple):
-    """A socket that is listened on, and its name."""
+    """A socket on which the desk listens, and its name for messages."""
 
     bound: socket.socket
     name: str
 
 
 def listeners_of(given: Settings, the_guard: Guard) -> list[Listener]:
-    """The sockets that are listened on. Raises DeskNotStarted."""
+    """Opens the sockets on which the desk listens. Raises DeskNotStarted."""
     found = []
     if given.listen:
         host, port = given.listen
         try:
             listener = socket.create_server((host, port), family=socket.AF_INET6 if ":" in host else socket.AF_INET)
         except OSError as error:
-            raise DeskNotStarted(f"{host}:{port}: it can't be listened on: {error.strerror}") from None
+            raise DeskNotStarted(f"{host}:{port}: the desk can't listen on this address: {error.strerror}") from None
         port = listener.getsockname()[1]
         the_guard.add_listener(host, port)
         found.append(Listener(listener, f"http://[{host}]:{port}" if ":" in host else f"http://{host}:{port}"))
@@ -41,7 +41,7 @@ def listeners_of(given: Settings, the_guard: Guard) -> list[Listener]:
 
 
 def by_socket(path: str) -> socket.socket:
-    """A Unix socket at a path, which whoever may be may reach: the guard asks who it is. Raises DeskNotStarted."""
+    """A Unix socket at a path. Every user may connect: the guard checks who it is. Raises DeskNotStarted."""
     listener = socket.socket(socket.AF_UNIX, socket.SOCK_STREAM)
     try:
         if os.path.lexists(path):
@@ -51,15 +51,16 @@ def by_socket(path: str) -> socket.socket:
         os.chmod(path, 0o666)
         listener.listen(128)
     except OSError as error:
-        raise DeskNotStarted(f"{path}: it can't be listened on: {error.strerror or error}") from None
+        raise DeskNotStarted(f"{path}: the desk can't listen on this socket: {error.strerror or error}") from None
     return listener
 
 
 def check_left(path: str) -> None:
-    """Asks that what stands at a path is a socket that nobody listens on. Raises DeskNotStarted."""
+    """Checks that the file at a path is a socket on which nobody listens. Raises DeskNotStarted."""
     if not stat.S_ISSOCK(os.lstat(path).st_mode):
-        raise DeskNotStarted(f"{path}: it is no socket; name another path")
+        raise DeskNotStarted(f"{path}: this file isn't a socket; name another path with --socket")
     with socket.socket(socket.AF_UNIX, socket.SOCK_STREAM) as one:
         with contextlib.suppress(ConnectionRefusedError, FileNotFoundError):
             one.connect(path)
-            raise DeskNotStarted(f"{path}: another program listens on it")
+            raise DeskNotStarted(f"{path}: another program listens on this socket; end it, or name another path with "
+                                 "--socket")

@@ -1,6 +1,7 @@
-"""The lists that a desk shows as lines of JSON. Each is made once, and given again while nothing changes.
+"""The lists of `GET /rows`, as lines of JSON. Each is made once, and sent again while the plan doesn't change.
 
-A long one becomes JSON in a process of its own, and goes out from a file, so that callers aren't held up meanwhile."""
+A process of its own turns a long list into JSON, and the desk sends it from a file, so that other callers don't
+wait."""
 
 import asyncio
 import contextlib
@@ -19,16 +20,16 @@ if TYPE_CHECKING:
     from opcplan.desk.planner import Submission
 
 PROCESS = [sys.executable, "-E", "-S", "-B", "-m", "opcplan.desk.rows_process"]
-# bytes of rows that become JSON here: a millisecond or two
+# the most bytes of rows that this process turns into JSON: it takes a millisecond or two
 SHORT = 1 << 16
-# lists that are kept, and their bytes
+# the most lists in the cache, and the most bytes of them
 MOST, MOST_BYTES = 64, 200 << 20
-# seconds that a process may take
+# the longest time of a process, in seconds
 LONGEST = 300
 
 
 class ListContent(NamedTuple):
-    """A list as lines of JSON: in memory, or in a file where it is long; and the state of the plan that it shows."""
+    """A list as lines of JSON, in memory or, if it is long, in a file; and the state of the plan that it shows."""
 
     tag: str
     position: int
@@ -38,28 +39,28 @@ class ListContent(NamedTuple):
 
 
 class CachedList(NamedTuple):
-    """A list that is made, or is in the making, and the question by which opcplan shows it."""
+    """A list that is made or being made, and the question by which opcplan prints it."""
 
     ask: "Submission"
     shown: asyncio.Task[ListContent]
 
     @property
     def size(self) -> int:
-        """How many bytes are kept of it, in memory or on the disk."""
+        """How many bytes it takes, in memory or on the disk."""
         return self.ask.row_bytes + (self.shown.result().size if self.shown.done() else 0)
 
 
 class Lists:
-    """The lists of a desk."""
+    """The cache of a desk's lists."""
 
     def __init__(self, desk: "Desk") -> None:
         self.desk = desk
-        self.asks: dict[bytes, Submission] = {}  # by statement: what opcplan was asked, or is to be
+        self.asks: dict[bytes, Submission] = {}  # by statement: the question to opcplan
         self.made: dict[rows.Selection, CachedList] = {}
         self.callers: weakref.WeakValueDictionary[str, asyncio.Lock] = weakref.WeakValueDictionary()
 
     async def shown(self, who: str, selection: rows.Selection) -> ListContent:
-        """A list for a caller, who has one made at a time. Raises StatementRejected and PlannerStopped."""
+        """A list for a caller; one list of a caller is made at a time. Raises StatementRejected and PlannerStopped."""
         lock = self.callers[who] = self.callers.get(who) or asyncio.Lock()
         async with lock:
             made = self.made.get(selection)
@@ -83,13 +84,13 @@ class Lists:
         return ask
 
     def settle(self, selection: rows.Selection, made: CachedList) -> None:
-        """A list is made, or can't be: then the next caller has it tried again."""
+        """Drops a list that couldn't be made, so that the next request tries again."""
         if (made.shown.cancelled() or made.shown.exception()) and self.made.get(selection) is made:
             del self.made[selection]
             self.forget(made.ask)
 
     def drop_oldest(self) -> None:
-        """Lets go of lists where they are many."""
+        """Drops the oldest lists if there are too many."""
         size = sum(made.size for made in self.made.values())
         while self.made and (len(self.made) >= MOST or size > MOST_BYTES):
             oldest = self.made.pop(next(iter(self.made)))
@@ -97,22 +98,22 @@ class Lists:
             self.forget(oldest.ask)
 
     def forget(self, ask: "Submission") -> None:
-        """A question isn't asked any more, or its answer isn't kept."""
+        """Drops a question."""
         if ask.text is not None and self.asks.get(ask.text) is ask:
             del self.asks[ask.text]
 
     def changed(self) -> None:
-        """The plan has changed: what was shown before isn't given any more. What isn't answered yet has the change."""
+        """Drops the lists from before a change. A question without an answer will have the change, and stays."""
         self.asks = {text: ask for text, ask in self.asks.items() if ask.reply is None}
         self.made = {selection: made for selection, made in self.made.items() if made.ask.reply is None}
 
     def clear(self) -> None:
-        """Nothing is kept."""
+        """Drops all."""
         self.asks, self.made = {}, {}
 
 
 async def shown_of(ask: "Submission", selection: rows.Selection) -> ListContent:
-    """What a list shows, once opcplan has answered. Raises StatementRejected and PlannerStopped."""
+    """The content of a list, once opcplan has answered. Raises StatementRejected and PlannerStopped."""
     await ask.wait()
     if ask.wrong is not None:
         raise StatementRejected(503, ask.wrong)
@@ -121,13 +122,13 @@ async def shown_of(ask: "Submission", selection: rows.Selection) -> ListContent:
         if ask.row_bytes <= SHORT:
             data = b"".join(map(selection.lines, ask.pieces()))
             return ListContent(tag, ask.position, len(data), data)
-        file = tempfile.TemporaryFile(prefix="desk-")  # it goes with the last who reads it
+        file = tempfile.TemporaryFile(prefix="desk-")  # it is gone once nobody reads it any more
         await turned(ask.number(), file.fileno(), selection)
         return ListContent(tag, ask.position, os.fstat(file.fileno()).st_size, file=file)
     except rows.InvalidSelection as why:
         raise StatementRejected(503, str(why)) from None
     except OSError as error:
-        raise StatementRejected(503, f"its rows can't be kept: {error.strerror}") from None
+        raise StatementRejected(503, f"the rows of the list can't be stored: {error.strerror}; try again") from None
 
 
 async def turned(lines: int, json: int, selection: rows.Selection) -> None:
@@ -137,12 +138,12 @@ async def turned(lines: int, json: int, selection: rows.Selection) -> None:
     try:
         _, said = await asyncio.wait_for(process.communicate(), LONGEST)
     except asyncio.TimeoutError:
-        raise StatementRejected(503, "the list takes too long; try again") from None
+        raise StatementRejected(503, "making the list took too long; try again") from None
     finally:
         if process.returncode is None:
             with contextlib.suppress(ProcessLookupError):
                 process.kill()
     if process.returncode:
         message = said.decode("utf-8", "replace").strip().split("\n")[-1]
-        raise StatementRejected(503, "the list can't be made: "
+        raise StatementRejected(503, "the desk can't make the list: "
                                 f"{message or f'its process ended with status {process.returncode}'}")

@@ -1,4 +1,4 @@
-"""Of which parts the live page and the page that asks for a token are put together."""
+"""The parts of the live page, and of the page that asks for a token."""
 
 from collections.abc import Sequence
 
@@ -12,13 +12,13 @@ MORE = "connect-src 'self'; "
 
 
 def policy(styles: Sequence[str], scripts: Sequence[str]) -> str:
-    """What a browser lets a page of these parts do, as its header says it."""
+    """The Content-Security-Policy of a page of these parts."""
     alone = "frame-ancestors 'none'; base-uri 'none'; form-action 'none'"
     return f"{page_html.policy_of(styles, scripts, MORE)}; {alone}"
 
 
 def sign_in() -> str:
-    """The page that asks for a token; it says nothing of the plan."""
+    """The page that asks for a token. It has nothing of the plan."""
     return page_html.filled("sign_in.html", {
         "policy": page_html.policy_of(SIGN_STYLES, SIGN_SCRIPTS, MORE),
         "style": page_html.joined(SIGN_STYLES), "script": page_html.joined(SIGN_SCRIPTS)})

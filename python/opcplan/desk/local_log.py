@@ -9,12 +9,12 @@ from opcplan.plans.journal import Journal, JournalReply
 
 
 class LocalLog(log.Log):
-    """The log of a desk that shares its plan with no other."""
+    """The log of a desk that shares its plan with no other desk."""
 
     def __init__(self, journal: Journal) -> None:
         super().__init__(journal)
         self.known = journal.position()
-        self.begins = journal.first() - 1  # what was before is pruned, or a journal that is lost had it
+        self.begins = journal.first() - 1  # earlier entries were pruned, or were in a journal that is lost
         self.own = secrets.token_hex(4)
 
     @property

@@ -1,4 +1,4 @@
-"""Entries of a log as they stand in etcd, in the JSON of its gateway."""
+"""The form of a log's entries in etcd, in the JSON of its gateway."""
 
 import base64
 import hashlib
@@ -10,7 +10,7 @@ from opcplan.plans import entry
 
 
 class Batch(NamedTuple):
-    """Entries that were appended together, with the mark of who appended them."""
+    """Entries that were appended together, and the mark of that append."""
 
     mark: str
     entries: list[entry.Entry]
@@ -22,8 +22,8 @@ class Batch(NamedTuple):
 
 
 class KeyHolder(NamedTuple):
-    """The entry that a caller's key stands for, as etcd has it: its number, job, time, the sum of its text, and the
-    digest of the stream, where there is one."""
+    """The entry that has a caller's key, as etcd has it: its number, job, time, the SHA-256 of its text, and the digest
+    of the stream, if there is one."""
 
     seq: int
     job: int
@@ -33,27 +33,27 @@ class KeyHolder(NamedTuple):
 
     @property
     def text(self) -> str:
-        """How it stands in etcd."""
+        """Its text in etcd."""
         return json.dumps({name: value for name, value in self._asdict().items() if value is not None})
 
 
 def in_base64(text: str | bytes) -> str:
-    """A text as etcd's gateway takes it."""
+    """A text as etcd's gateway has it."""
     return base64.b64encode(text if isinstance(text, bytes) else text.encode()).decode()
 
 
 def of_base64(text: str | None) -> bytes:
-    """What etcd's gateway has under a name, which it leaves out where that is empty."""
+    """The bytes of a field of etcd's gateway, which leaves out an empty one."""
     return base64.b64decode(text or "")
 
 
 def number_of(kv: Mapping[str, str]) -> int:
-    """The number with which a key ends."""
+    """The number at the end of a key."""
     return int(of_base64(kv["key"])[-10:])
 
 
 def batch_text(mark: str, entries: Sequence[entry.Entry]) -> str:
-    """Entries as they stand in etcd."""
+    """The text of entries in etcd."""
     values = [{"at": one.at, "who": one.who, "key": one.key, "job": one.job, **stream_value(one),
                **text_value(one.text)}
               for one in entries]
@@ -61,12 +61,12 @@ def batch_text(mark: str, entries: Sequence[entry.Entry]) -> str:
 
 
 def stream_value(one: entry.Entry) -> dict[str, str]:
-    """The stream that an entry's key stands for, as JSON has it where there is one."""
+    """The digest of an entry's stream as JSON has it, if there is one."""
     return {} if one.stream is None else {"stream": one.stream}
 
 
 def text_value(data: bytes) -> dict[str, str]:
-    """A statement's text as JSON has it, in the shorter of two ways."""
+    """A statement's text as JSON has it: as text, or as base64 if that is shorter."""
     try:
         text = data.decode("utf-8")
         if len(json.dumps(text, ensure_ascii=False).encode()) <= len(data) * 4 // 3 + 8:
@@ -87,16 +87,16 @@ def batch_of(kv: Mapping[str, str]) -> Batch:
 
 
 def holder_of(one: entry.Entry) -> KeyHolder:
-    """An entry as its key stands for it."""
+    """The KeyHolder of an entry."""
     return KeyHolder(one.seq, one.job, one.at, text_sum(one.text), one.stream)
 
 
 def holder_in(text: bytes) -> KeyHolder:
-    """What stands in etcd under a caller's key. Raises ValueError, TypeError."""
+    """The KeyHolder of a text in etcd. Raises ValueError and TypeError."""
     found = json.loads(text)
     return KeyHolder(**{name: found[name] for name in KeyHolder._fields if name in found})
 
 
 def text_sum(text: bytes) -> str:
-    """The sum by which a text is compared."""
+    """The SHA-256 of a text, in hexadecimal."""
     return hashlib.sha256(text).hexdigest()

@@ -1,4 +1,4 @@
-"""What ./plan log does to a log in etcd, and the lines that it shows."""
+"""What ./plan log does to a log in etcd, and the lines that it prints."""
 
 import os
 from collections.abc import Sequence
@@ -10,12 +10,12 @@ from opcplan.desk.store import State, Store
 from opcplan.desk.versions import CannotJoin, different, first_line, version_at, version_of
 from opcplan.plans import journal
 
-# seconds that a node may take to give its room back
+# seconds that a node may take to release space
 LONGEST = 120
 
 
 class Words(log_words.EtcdWords, Protocol):
-    """What ./plan log is asked."""
+    """The words of ./plan log."""
 
     @property
     def log(self) -> log_words.Where:
@@ -23,7 +23,7 @@ class Words(log_words.EtcdWords, Protocol):
 
     @property
     def begin(self) -> str | None:
-        """The plan behind which it begins."""
+        """The plan from which the log begins."""
 
     @property
     def journal(self) -> str | None:
@@ -31,30 +31,30 @@ class Words(log_words.EtcdWords, Protocol):
 
     @property
     def version(self) -> bool:
-        """Whether another program is to answer."""
+        """Whether the log is moved to another program."""
 
     @property
     def trim(self) -> bool:
-        """Whether old entries go."""
+        """Whether old entries are removed."""
 
     @property
     def keep(self) -> int:
-        """How many of the last ones stay at least."""
+        """How many of the last entries stay at least."""
 
     @property
     def forget(self) -> Sequence[str]:
-        """The desks that are gone for good."""
+        """The desks that are gone permanently."""
 
 
 async def done(given: Words, program: str | None) -> list[str]:
-    """The lines that say what was done, or what stands there; with `begin` and `version` by a program. Raises
-    CannotJoin and Unreadable."""
+    """The lines that say what was done, or what is there. `begin` and `version` need a program. Raises CannotJoin and
+    Unreadable."""
     async with bootstrap.opened(given.log, log_words.access_of(given)) as store:
         if given.begin and program:
             return await begin(store, given.begin, given.journal, program)
         state = await store.state()
         if state is None:
-            raise CannotJoin(f"{given.log}: there is no such log in etcd")
+            raise CannotJoin(f"{given.log}: there is no such log in etcd; check its name")
         if given.version and program:
             return await move_version(store, state, program)
         if given.trim:
@@ -63,10 +63,10 @@ async def done(given: Words, program: str | None) -> list[str]:
 
 
 async def shown(store: Store, state: State) -> list[str]:
-    """What stands there."""
+    """The lines about a log, its desks, and the nodes of etcd."""
     size = await store.size()
     lines = [f"log {store.where.name}", f"head {state.head.last}", f"first {state.first}", f"entries {size.entries}",
-             f"bytes {size.bytes}", f"begun behind {state.base}",
+             f"bytes {size.bytes}", f"begun after {state.base}",
              *(f"version from {since}: {', '.join(version.splitlines())}"
                for since, version in sorted(state.versions.items()))]
     for name, report in sorted((await store.desks()).items()):
@@ -78,7 +78,7 @@ async def shown(store: Store, state: State) -> list[str]:
 
 
 def of_member(one: Member) -> str:
-    """What is said of a node."""
+    """The line about a node."""
     if not one.answers:
         return f"doesn't answer: {one.why}"
     quota = f" of {one.quota}" if one.quota else ""
@@ -86,12 +86,13 @@ def of_member(one: Member) -> str:
 
 
 async def trim(store: Store, state: State, kept: int, gone_for_good: Sequence[str]) -> list[str]:
-    """Takes old entries away: none that a desk lacks which said how far it is and isn't gone for good, and never the
-    last one."""
+    """Removes old entries, but none that a desk lacks that has published its position and isn't gone permanently, and
+    never the last one. Raises CannotJoin."""
     reports = await store.desks()
     for name in gone_for_good:
         if name not in reports:
-            raise CannotJoin(f"no desk {name} said how far it is; `./plan log {store.where}` names those that did")
+            raise CannotJoin(f"{name}: no desk of this name has published its position; `./plan log {store.where}` "
+                             "lists those that have")
     for name in gone_for_good:
         await store.forget(name)
     desks = sorted(((name, one) for name, one in reports.items() if name not in gone_for_good),
@@ -101,15 +102,14 @@ async def trim(store: Store, state: State, kept: int, gone_for_good: Sequence[st
     batch = await store.holding(least) if least > state.first else None  # one that has older entries too stays whole
     before = batch.entries[0].seq if batch else state.first
     trimmed = await store.trim(state.first, before)
-    lines = [f"{before - state.first} entries went, in {trimmed.gone} batches; the first one is {before}"]
+    lines = [f"removed {before - state.first} entries, in {trimmed.gone} batches; the first entry is now {before}"]
     if least < wanted:
-        lines.append(f"desk {desks[0][0]} has no more than entry {least}, as of {desks[0][1].at}; what is behind "
-                     "that stays")
+        lines.append(f"desk {desks[0][0]} had only entries up to {least} at {desks[0][1].at}, so later entries stay")
     return lines + await room(store, trimmed.revision)
 
 
 async def room(store: Store, revision: int) -> list[str]:
-    """Has etcd forget what was before a revision, and its nodes give the room back."""
+    """Has etcd drop what was before a revision, and its nodes release the space."""
     etcd = store.etcd
     try:
         await etcd.at(etcd.endpoint, "/v3/kv/compaction", {"revision": str(revision), "physical": True}, LONGEST)
@@ -118,54 +118,53 @@ async def room(store: Store, revision: int) -> list[str]:
             raise
     lines = []
     for before in sorted([await etcd.standing(one) for one in etcd.endpoints], key=lambda one: one.leads):
-        endpoint = before.endpoint  # the leader comes last: a node answers nothing meanwhile
+        endpoint = before.endpoint  # the leader comes last: a node doesn't answer meanwhile
         try:
             await etcd.at(endpoint, "/v3/maintenance/defragment", {}, LONGEST)
             after = await etcd.standing(endpoint)
             lines.append(f"member {endpoint}: {before.bytes} bytes before, {of_member(after)} now")
         except (EtcdUnreachable, EtcdError) as why:
-            lines.append(f"member {endpoint}: it isn't defragmented: {why}")
+            lines.append(f"member {endpoint}: not defragmented: {why}; trim once more to try again")
     alarms = (await etcd.post("/v3/maintenance/alarm", {"action": "GET"})).get("alarms", ())
     for alarm in alarms:
         if alarm.get("alarm") == "NOSPACE":
             await etcd.post("/v3/maintenance/alarm", {**alarm, "action": "DEACTIVATE"})
-            lines.append("etcd takes changes again")
+            lines.append("etcd accepts changes again")
     return lines
 
 
 async def move_version(store: Store, state: State, program: str) -> list[str]:
-    """Has a program answer from the next entry on."""
+    """Moves the log to a program from the next entry on. Raises CannotJoin."""
     version = version_of(program)
     old = version_at(state.versions, state.head.last + 1)
     if old == version:
-        return [f"the log is answered by {first_line(version)} already"]
+        return [f"{first_line(version)} answers the log already"]
     while not await store.move_version(state.head, version):
         state = await store.state() or state
     since = state.head.last + 1
-    lines = [f"from entry {since} on the log is answered by {first_line(version)}{different(version, old)}; "
-             f"start each desk with it, once it has entry {since - 1}"]
+    lines = [f"from entry {since} on, {first_line(version)}{different(version, old)} answers the log; "
+             f"start each desk with it, once that desk has entry {since - 1}"]
     for name, report in sorted((await store.desks()).items()):
         if report.position < since - 1:
-            lines.append(f"desk {name} has no more than entry {report.position} yet, as of {report.at}")
+            lines.append(f"desk {name} had only entries up to {report.position} at {report.at}")
     return lines
 
 
 async def begin(store: Store, plan: str, kept_by: str | None, program: str) -> list[str]:
-    """Makes a log behind a plan, which has this journal or the usual one."""
+    """Makes a log from a plan with this journal, or with the usual one. Raises CannotJoin and Unreadable."""
     path = os.path.realpath(kept_by or journal.beside(plan))
     version = version_of(program)
     if await store.state() is not None:
-        raise CannotJoin(f"{store.where}: there is such a log already; name another one")
+        raise CannotJoin(f"{store.where}: this log exists already; choose another name")
     record = journal.for_desk(path, plan)
     try:
         with journal.at_rest(plan) as held:
             position = record.position()
             if record.unanswered():
-                raise CannotJoin(f"{path}: it has entries that weren't answered; start the plan's desk once more, end "
-                                 "it, "
-                                 "and begin then")
+                raise CannotJoin(f"{path}: this journal has entries without a reply; start the plan's desk once more, "
+                                 "end it, and then begin the log")
             if not await bootstrap.begun(store, held, position, version):
-                raise CannotJoin(f"{store.where}: another one made such a log meanwhile")
+                raise CannotJoin(f"{store.where}: somebody else made this log meanwhile; choose another name")
     finally:
         record.close()
-    return [f"{store.where} begins behind entry {position} of {plan}"]
+    return [f"{store.where} begins after entry {position} of {plan}"]

@@ -1,4 +1,4 @@
-"""What a desk counts, as Prometheus reads it."""
+"""The metrics of a desk, in the text format of Prometheus."""
 
 import collections
 import datetime
@@ -16,22 +16,22 @@ BOUNDS = (0.001, 0.002, 0.005, 0.01, 0.02, 0.05, 0.1, 0.2, 0.5, 1, 2, 5, 10, 30)
 
 
 class Metrics:
-    """Answers by statement and by the first word of the reply, and how long they took."""
+    """Counts answers by statement and by the first word of the reply, and how long they took."""
 
     def __init__(self) -> None:
         self.answers: collections.Counter[tuple[str | None, str]] = collections.Counter()  # by statement and word
-        self.took: collections.Counter[str] = collections.Counter()  # by the bound below which it is
+        self.took: collections.Counter[str] = collections.Counter()  # by the least of BOUNDS that it keeps
         self.seconds = 0.0
 
     def count(self, ask: "Submission", reply: str) -> None:
-        """Counts an answer of a statement that somebody asked for."""
+        """Counts the answer to a caller's statement."""
         took = time.monotonic() - ask.begun
         self.answers[ask.name, reply.partition(" ")[0]] += 1
         self.took[next((str(bound) for bound in BOUNDS if took <= bound), "+Inf")] += 1
         self.seconds += took
 
     def text(self, desk: "Desk", facts: Mapping[str, Any] | None = None) -> str:
-        """All that is counted of a desk, and of its plan by the facts of it, where they are known."""
+        """All metrics of a desk, and of its plan if its facts (`needs.of_plan`) are known."""
         planner = desk.planner
         lines = []
         for name, kind, value in (
@@ -53,7 +53,7 @@ class Metrics:
         return "\n".join(lines) + "\n"
 
     def seconds_lines(self) -> list[str]:
-        """How long answers took, as a histogram."""
+        """The lines of a histogram of how long answers took."""
         name, total = "opcplan_desk_answer_seconds", 0
         lines = [f"# TYPE {name} histogram"]
         for bound in (*map(str, BOUNDS), "+Inf"):
@@ -63,7 +63,7 @@ class Metrics:
 
 
 def plan_lines(facts: Mapping[str, Any]) -> list[str]:
-    """What a plan counts, and when it ends, in seconds since 1970 by the zone of this machine."""
+    """The lines of a plan's counts and ends, in seconds since 1970 by the zone of this machine."""
     lines = []
     for name, value in facts.get("counts", {}).items():
         lines += [f"# TYPE opcplan_plan_{name} gauge", f"opcplan_plan_{name} {value}"]
@@ -79,12 +79,12 @@ def plan_lines(facts: Mapping[str, Any]) -> list[str]:
 
 
 def agent_lines(agents: Mapping[str, Mapping[str, float]]) -> list[str]:
-    """How many seconds ago each agent looked last."""
+    """The lines of how many seconds ago each agent last contacted the desk."""
     name = "opcplan_agent_age_seconds"
     lines = [f"# TYPE {name} gauge"] if agents else []
     return [*lines, *(f"{name}{{agent={label(who)}}} {one['age']}" for who, one in agents.items())]
 
 
 def label(text: str) -> str:
-    """A text as the value of a label."""
+    """A text as the value of a label, with its quotes."""
     return '"' + text.replace("\\", "\\\\").replace('"', '\\"').replace("\n", "\\n") + '"'

@@ -1,5 +1,5 @@
-"""What of a plan needs somebody at a moment: how many rows are how, which are in error, late or at risk, and when the
-plans end."""
+"""What in a plan needs somebody at a moment: counts of rows by state, the rows that are in error, late or at risk, and
+when the plans end."""
 
 from collections import Counter
 from typing import Any
@@ -13,16 +13,16 @@ from opcplan.rules import moments, statuses
 from opcplan.webpage import page_model
 from opcplan.webpage.page_model import Model
 
-# rows that are told one by one, the worst first
+# the most rows that are listed one by one, the worst first
 MOST = 2000
-# what rows of the current plan are counted as, beside those that are late or at risk
+# the names of the counts of rows by state; late rows and those at risk are counted besides
 STATES = {"E": "in_error", "S": "started", "R": "ready", "B": "blocked", "F": "to_come"}
 
 
 def of_plan(plan: Plan, journal: str | None, now: int) -> dict[str, Any]:
-    """What is told of a plan at a moment, by the journal of its desk where there is one. At risk is what isn't late yet
-    and not in error, but is going to end late by the forecast, or waits for what is late or in error, also through
-    others."""
+    """The facts of a plan at a moment, as docs/use/MONITORING.md lists them; with a forecast if its desk has a journal.
+    A row is at risk if it is neither late nor in error, but is going to end late by the forecast, or waits for what is
+    late or in error, also through others."""
     if not plan.is_created:
         return {"now": moments.moment_word(now), "plan_end": None, "last_day": None, "counts": {}, "rows": [],
                 "is_whole": True, "forecast": ""}
@@ -47,7 +47,7 @@ def of_plan(plan: Plan, journal: str | None, now: int) -> dict[str, Any]:
 def expected_ends(
     plan: Plan, journal: str | None, rows: list[Row], pairs: list[tuple[int, int]], now: int
 ) -> tuple[dict[int, Expected], str]:
-    """When rows are likely to end, by serial, and why that isn't known, or nothing."""
+    """When rows are expected to end, by serial; and why that isn't known, or nothing."""
     try:
         known = actual.of_journal(journal, plan)
     except Unreadable as why:
@@ -63,7 +63,7 @@ def at_risk(rows: list[Row], model: Model, expected: dict[int, Expected], now: i
 
 
 def held_up(model: Model) -> set[int]:
-    """The places of all that waits for what is late or in error, also through others."""
+    """The places of the rows that wait for what is late or in error, also through others."""
     found: set[int] = set()
     left = [place for place, state in enumerate(model.states) if state == "E" or model.is_late[place]]
     while left:
@@ -76,7 +76,7 @@ def held_up(model: Model) -> set[int]:
 
 def row_values(rows: list[Row], model: Model, place: int, is_at_risk: bool,
                expected: dict[int, Expected]) -> dict[str, Any]:
-    """What is told of a row."""
+    """The fields of a row, as docs/use/MONITORING.md lists them."""
     row, root, one = rows[place], model.roots.get(place), expected.get(rows[place].serial)
     return {
         "serial": row.serial, "app": row.app, "ia": moments.moment_word(row.ia),

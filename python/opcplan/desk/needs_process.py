@@ -1,7 +1,7 @@
-"""The process that finds what of a plan needs somebody.
+"""The process that finds what in a plan needs somebody.
 
-Its words are a copy of the plan, a moment, or `-` for the clock, and the journal of the desk. It prints an object of
-JSON."""
+Its arguments are a copy of the plan, a moment (or `-` for the clock), and the journal of the desk. It prints an object
+of JSON."""
 
 import gc
 import json
@@ -14,7 +14,7 @@ from opcplan.rules import moments
 
 
 def main(copy: str, moment: str, journal: str) -> int:
-    """Prints what is found; the exit status."""
+    """Prints the facts of the plan; the exit status."""
     gc.disable()
     try:
         with plan_file.opened(copy, is_own=True) as plan:

@@ -1,7 +1,8 @@
 """The process that makes the live page.
 
-Its words are a copy of the plan, the plan's name, and a moment, or `-` for the clock. It prints 1 where the moment
-stands, else 0; then what the page has before the plan's data, the data, what it has behind; a NUL between each two."""
+Its arguments are a copy of the plan, the plan's name, and a moment (or `-` for the clock). It prints 1 if the page
+keeps its moment, else 0; then the page up to the plan's data, the data, and the rest of the page, with NULs between
+them."""
 
 import gc
 import sys
@@ -10,7 +11,7 @@ from opcplan.desk import live_parts
 from opcplan.errors import Unreadable
 from opcplan.webpage import page_data, page_html
 
-OUTSIDE = "The clock of this machine is outside this plan, so it is shown as of the end of its current plan."
+OUTSIDE = "This machine's clock is outside this plan, so the page shows the end of the current plan."
 
 
 def main(copy: str, name: str, moment: str) -> int:

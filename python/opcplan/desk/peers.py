@@ -1,4 +1,4 @@
-"""Which user of this machine is at the other end of a connection."""
+"""Which user of this machine is at the other end of a connection, by user id."""
 
 import os
 import pwd
@@ -16,7 +16,7 @@ def of_socket(peer: socket.socket) -> int:
 
 
 def of_address(peer: socket.socket) -> int | None:
-    """The user at the other end of a TCP connection from this machine, or None where the system doesn't tell."""
+    """The user at the other end of a TCP connection from this machine, or None if the system doesn't say it."""
     wanted = [spelled(peer.family, peer.getpeername()), spelled(peer.family, peer.getsockname()), ESTABLISHED]
     try:
         with open(TABLES[peer.family], encoding="ascii") as table:
@@ -30,14 +30,14 @@ def of_address(peer: socket.socket) -> int | None:
 
 
 def spelled(family: int, address: tuple[str, int]) -> str:
-    """An address and its port as the system's tables spell them: each 32 bits as a number of this machine."""
+    """An address and its port as /proc has them: each 32 bits as a hexadecimal number in this machine's byte order."""
     packed = socket.inet_pton(family, address[0].partition("%")[0])
     numbers = struct.unpack(f"={len(packed) // 4}I", packed)
     return "".join(f"{number:08X}" for number in numbers) + f":{address[1]:04X}"
 
 
 def name_of(uid: int) -> str:
-    """The name of a user."""
+    """The name of a user, or `uid:N` if the user has none."""
     try:
         return pwd.getpwuid(uid).pw_name
     except KeyError:
@@ -45,5 +45,5 @@ def name_of(uid: int) -> str:
 
 
 def is_own(uid: int) -> bool:
-    """Whether a user is the desk's own, or root."""
+    """Whether a user is the desk's, or root."""
     return uid in (0, os.getuid())

@@ -1,9 +1,9 @@
-"""One opcplan that is kept: statements go in one after another, and each gets its rows and its reply line. Which goes
-in when, the desk's state says (state.py).
+"""The planner of a desk: one process of opcplan, which gets statements one after another, and prints the rows and the
+reply of each. The desk's state (state.py) decides which statement it gets when.
 
-It is started again after a fault or a kill, and what it hadn't answered is asked again in its order; a job that is kept
-is answered and not done again. A statement that faults each time is never skipped: the planner is stopped then, says
-why, and tries it again now and then."""
+After a fault or a kill it is started again, and gets the statements without a reply once more, in their order. A kept
+job is answered and not done again. A statement that faults each time is never skipped: the planner then counts as
+stopped, says why, and tries it again every few seconds."""
 
 import asyncio
 import contextlib
@@ -22,52 +22,52 @@ from opcplan.plans.entry import Entry, Wanted
 if TYPE_CHECKING:
     from opcplan.desk.body import Body
 
-PROBE = b"desk-opens\n"  # no statement: `refused 10` tells that the plan is open
+PROBE = b"desk-opens\n"  # no statement: the answer `refused 10` shows that the plan is open
 OPEN = b"refused 10\n"
-# behind a line feed, with which the pattern begins, so that it is looked for fast; rows have neither of these words at
-# their begin: names are written in capitals
+# the pattern begins with a line feed, so that the search is fast; no row begins with one of these words, because names
+# are in capitals
 REPLY = re.compile(rb"\n(?:ok|refused|fault)(?: [^\n]*)?(?=\n)")
 HELD = "another program has the file open"
 PIECE = 1 << 17
 ROWS_IN_MEMORY = 1 << 20
-# lives in which one statement was asked, or in which the plan wasn't opened, until the planner counts as stopped
+# the planner counts as stopped after so many processes that got one statement, or that didn't open the plan
 TRIES = 3
-# seconds between two lives: the first after one that opened the plan, the last while it is stopped
+# seconds between two processes: after one that opened the plan, and while the planner is stopped
 SHORTEST_REST, LONGEST_REST = 0.05, 5.0
-# how long another program may have the plan before that counts as stopped, in seconds
+# seconds for which another program may have the plan before the planner counts as stopped
 PATIENCE = 20.0
-# how long opcplan may take to end after its last line: it copies its log into the file, in seconds
+# seconds that opcplan may take to end after its last line: it copies its log into the file
 LONGEST_END = 60.0
-# how long it may say nothing while something is asked, unless it is given, in seconds
+# seconds for which opcplan may print nothing while an answer is due, unless --limit says otherwise
 LIMIT = 60.0
 
 
 class PlannerStopped(Error):
-    """Why the planner answers nothing for now."""
+    """Why the planner gives no answers for now."""
 
 
 class PlannerRun(NamedTuple):
-    """What came of a life of opcplan: whether it opened the plan, and the fault that it told."""
+    """What came of a process of opcplan: whether it opened the plan, and the fault that it printed, or nothing."""
 
     opened: bool
     fault: str
 
 
 class OutputRest(NamedTuple):
-    """What is left of opcplan's output behind its whole lines, and a fault where one was told."""
+    """The rest of opcplan's output after its whole lines, and the fault that it printed, or nothing."""
 
     rest: bytes
     fault: str
 
 
 class Submission:
-    """A statement, and what becomes of it: a change has an Entry once it stands in the log."""
+    """A statement with its state and answer. A change has an Entry once it is in the log."""
 
     def __init__(self, name: str | None, text: bytes | None = None, wanted: Wanted | None = None) -> None:
-        self.name, self.text, self.wanted = name, text, wanted  # no name where another desk was asked
+        self.name, self.text, self.wanted = name, text, wanted  # no name if another desk got it
         self.entry: Entry | None = None
         self.is_again = False  # its entry was answered before, at this desk or another one
-        # the tag of the state that it asks for, or the change of its stream that has to have left that state
+        # the tag of the state that it needs, or the change of its stream after which the plan must be unchanged
         self.condition: str | Submission | None = None
         self.streams: list["Body"] = []  # that wait for it
         self.begun = time.monotonic()
@@ -77,7 +77,7 @@ class Submission:
         self.reply: str | None = None
         self.tag: str | None = None  # with the position, of the state in which it was answered
         self.position = 0
-        self.wrong: str | None = None  # why its rows can't be had
+        self.wrong: str | None = None  # why its rows are missing
         self.waiting: list[asyncio.Future["Submission"]] = []
 
     @property
@@ -88,25 +88,25 @@ class Submission:
 
     @property
     def is_change(self) -> bool:
-        """Whether it has to stand in the log, and doesn't yet."""
+        """Whether it has to go into the log, and isn't there yet."""
         return self.wanted is not None and self.entry is None
 
     @property
     def asked_tag(self) -> str:
-        """The tag of the state that it asks for; nothing where that isn't known."""
+        """The tag of the state that it needs; empty if that isn't known."""
         return (self.condition.tag if isinstance(self.condition, Submission) else self.condition) or ""
 
     @property
     def size(self) -> int:
-        """How many bytes it takes in the log, without its line."""
+        """How many bytes its data take in the log."""
         return len(self.wanted.data or b"") if self.wanted is not None else 0
 
     def stands_for(self, one: Entry) -> None:
-        """It stands for an Entry that was answered before, and is answered so again."""
+        """Notes that it is an Entry that was answered before, and gets that answer again."""
         self.text, self.entry, self.is_again = one.text, one, True
 
     def wait(self) -> asyncio.Future["Submission"]:
-        """A future of this Submission once it is answered; it raises what `fail` is told."""
+        """A future of this Submission once it is answered. It raises the error that `fail` gets."""
         future: asyncio.Future[Submission] = asyncio.get_running_loop().create_future()
         if self.reply is None:
             self.waiting.append(future)
@@ -115,7 +115,7 @@ class Submission:
         return future
 
     def take_rows(self, data: bytes) -> None:
-        """Keeps whole lines of rows, on the disk where they are many."""
+        """Stores whole lines of rows, on the disk if they are many."""
         if self.wrong is not None or not data:
             return
         try:
@@ -125,23 +125,23 @@ class Submission:
             self.row_bytes += len(data)
         except OSError as error:
             self.forget_rows()
-            self.wrong = f"its rows can't be kept: {error.strerror}"
+            self.wrong = f"the rows can't be stored: {error.strerror}; try again"
 
     def forget_rows(self) -> None:
-        """Lets the rows go that a life of opcplan gave that didn't end them."""
+        """Drops the rows of a process of opcplan that ended before its reply."""
         if self.rows is not None:
             self.rows.close()
         self.rows, self.row_bytes, self.wrong = None, 0, None
 
     def number(self) -> int:
-        """The number of an open file that has its rows. Raises OSError."""
+        """The descriptor of a file that has its rows. Raises OSError."""
         assert self.rows is not None
         self.rows.rollover()
         self.rows.flush()
         return self.rows.fileno()
 
     def pieces(self) -> Iterator[bytes]:
-        """The lines of its rows, by and by, some at a time; several may read them at once."""
+        """The lines of its rows, some at a time. Several callers may read them at once."""
         place = 0
         while self.rows is not None and place < self.row_bytes:
             self.rows.seek(place)
@@ -151,26 +151,26 @@ class Submission:
             yield data
 
     def answer(self, reply: str) -> None:
-        """Has those hear its reply who wait for it."""
+        """Sets its reply, for all that wait for it."""
         self.reply = reply
         for future in self.left_waiting():
             future.set_result(self)
 
     def fail(self, error: Exception) -> None:
-        """Sends those away who wait for it; it may be answered all the same, later."""
+        """Raises an error for all that wait for it. It may still be answered later."""
         for future in self.left_waiting():
             future.set_exception(error)
 
     def left_waiting(self) -> list[asyncio.Future["Submission"]]:
-        """Those who wait, who don't any more from now on."""
+        """The futures that wait, which are dropped here."""
         waiting, self.waiting = self.waiting, []
         return [future for future in waiting if not future.done()]
 
 
 class Planner:
-    """The kept opcplan over the plan of some HeldFiles, for a State of Asks. `on_answer` is called with each Answer, in
-    their order; `why_not` says why the program may not be run for now, or nothing. It may say nothing for `limit`
-    seconds while something is asked."""
+    """The planner over the plan of some HeldFiles, for a State of Submissions. It calls `on_answer` with each Answer,
+    in their order, and `on_stop` with the reason when it stops. `why_not` returns why the program may not be run for
+    now, or nothing. `limit`: for how many seconds opcplan may print nothing while an answer is due."""
 
     def __init__(self, program: str, files: HeldFiles, the_state: state.State[Submission],
                  on_answer: Callable[[state.Answer[Submission]], None], on_stop: Callable[[str], None],
@@ -178,21 +178,21 @@ class Planner:
         self.words = [program, "--db", files.plan]
         self.files, self.state, self.limit = files, the_state, limit
         self.on_answer, self.on_stop, self.why_not = on_answer, on_stop, why_not
-        self.heard, self.kills = time.monotonic(), 0  # when it said something last, and how often it was killed since
-        self.halted = ""  # why it is never run again
+        self.heard, self.kills = time.monotonic(), 0  # when it last printed something, and how often it was killed
+        self.halted = ""  # why it isn't run again
         self.is_over = asyncio.Event()  # the desk has to end
         self.room, self.idle = asyncio.Event(), asyncio.Event()
         self.process: asyncio.subprocess.Process | None = None
         self.is_open, self.closing = False, asyncio.Event()
         self.open_since: float | None = None  # seconds since 1970
         self.lives = 0
-        self.said = ""  # what opcplan said of itself in its last life
-        self.why = ""  # why the last life ended
-        self.stopped = ""  # why nothing is answered for now
+        self.said = ""  # the last process's line on standard error
+        self.why = ""  # why the last process ended
+        self.stopped = ""  # why there are no answers for now
         self.task: asyncio.Task[None] | None = None
 
     def start(self) -> None:
-        """Begins."""
+        """Starts it."""
         self.count_flight()
         self.task = asyncio.create_task(self.keep())
 
@@ -204,7 +204,7 @@ class Planner:
             try:
                 opened = bool(not self.halted and await self.life())
             except state.InvariantBroken as why:
-                self.halt(f"the desk doesn't go on, for its entries aren't in order: {why}")
+                self.halt(f"the desk stops, because its entries are out of order: {why}")
                 self.is_over.set()
             if self.halted:
                 self.stop(self.halted)
@@ -212,7 +212,7 @@ class Planner:
                 return
             if self.closing.is_set():
                 if opened and self.said:
-                    print(f"desk: opcplan says: {self.said}", file=sys.stderr, flush=True)
+                    print(f"desk: opcplan prints: {self.said}", file=sys.stderr, flush=True)
                 return
             if opened:
                 rest, unopened, since = SHORTEST_REST, 0, time.monotonic()
@@ -226,7 +226,7 @@ class Planner:
                 await asyncio.wait_for(self.closing.wait(), rest)
 
     def stop(self, why: str) -> None:
-        """Sends away all who wait. What stands in the log is asked again; questions alone go."""
+        """Rejects all that waits. Changes in the log are sent to opcplan again; questions are dropped."""
         self.stopped = why
         for drop in self.state.stopped():
             drop.item.fail(PlannerStopped(why))
@@ -234,47 +234,47 @@ class Planner:
         self.on_stop(why)
 
     def halt(self, why: str) -> None:
-        """Ends opcplan for good: nothing is answered any more."""
+        """Ends opcplan permanently: there are no answers any more."""
         self.halted = self.stopped = self.halted or why
         if self.process is not None:
             with contextlib.suppress(ProcessLookupError):
                 self.process.kill()
 
     def look_at_files(self) -> bool:
-        """Whether the files have their places; else nothing is answered any more, and the desk has to end."""
+        """Whether the files are in their places. If not, there are no answers any more, and the desk has to end."""
         if why := self.files.moved():
-            self.halt(f"{why}; end whoever did that, and start the desk again")
+            self.halt(f"{why}; end the program that did that, and start the desk again")
             self.is_over.set()
         return not self.halted
 
     def has_moved(self) -> str:
-        """Why nothing is answered any more, as the files were moved, or nothing. While opcplan opens the plan or leaves
-        it, its log may become another file."""
+        """Checks that the files are in their places; why there are no answers any more, or nothing. While opcplan opens
+        or closes the plan, the plan's log may become another file, so nothing is checked."""
         if self.is_open and not self.closing.is_set():
             self.look_at_files()
         return self.halted
 
     @property
     def pid(self) -> int | None:
-        """The process id of the opcplan that has the plan open, None where there is none."""
+        """The process id of the opcplan that has the plan open, or None."""
         return self.process.pid if self.is_open and self.process is not None else None
 
     @property
     def silent(self) -> float:
-        """For how many seconds it hasn't answered, or hasn't ended where it is to."""
+        """For how many seconds an answer, or its end, has been due."""
         is_asked = self.process is not None and (self.state.flight or not self.is_open or self.closing.is_set())
         return time.monotonic() - self.heard if is_asked else 0.0
 
     @property
     def trouble(self) -> str:
-        """Why nothing is answered, or nothing is for now."""
+        """Why there are no answers for now, or nothing."""
         if not self.stopped and self.silent > self.limit / 2:
-            return (f"opcplan has said nothing for {self.silent:.0f} s; after {self.limit:g} s it is killed, and asked "
-                    "again what it hasn't answered")
+            return (f"opcplan has printed nothing for {self.silent:.0f} s; after {self.limit:g} s the desk kills it, "
+                    "starts it again, and sends the statements without a reply again")
         return self.stopped
 
     async def watch(self, process: asyncio.subprocess.Process) -> None:
-        """Kills opcplan where it stands still."""
+        """Kills opcplan once it has printed nothing for too long."""
         while True:
             await asyncio.sleep(min(1.0, self.limit / 4))
             if self.silent > self.limit:
@@ -284,7 +284,7 @@ class Planner:
                 return
 
     async def life(self) -> bool:
-        """One life of opcplan: whether it opened the plan. Raises InvariantBroken."""
+        """Runs one process of opcplan; whether it opened the plan. Raises InvariantBroken."""
         self.files.forget_log()
         if why := self.why_not():
             self.why = why
@@ -315,7 +315,7 @@ class Planner:
         return talk.opened
 
     async def talk(self, process: asyncio.subprocess.Process) -> PlannerRun:
-        """Gives what is in flight, and takes answers until the program ends. Raises InvariantBroken."""
+        """Sends statements and takes answers until the program ends. Raises InvariantBroken."""
         data, opened = b"", False
         with contextlib.suppress(ConnectionResetError, BrokenPipeError):
             piped(process.stdin).write(PROBE)
@@ -336,7 +336,7 @@ class Planner:
         return PlannerRun(opened, "")
 
     def opened(self) -> None:
-        """Asks what wasn't answered again, in its order."""
+        """Sends the statements without a reply again, in their order."""
         self.is_open, self.open_since = True, time.time()
         if self.state.is_idle:
             self.stopped = ""
@@ -346,7 +346,7 @@ class Planner:
         self.do(commands)
 
     def do(self, commands: Sequence[state.Send[Submission] | state.Answer[Submission]]) -> None:
-        """Does what the state says."""
+        """Executes the commands of the state."""
         for one in commands:
             if isinstance(one, state.Send):
                 if len(self.state.flight) == 1:
@@ -361,13 +361,13 @@ class Planner:
         self.count_flight()
 
     def write(self, item: Submission) -> None:
-        """Gives opcplan the text of a statement; where it has ended, it is asked again in its next life."""
+        """Sends opcplan the text of a statement. If it has ended, the next process gets the statement."""
         assert item.text is not None and self.process is not None
         with contextlib.suppress(ConnectionResetError, BrokenPipeError):
             piped(self.process.stdin).write(item.text)
 
     def take(self, data: bytes) -> OutputRest:
-        """Takes whole lines."""
+        """Takes whole lines of output. Raises InvariantBroken."""
         text, begin = b"\n" + data, 1
         for found in REPLY.finditer(text):
             line = found.group()[1:].decode("ascii", "replace")
@@ -383,7 +383,7 @@ class Planner:
         return OutputRest(text[begin:], "")
 
     def count_flight(self) -> None:
-        """Tells whether there is room for more, and whether nothing is left."""
+        """Updates the events `room` (it may get more) and `idle` (nothing is left)."""
         for event, holds in ((self.room, self.state.has_room), (self.idle, self.state.is_idle)):
             if holds:
                 event.set()
@@ -391,7 +391,7 @@ class Planner:
                 event.clear()
 
     async def give(self, ask: Submission) -> None:
-        """Gives a statement over once there is room."""
+        """Sends it a statement once there is room."""
         await self.room.wait()
         self.do(self.state.appended([ask]) if state.is_change(ask) else self.state.asked(ask))
         if self.is_open and self.process is not None:
@@ -399,7 +399,7 @@ class Planner:
                 await piped(self.process.stdin).drain()
 
     async def close(self) -> None:
-        """Lets it answer what it has and ends it: the file has the plan alone then."""
+        """Waits for its answers and ends it. Then the plan is one file."""
         await self.idle_or_stopped()
         self.heard = time.monotonic()
         self.closing.set()
@@ -409,7 +409,7 @@ class Planner:
             await self.task
 
     async def idle_or_stopped(self) -> None:
-        """Waits until nothing is in flight, or nothing is answered for now."""
+        """Waits until nothing is in flight, or the planner is stopped."""
         while not self.state.is_idle and not self.stopped:
             with contextlib.suppress(asyncio.TimeoutError):
                 await asyncio.wait_for(self.idle.wait(), 0.2)
@@ -419,13 +419,13 @@ Stream = TypeVar("Stream", asyncio.StreamReader, asyncio.StreamWriter)
 
 
 def piped(stream: Stream | None) -> Stream:
-    """A pipe to a process that was begun with pipes."""
+    """A pipe of a process that was started with pipes."""
     assert stream is not None
     return stream
 
 
 async def ended(process: asyncio.subprocess.Process) -> int:
-    """The exit status of opcplan, which has said what it had to; it is killed where it doesn't end."""
+    """Waits for the end of opcplan, which has printed all; kills it if it doesn't end. Its exit status."""
     piped(process.stdin).close()
     with contextlib.suppress(asyncio.TimeoutError):
         return await asyncio.wait_for(process.wait(), LONGEST_END)

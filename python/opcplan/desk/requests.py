@@ -1,4 +1,4 @@
-"""What a caller's job stream asks: each of its items, with what it takes to ask it."""
+"""The items of a caller's job stream, with what the desk needs to send each."""
 
 import dataclasses
 import io
@@ -11,7 +11,7 @@ MOST_STATEMENTS = 100_000
 
 
 class BadStream(Error):
-    """Why a stream isn't taken; nothing of it is done."""
+    """Why a stream is refused. Nothing of it is done."""
 
 
 @dataclasses.dataclass(frozen=True)
@@ -19,36 +19,36 @@ class StreamItem:
     """An item of a stream."""
 
     name: str  # the statement's name, or `none`
-    words: str  # the words of its line; they lack a job number where the desk gives one
+    words: str  # the words of its line, without a job number if the desk gives one
     data: bytes | None
     job: int | None
     changes: bool
-    reply: str | None = None  # where it needs no planner
-    text: bytes = b""  # of one that changes nothing: what opcplan gets
+    reply: str | None = None  # if it is known without the planner
+    text: bytes = b""  # what opcplan gets of an item that changes nothing
 
     @property
     def role(self) -> statements.Role:
-        """The role that it takes."""
+        """The role that it needs."""
         return statements.KINDS[self.name].role if self.changes else statements.Role.READ
 
 
 def of_stream(body: bytes) -> list[StreamItem]:
-    """What a stream asks, in its order. Raises BadStream."""
+    """The items of a stream, in their order. Raises BadStream."""
     found = []
     try:
         for item in stream.items(stream.Source(io.BytesIO(body), "the stream")):
             if item.has_data and item.data is None:
-                raise BadStream(f"the data of line {item.line} have no end, so the stream isn't whole")
+                raise BadStream(f"the data of line {item.line} have no end, so the stream isn't complete")
             found.append(of_item(item))
             if len(found) > MOST_STATEMENTS:
-                raise BadStream(f"it has more than {MOST_STATEMENTS:,} statements; send it in parts")
+                raise BadStream(f"the stream has more than {MOST_STATEMENTS:,} statements; send it in parts")
     except Unreadable as why:
         raise BadStream(str(why)) from None
     return found
 
 
 def of_item(item: stream.Item) -> StreamItem:
-    """What an item asks. Raises BadStream."""
+    """The StreamItem of an item. Raises BadStream."""
     statement, lacks_job = item.statement, False
     if statement is None:
         whole = item.text + b" --job %d" % entry.FIRST_JOB
@@ -64,7 +64,6 @@ def of_item(item: stream.Item) -> StreamItem:
         return StreamItem(statement.name, line, None, None, False, None, line.encode("ascii") + b"\n")
     job = None if lacks_job else statement.job
     if job is not None and entry.FIRST_JOB <= job <= entry.LAST_JOB:
-        raise BadStream(f"line {item.line} has job {job}, and the desk gives {entry.FIRST_JOB} to {entry.LAST_JOB} "
-                        "itself; "
-                        "leave its --job out, or take another number")
+        raise BadStream(f"line {item.line} has --job {job}, but only the desk gives the numbers {entry.FIRST_JOB} to "
+                        f"{entry.LAST_JOB}; leave --job out, or use another number")
     return StreamItem(statement.name, line, item.data if item.has_data else None, job, True)

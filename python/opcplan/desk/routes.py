@@ -1,7 +1,7 @@
 """The table of routes: what a desk answers by HTTP, to whom, and by which handler.
 
-The middleware of the guard asks for the role, so that no handler can forget it. docs/use/DESK.md has the same table,
-and `GET /openapi.json` describes it for programs."""
+The middleware of the guard checks the role, so that no handler can forget it. docs/use/DESK.md has the same table, and
+`GET /openapi.json` describes it for programs."""
 
 import enum
 import re
@@ -35,51 +35,52 @@ class Parameter(NamedTuple):
 
 
 class Route(NamedTuple):
-    """A route. `handler` names an attribute of the server; `answer` is what docs/use/DESK.md says of it."""
+    """A route. `handler` names an attribute of the server; `answer` is the sentence about it in docs/use/DESK.md."""
 
     method: str
     path: str
     role: Role
     handler: str
-    kind: str  # of the answer's body, or nothing where it has none
+    kind: str  # of the answer's body, empty if it has none
     answer: str
     parameters: tuple[Parameter, ...] = ()
     lesser: str = ""  # the handler for callers who lack the role, also those without a token
-    is_open: bool = False  # whether callers without a token are refused by their role alone
+    is_open: bool = False  # whether a caller without a token is refused only for lack of the role
     in_pieces: bool = False  # whether the body is sent piece by piece: aiohttp would send it to HEAD too
     body: str = ""  # the kind of the request's body
-    statuses: tuple[str, ...] = ()  # of HTTP, that it may have besides those that each route may have
+    statuses: tuple[str, ...] = ()  # HTTP's, besides those that every route may have
 
     @property
     def name(self) -> str:
-        """Its name as a program has it."""
+        """Its name for programs."""
         path = re.sub("[{}]", "", self.path.strip("/"))
         return f"{self.method.lower()}_{re.sub('[/.]', '_', path) or 'page'}"
 
 
 DAY = "[0-9]{4}-[0-9]{2}-[0-9]{2}"
-FRESH = Parameter(Place.QUERY, "fresh", "[01]", "1 for all that any desk of the log answered till now")
-NOW = Parameter(Place.QUERY, "now", rf"{DAY}/[0-9]{{2}}\.[0-9]{{2}}", "as of when the page is shown, else the clock's")
-AS_OF = NOW._replace(about="as of when it is, else the clock's")
+FRESH = Parameter(Place.QUERY, "fresh", "[01]", "1 if the answer must have all that any desk has answered till now")
+NOW = Parameter(Place.QUERY, "now", rf"{DAY}/[0-9]{{2}}\.[0-9]{{2}}", "the moment to show, else the clock's")
+AS_OF = NOW._replace(about="the moment that the answer is about, else the clock's")
 NUMBER = "[0-9]{1,15}"
 SERIAL, TRY = "0{0,8}[1-9][0-9]{0,8}", "[1-9][0-9]?"
 OF_A_LOG = Parameter(Place.PATH, "serial", SERIAL, "the serial of an occurrence")
 KEY = '[!-"$-~]{1,200}'
 OF_ROWS = (
-    Parameter(Place.QUERY, "list", "|".join(columns.LISTS), "the list, `cp` where none is named"),
-    Parameter(Place.QUERY, "app", "[A-Z@#$][A-Z0-9@#$]{0,15}", "of this application alone"),
-    Parameter(Place.QUERY, "from", DAY, "that arrive on this day or later"),
-    Parameter(Place.QUERY, "to", DAY, "that arrive on this day or before"),
-    Parameter(Place.QUERY, "status", "[WSECD]+", "of these statuses"),
+    Parameter(Place.QUERY, "list", "|".join(columns.LISTS), "the list, else `cp`"),
+    Parameter(Place.QUERY, "app", "[A-Z@#$][A-Z0-9@#$]{0,15}", "only rows of this application"),
+    Parameter(Place.QUERY, "from", DAY, "only rows that arrive on this day or later"),
+    Parameter(Place.QUERY, "to", DAY, "only rows that arrive on this day or before"),
+    Parameter(Place.QUERY, "status", "[WSECD]+", "only rows of these statuses"),
     FRESH,
-    Parameter(Place.HEADER, "If-None-Match", ".*", "the `ETag` of an earlier answer: 304 where it is still the state"),
+    Parameter(Place.HEADER, "If-None-Match", ".*",
+              "the `ETag` of an earlier answer: the status is 304 if it still names the state"),
 )
 OF_STATEMENTS = (
     Parameter(Place.HEADER, "Accept", ".*", "`application/x-ndjson` for lines of JSON"),
-    Parameter(Place.HEADER, "Idempotency-Key", KEY, "the stream is done once under this key"),
+    Parameter(Place.HEADER, "Idempotency-Key", KEY, "the stream is done once under this key, however often it is sent"),
     Parameter(Place.HEADER, "If-Match", ".*",
-              "the state in which the first change is done; each further one is done in the state that the one before "
-              "it left, and where somebody changed that the answer ends"),
+              "the `ETag` of the state in which the first change is done. Each further one is done in the state that "
+              "the one before left; if somebody changed the plan in between, the answer ends there"),
 )
 ROUTES = (
     Route("POST", "/statements", Role.READ, "statements", TEXT,
@@ -90,49 +91,49 @@ ROUTES = (
           "the live page, for a browser (`DESK_PAGE.md`); without a token the page that asks for one", (NOW, FRESH),
           lesser="page.sign_in", is_open=True),
     Route("GET", "/page/data", Role.READ, "page.data", JSON,
-          "the plan of the live page alone, at or behind the entry that `since` names",
+          "the plan of the live page alone, at or after the entry that `since` names",
           (Parameter(Place.QUERY, "since", NUMBER, "the number of an entry"), NOW, FRESH), is_open=True),
     Route("GET", "/rows", Role.READ, "rows", LINES,
-          "the rows of a list (`ltp`, `cp`, `history`, `deletions`, `dependencies`, `links`), an object a line; "
-          "`app=`, `from=`, `to=` and `status=` choose among them", OF_ROWS, in_pieces=True),
+          "the rows of a list (`ltp`, `cp`, `history`, `deletions`, `dependencies`, `links`), one object a line; "
+          "`app=`, `from=`, `to=` and `status=` select some of them", OF_ROWS, in_pieces=True),
     Route("GET", "/events", Role.READ, "desk.events.handle", EVENTS,
-          "server-sent events: `entry` for each change that was answered, once, in order and without a gap; `state` "
-          "for the state of the plan behind the last one. With `Last-Event-ID` it goes on behind that entry",
+          "server-sent events: `entry` for each answered change, once, in order and without a gap; `state` for the "
+          "state of the plan after the last one. With `Last-Event-ID` the answer goes on after that entry",
           (Parameter(Place.HEADER, "Last-Event-ID", NUMBER, "the number of an entry"),
            Parameter(Place.QUERY, "since", NUMBER, "the same")), in_pieces=True),
     Route("GET", "/journal", Role.READ, "journal", LINES,
-          "the answered entries, an object a line. An entry is there as soon as its caller has the reply",
-          (Parameter(Place.QUERY, "from", NUMBER, "the number of the first entry, 1 where none is named"),),
+          "the answered entries, one object a line. An entry is there as soon as its caller has the reply",
+          (Parameter(Place.QUERY, "from", NUMBER, "the number of the first entry, else 1"),),
           in_pieces=True),
     Route("GET", "/health", Role.READ, "health", JSON,
-          "`ok`, or with status 503 `stopped` and why; without a token no more than that", lesser="health",
-          is_open=True),
+          "`ok`, or with status 503 `stopped`, and why; a caller without a token gets that one word only",
+          lesser="health", is_open=True),
     Route("GET", "/metrics", Role.READ, "metrics", TEXT, "counts for Prometheus (`MONITORING.md`)"),
     Route("GET", "/status", Role.READ, "status.handle", JSON,
           "what needs somebody: counts of the current plan, the rows that are in error, late or at risk, when the "
-          "plans end, when each agent looked last, and the nodes of etcd (`MONITORING.md`)", (AS_OF,)),
+          "plans end, when each agent last contacted the desk, and the nodes of etcd (`MONITORING.md`)", (AS_OF,)),
     Route("GET", "/snapshot", Role.READ, "snapshot", SQLITE,
           "the plan as one file, taken while no statement is in flight, with the digest of all answers up to it in "
           "`X-Opcplan-Digest`", in_pieces=True),
     Route("PUT", "/logs/{serial}", Role.OPERATE, "tails.put", "",
-          "the end of the log of a try of an occurrence's job, as an agent gives it, is kept: at most 256 KiB a try",
-          (OF_A_LOG, Parameter(Place.QUERY, "try", TRY, "the number of the try, 1 where none is named")), body=TEXT,
+          "stores the end of the log of one try of an occurrence's job, as an agent sends it: at most 256 KiB a try",
+          (OF_A_LOG, Parameter(Place.QUERY, "try", TRY, "the number of the try, else 1")), body=TEXT,
           statuses=("408", "413", "507")),
     Route("GET", "/logs/{serial}", Role.OPERATE, "tails.get", TEXT,
-          "the ends of the logs of an occurrence's job, one try behind the other, the last 256 KiB of them; 204 where "
-          "no agent gave any",
+          "the ends of the logs of an occurrence's job, one try after the other, the last 256 KiB of them; 204 if "
+          "no agent sent any",
           (OF_A_LOG,), statuses=("204",)),
     Route("POST", "/session", Role.READ, "guard.begin_session", JSON,
           "a cookie in place of the token that the request has, for pages"),
-    Route("DELETE", "/session", Role.READ, "guard.end_session", "", "the cookie is worth nothing from now on"),
+    Route("DELETE", "/session", Role.READ, "guard.end_session", "", "the cookie is no longer valid"),
     Route("GET", "/openapi.json", Role.READ, "openapi", JSON, "this table as an OpenAPI 3.1 document, for programs"),
 )
 BY_REQUEST = {(route.method, route.path): route for route in ROUTES}
 
 
 def of_request(request: "web.Request") -> Route | None:
-    """The route of a request, None where it is answered 404 or 405; HEAD has that of GET. Raises KeyError for a handler
-    that isn't in the table."""
+    """The route of a request, None if the answer is 404 or 405. HEAD has the route of GET. Raises KeyError for a
+    handler that isn't in the table."""
     resource = request.match_info.route.resource
     method = "GET" if request.method == "HEAD" else request.method
     return None if resource is None else BY_REQUEST[method, resource.canonical]

@@ -1,4 +1,4 @@
-"""Rows of lists as lines of JSON, with the names that a plan's tables have, and moments as statements have them."""
+"""Rows of lists as lines of JSON, with the column names of a plan's tables, and moments as statements have them."""
 
 import dataclasses
 import functools
@@ -10,9 +10,9 @@ from opcplan.errors import Error
 from opcplan.rules import columns, moments
 
 WORDS = ("list", "app", "from", "to", "status", "fresh")
-NONE = "-"  # a word that isn't given, among those of a process
-# by form: the pattern of a field without the blanks beside it, and its value as JSON, made of the groups. What is blank
-# is nothing between the signs that stand around it, and becomes null
+NONE = "-"  # stands for a missing word among the arguments of a process
+# by form: the pattern of a field without the blanks around it, and its value as JSON, made of the groups. A blank field
+# leaves nothing between the signs around it, and becomes null
 FORMS = {
     columns.Form.SERIAL: ("0*([0-9]+)", "%s"),
     columns.Form.NAME: ("([A-Z@#$][A-Z0-9@#$]*)", '"%s"'),
@@ -25,11 +25,11 @@ BLANKS = ((b'""', b"null"), (b": }", b": null}"), (b": ,", b": null,"))
 
 
 class InvalidSelection(Error):
-    """Why rows aren't shown."""
+    """Why a list can't be shown."""
 
 
 class Shape(NamedTuple):
-    """The pattern of a line of a list, and the line of JSON that its groups become."""
+    """The pattern of a list's line, and the line of JSON for its groups."""
 
     line: re.Pattern[bytes]
     json: bytes
@@ -49,8 +49,8 @@ def shape_of(name: str) -> Shape:
 
 @dataclasses.dataclass(frozen=True)
 class Selection:
-    """Which rows of which list are asked for: those of an application, that arrive from a day on and up to another one,
-    of some statuses."""
+    """The rows of a list that are requested: of an application, that arrive from a day on and up to another one, of
+    some statuses."""
 
     name: str
     app: str | None = None
@@ -60,32 +60,30 @@ class Selection:
 
     @property
     def text(self) -> bytes:
-        """The statement that shows the list."""
+        """The statement that prints the list."""
         return (f"list {self.name}" + (f" --app {self.app}" if self.app else "")).encode("ascii") + b"\n"
 
     @property
     def words(self) -> list[str]:
-        """What a process is told, which has the list's lines; `of_words` reads it."""
+        """The selection as arguments of a process; `of_words` reads them."""
         return [self.name, *(word or NONE for word in (self.first, self.last, self.status))]
 
     def lines(self, data: bytes) -> bytes:
-        """The lines of JSON that whole lines of the list are. Raises InvalidSelection where they are of another
-        form."""
+        """Whole lines of the list as lines of JSON. Raises InvalidSelection if they have another form."""
         shape = shape_of(self.name)
         chosen = data if not (self.first or self.last or self.status) else b"".join(
             line for line in data.splitlines(keepends=True) if self.has(line))
         rows = shape.line.findall(chosen)
         if len(rows) != chosen.count(b"\n"):
-            raise InvalidSelection(f"opcplan shows the list `{self.name}` in another form than this desk knows; both "
-                                   "have to be "
-                                   "of one version")
+            raise InvalidSelection(f"opcplan prints the list `{self.name}` in a form that this desk doesn't know; use "
+                                   "opcplan and ./plan of one version")
         found = b"".join([shape.json % row for row in rows])
         for blank, null in BLANKS:
             found = found.replace(blank, null)
         return found
 
     def has(self, line: bytes) -> bool:
-        """Whether a line's row is asked for; days are those of its input arrival."""
+        """Whether a line's row is requested; the days are those of its input arrival."""
         fields = columns.LISTS[self.name].columns
         if "ia" in fields:
             day = line[fields["ia"].begin : fields["ia"].begin + 10].decode()
@@ -95,35 +93,36 @@ class Selection:
 
 
 def of_words(words: Sequence[str]) -> Selection:
-    """The Selection that a process is told."""
+    """The Selection of a process's arguments."""
     name, *more = words
     first, last, status = (None if word == NONE else word for word in more)
     return Selection(name, None, first, last, status)
 
 
 def of_query(query: Mapping[str, str]) -> Selection:
-    """The Selection that the words of a query ask for. Raises InvalidSelection."""
+    """The Selection of a query. Raises InvalidSelection."""
     for word in query:
         if word not in WORDS:
-            raise InvalidSelection(f"there is no word `{word[:40]}`, but {', '.join(WORDS)}")
+            raise InvalidSelection(f"there is no parameter `{word[:40]}`; the parameters are {', '.join(WORDS)}")
     name, app, status = query.get("list", "cp"), query.get("app"), query.get("status")
     if name not in columns.LISTS:
-        raise InvalidSelection(f"there is no list `{name[:40]}`, but {', '.join(columns.LISTS)}")
+        raise InvalidSelection(f"there is no list `{name[:40]}`; the lists are {', '.join(columns.LISTS)}")
     if app is not None and not re.fullmatch(r"[A-Z@#$][A-Z0-9@#$]{0,15}", app):
-        raise InvalidSelection("`app` is no name of an application")
+        raise InvalidSelection("`app` must be the name of an application")
     first, last = day_of(query, "from"), day_of(query, "to")
     if name == "links" and (first or last):
-        raise InvalidSelection("`links` have no days")
+        raise InvalidSelection("the list `links` has no days, so leave out `from` and `to`")
     if status is not None and not ("status" in columns.LISTS[name].columns and re.fullmatch("[WSECD]+", status)):
-        raise InvalidSelection("`status` is letters of W, S, E, C and D, of the lists cp and history")
+        raise InvalidSelection("`status` must be letters of W, S, E, C and D, and the list cp or history")
     return Selection(name, app, first, last, status)
 
 
 def is_fresh(query: Mapping[str, str]) -> bool:
-    """Whether what is shown has to have all that any desk answered till now. Raises InvalidSelection."""
+    """Whether a query has `fresh=1`: the answer must have all that any desk answered till now. Raises
+    InvalidSelection."""
     text = query.get("fresh", "0")
     if text not in ("0", "1"):
-        raise InvalidSelection("`fresh` is 1, or 0")
+        raise InvalidSelection("`fresh` must be 1 or 0")
     return text == "1"
 
 
@@ -131,5 +130,5 @@ def day_of(query: Mapping[str, str], word: str) -> str | None:
     """The day that a word of a query names, or None. Raises InvalidSelection."""
     text = query.get(word)
     if text is not None and moments.day_of(text) is None:
-        raise InvalidSelection(f"`{word}` is no day like 2026-11-25")
+        raise InvalidSelection(f"`{word}` must be a day like 2026-11-25")
     return text

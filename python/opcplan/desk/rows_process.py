@@ -1,8 +1,8 @@
 """The process that turns the rows of a long list into lines of JSON.
 
-Its words are those of a selection (`rows.Selection.words`); standard input is a file with the lines that opcplan
-printed, which others read too, standard output the file that gets JSON. The desk goes first where processors are
-short."""
+Its arguments are those of a selection (`rows.Selection.words`). Standard input is a file with the lines that opcplan
+printed, which other processes read too; standard output is the file for the JSON. The process yields to the desk if
+processors are short."""
 
 import os
 import sys
@@ -14,7 +14,7 @@ NICE = 5
 
 
 def main(words: list[str]) -> int:
-    """Turns all lines; the exit status."""
+    """Turns all lines into JSON; the exit status."""
     os.nice(NICE)
     selection, place = rows.of_words(words), 0
     try:

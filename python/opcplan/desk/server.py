@@ -1,4 +1,4 @@
-"""What a desk answers by HTTP."""
+"""The HTTP server of a desk."""
 
 import asyncio
 import contextlib
@@ -28,15 +28,15 @@ from opcplan.errors import LogUnwritable
 from opcplan.plans import job_logs, journal, locks
 
 MOST_BYTES = 32 << 20
-# seconds in which streams that are under way may end, once the desk is to end
+# seconds in which streams in progress may end while the desk shuts down
 LAST_SECONDS = 20
 PAGE = 500
-CHANGED = 412  # HTTP's status where the plan isn't in the state that is asked for
+CHANGED = 412  # HTTP's status if the plan isn't in the state that If-Match names
 KEY = re.compile(routes.KEY)
 
 
 class Server:
-    """A desk, and who asks it by HTTP."""
+    """A desk, and its callers by HTTP."""
 
     def __init__(self, given: Settings, desk: core.Desk, the_guard: guard.Guard) -> None:
         self.given, self.desk, self.guard = given, desk, the_guard
@@ -47,7 +47,7 @@ class Server:
         self.tails = job_tails.JobTails(job_logs.beside(given.plan))
 
     def application(self) -> web.Application:
-        """What answers requests, by the table of routes."""
+        """The application of aiohttp, by the table of routes."""
         app = web.Application(middlewares=[self.guard.middleware, self.met, errors_as_text], client_max_size=MOST_BYTES)
         app.add_routes([
             web.route(route.method, route.path, attrgetter(route.handler)(self)) if route.method != "GET" else
@@ -58,7 +58,7 @@ class Server:
 
     @web.middleware
     async def met(self, request: web.Request, handler: Handler) -> web.StreamResponse:
-        """Knows the connections of those who may look at the plan."""
+        """Notes the connections of callers who may read the plan."""
         if request["role"] >= guard.READ and request.transport is not None:
             self.connections.know(request.transport)
         return await handler(request)
@@ -85,13 +85,13 @@ class Server:
                     await response.prepare(request)
                 for data in (body.as_json if is_json else body.as_text)(one):
                     await response.write(data)
-                    await asyncio.sleep(0)  # others have their turn also where the caller reads as fast as this
+                    await asyncio.sleep(0)  # others have their turn even if the caller reads as fast as this writes
         except (StatementRejected, PlannerStopped) as why:
             if not response.prepared:
                 raise
             if not isinstance(why, StatementRejected) or why.status != CHANGED:
                 if request.transport is not None:
-                    request.transport.abort()  # the answer is cut: its caller sees that it isn't whole
+                    request.transport.abort()  # the answer is cut off, so its caller sees that it isn't complete
                 return response
         finally:
             stream.leave()
@@ -101,7 +101,8 @@ class Server:
         return response
 
     async def asked_of(self, request: web.Request) -> list[StreamItem]:
-        """What the body of a request asks, where its caller may. Raises StatementRejected and HTTPForbidden."""
+        """The statements in the body of a request, all of which its caller may send. Raises StatementRejected and
+        HTTPForbidden."""
         data = await connections.body_of(request, MOST_BYTES)
         try:
             found = requests.of_stream(data)
@@ -111,7 +112,7 @@ class Server:
             guard.needed(request, one.role, one.name)
         return found
 
-    # What is looked at.
+    # Lists and other answers.
 
     async def rows(self, request: web.Request) -> web.StreamResponse:
         """GET /rows."""
@@ -138,7 +139,7 @@ class Server:
         """GET /journal."""
         begin = request.query.get("from", "1")
         if not re.fullmatch("[0-9]{1,15}", begin):
-            raise StatementRejected(400, "`from` is the number of an entry")
+            raise StatementRejected(400, "`from` must be the number of an entry")
         response = web.StreamResponse(headers={"Content-Type": "application/x-ndjson", **SAFE})
         await response.prepare(request)
         since = int(begin) - 1
@@ -163,7 +164,7 @@ class Server:
         return web.json_response(openapi.document(version.lines()[0].split(" ")[1]))
 
     async def health(self, request: web.Request) -> web.StreamResponse:
-        """GET /health; whoever may not read hears no more than the status."""
+        """GET /health; a caller who may not read gets only the status."""
         desk, planner = self.desk, self.desk.planner
         wrong = [listed.wrong for listed in (self.guard.users, self.guard.tokens) if listed and listed.wrong]
         why = "; ".join(filter(None, [desk.trouble, *wrong]))
@@ -180,7 +181,7 @@ class Server:
         return web.json_response(values, status=503 if desk.trouble else 200)
 
     async def end(self) -> None:
-        """Lets the streams that are under way end, for a while."""
+        """Waits for the streams in progress, for a while, and closes the desk."""
         if self.streams:
             await asyncio.wait(self.streams, timeout=LAST_SECONDS)
         await self.desk.close()
@@ -191,7 +192,7 @@ SAFE = {"Cache-Control": "no-store", "X-Content-Type-Options": "nosniff"}
 
 @web.middleware
 async def errors_as_text(request: web.Request, handler: Handler) -> web.StreamResponse:
-    """Tells in a sentence why something isn't done."""
+    """Answers errors with a sentence."""
     try:
         return await handler(request)
     except StatementRejected as why:
@@ -205,12 +206,12 @@ async def errors_as_text(request: web.Request, handler: Handler) -> web.StreamRe
 
 
 def after(status: int) -> dict[str, str]:
-    """The headers that say when something may be sent again."""
+    """The headers that say when to send a request again."""
     return {"Retry-After": "1"} if status == 503 else {}
 
 
 def state_of(tag: str | None, position: int) -> dict[str, str]:
-    """The headers that name the state in which something was answered."""
+    """The headers that name the state of an answer; none without a tag."""
     return {"ETag": f'"{tag}"', "X-Opcplan-Position": str(position)} if tag else {}
 
 
@@ -218,25 +219,26 @@ def key_of(request: web.Request) -> str | None:
     """The key of a stream, or None. Raises StatementRejected."""
     key = request.headers.get("Idempotency-Key")
     if key is not None and not KEY.fullmatch(key):
-        raise StatementRejected(400, "Idempotency-Key has 1 to 200 printable characters, and neither blanks nor #")
+        raise StatementRejected(400, "`Idempotency-Key` must have 1 to 200 printable characters, without blanks and #; "
+                                "nothing was done")
     return key
 
 
 def condition_of(request: web.Request, found: Sequence[StreamItem]) -> str | None:
-    """The tag of the state that a change asks for, or None. Raises StatementRejected."""
+    """The tag in If-Match, or None. Raises StatementRejected."""
     text = request.headers.get("If-Match")
     if text is None:
         return None
     if not any(one.changes for one in found):
-        raise StatementRejected(400, "If-Match goes with a statement that changes something; nothing was done")
+        raise StatementRejected(400, "`If-Match` needs a statement that changes something; nothing was done")
     return text.strip().strip('"')
 
 
-# The beginning and the end of a desk.
+# The start and the end of a desk.
 
 
 def serve(given: Settings, program: str) -> None:
-    """Runs a desk until it is to end. Raises DeskNotStarted, Unreadable, InvalidAccessFile and CannotJoin."""
+    """Runs a desk until a signal. Raises DeskNotStarted, Unreadable, InvalidAccessFile and CannotJoin."""
     the_guard = guard.Guard(given)
     with contextlib.closing(HeldFiles(given.plan, given.journal)) as files:
         try:
@@ -244,11 +246,11 @@ def serve(given: Settings, program: str) -> None:
                 asyncio.run(served(given, program, the_guard, files))
         except locks.FileLocked as held:
             path = given.plan if held.path == files.plan else given.journal
-            raise DeskNotStarted(f"{path}: another desk has it") from None
+            raise DeskNotStarted(f"{path}: another desk uses this file; end that desk first") from None
 
 
 async def served(given: Settings, program: str, the_guard: guard.Guard, files: HeldFiles) -> None:
-    """A desk over held files. Raises DeskNotStarted, Unreadable and CannotJoin."""
+    """Runs a desk over held files. Raises DeskNotStarted, Unreadable and CannotJoin."""
     the_log: Log
     why_not: Callable[[], str] = files.moved
     async with contextlib.AsyncExitStack() as left:
@@ -262,7 +264,7 @@ async def served(given: Settings, program: str, the_guard: guard.Guard, files: H
 
 
 async def run(given: Settings, the_guard: guard.Guard, desk: core.Desk) -> None:
-    """Has a desk answer until it is to end."""
+    """Has a desk answer until a signal. Raises DeskNotStarted."""
     stop = asyncio.Event()
     for one in signals.SIGNALS:
         if one != signal.SIGHUP or signal.getsignal(one) is not signal.SIG_IGN:  # as under nohup
@@ -281,7 +283,7 @@ async def run(given: Settings, the_guard: guard.Guard, desk: core.Desk) -> None:
     over = asyncio.create_task(desk.planner.is_over.wait())
     await asyncio.wait([over, asyncio.create_task(stop.wait())], return_when=asyncio.FIRST_COMPLETED)
     for listener in listeners:
-        asyncio.get_running_loop().remove_reader(listener.bound)  # nobody else is taken
+        asyncio.get_running_loop().remove_reader(listener.bound)  # no further connection is accepted
     await server.end()
     server.connections.close()
     await runner.cleanup()

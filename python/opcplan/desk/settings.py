@@ -1,4 +1,4 @@
-"""What a desk is begun with, by the words of its command."""
+"""The options of a desk."""
 
 import dataclasses
 from typing import NamedTuple
@@ -7,7 +7,7 @@ from opcplan.desk.log_words import Where
 
 
 class Address(NamedTuple):
-    """An address that is listened on: the host by its number, and the port."""
+    """An address on which the desk listens: the host by its number, and the port."""
 
     host: str
     port: int
@@ -15,12 +15,12 @@ class Address(NamedTuple):
 
 @dataclasses.dataclass(frozen=True)
 class Settings:
-    """What a desk is begun with; `docs/use/DESK.md` has what each word means."""
+    """The options of a desk; `docs/use/DESK.md` has their meaning."""
 
     plan: str
     journal: str
     log: Where | None
-    source: str | None  # the desk whose plan is taken
+    source: str | None  # the desk that --from names, whose plan is fetched
     listen: Address | None
     socket: str | None
     users: str | None

@@ -18,8 +18,8 @@ if TYPE_CHECKING:
 
 
 class Position(NamedTuple):
-    """The state of a plan that was copied: its last entry, its tag, and the digest of the log up to that entry, where
-    it is known."""
+    """The state of a copied plan: its last entry, its tag, and the digest of the log up to that entry, or None if it
+    isn't known."""
 
     position: int
     tag: str
@@ -34,7 +34,7 @@ async def handle(desk: "Desk", path: str, request: web.Request) -> web.StreamRes
             stands = await copied(desk, path, copy)
             await asyncio.to_thread(in_one_file, copy)
         except (OSError, sqlite3.Error, Unreadable, FileReplaced) as error:
-            raise web.HTTPServiceUnavailable(text=f"there is no copy: {error}\n") from None
+            raise web.HTTPServiceUnavailable(text=f"the desk can't copy the plan: {error}\n") from None
         heads = {
             "Content-Type": "application/vnd.sqlite3", "Content-Disposition": "attachment; filename=plan.db",
             "X-Opcplan-Position": str(stands.position), "ETag": f'"{stands.tag}"',
@@ -46,8 +46,8 @@ async def handle(desk: "Desk", path: str, request: web.Request) -> web.StreamRes
 
 
 async def copied(desk: "Desk", path: str, copy: str) -> Position:
-    """Copies the plan and its log while no statement is in flight. Where the planner is stopped, the plan may have more
-    than the position says. Raises FileReplaced, Unreadable and OSError."""
+    """Copies the plan and its `-wal` while no statement is in flight. If the planner is stopped, the plan may have more
+    entries than the position says. Raises FileReplaced, Unreadable and OSError."""
     async with desk.feed.at_rest():
         if desk.planner.halted:
             raise FileReplaced(desk.planner.halted)
@@ -58,6 +58,6 @@ async def copied(desk: "Desk", path: str, copy: str) -> Position:
 
 
 def in_one_file(copy: str) -> None:
-    """Puts the log of a copy into it."""
+    """Moves the `-wal` of a copy into it. Raises sqlite3.Error."""
     with contextlib.closing(sqlite3.connect(copy)) as db:
         db.execute("PRAGMA wal_checkpoint(TRUNCATE)")

@@ -1,4 +1,4 @@
-"""The plan with which a desk begins that comes late: that of another desk, with its place in the log."""
+"""The first plan of a new desk of a log: a copy of another desk's, with its position in the log."""
 
 import contextlib
 import os
@@ -9,15 +9,17 @@ from opcplan.desk.versions import CannotJoin
 from opcplan.plans import journal, plan_file
 
 
-# a log that opcplan left when it ended has fewer bytes, and nothing of a plan
+# a file that opcplan left when it ended is no longer than this, and has nothing of a plan
 LEAST = 64
 
 
 def take(source: str, plan: str, path: str) -> None:
-    """Makes a plan of what another desk has, and a journal that goes on behind it. Raises CannotJoin and Unreadable."""
+    """Fetches another desk's plan into a file, and begins a journal after its position. Raises CannotJoin and
+    Unreadable."""
     for tail in plan_file.TAILS[1:]:
-        if os.path.exists(plan + tail) and os.path.getsize(plan + tail) > LEAST:  # it would be a part of the new plan
-            raise CannotJoin(f"{plan}{tail} is left of another plan: move it away too")
+        # opcplan would take this file for a part of the new plan
+        if os.path.exists(plan + tail) and os.path.getsize(plan + tail) > LEAST:
+            raise CannotJoin(f"{plan}{tail}: this file is left from another plan; move it away too")
     folder, name = os.path.split(os.path.abspath(plan))
     with tempfile.NamedTemporaryFile(dir=folder, prefix=f"{name}.", suffix=".part", delete=False) as part:
         try:
@@ -26,22 +28,22 @@ def take(source: str, plan: str, path: str) -> None:
             os.fsync(part.fileno())
             log_id, position = heads.get("X-Opcplan-Log"), heads.get("X-Opcplan-Position", "")
             if not log_id or not position.isdigit():
-                raise CannotJoin(f"{source}: it is no desk over a log that others share")
+                raise CannotJoin(f"{source}: this desk shares no log; name a desk of the same log with --from")
             with plan_file.opened(part.name) as held:
                 (jobs,) = held.db.execute("SELECT count(*) FROM job").fetchone()
             begin(path, log_id, int(position), jobs, heads.get("X-Opcplan-Digest"))
             os.link(part.name, plan)
             sync(folder)
         except (client.DeskUnreachable, client.RequestRefused, client.InvalidAddress) as why:
-            raise CannotJoin(f"{source}: there is no plan to begin with: {why}") from None
+            raise CannotJoin(f"{source}: the plan of this desk can't be fetched: {why}") from None
         except FileExistsError:
-            raise CannotJoin(f"{plan}: it is there meanwhile; start the desk again") from None
+            raise CannotJoin(f"{plan}: somebody made this file meanwhile; start the desk again") from None
         finally:
             os.remove(part.name)
 
 
 def begin(path: str, log_id: str, position: int, jobs: int, digest: str | None) -> None:
-    """Has a journal go on behind an entry of a log: a new one, or one that the same log had before. Raises
+    """Has a journal go on after an entry of a log. It is a new one, or was of the same log before. Raises
     CannotJoin."""
     with contextlib.closing(journal.Journal(path)) as record:
         known = record.begun()
@@ -51,7 +53,7 @@ def begin(path: str, log_id: str, position: int, jobs: int, digest: str | None) 
 
 
 def sync(folder: str) -> None:
-    """Puts the names of a folder on the disk."""
+    """Syncs a folder's list of files to the disk."""
     number = os.open(folder, os.O_RDONLY)
     try:
         os.fsync(number)

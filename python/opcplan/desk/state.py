@@ -1,15 +1,14 @@
 """What a desk knows and decides, without I/O: events go in by calls, and commands come out.
 
 There is no clock here, no file and no asyncio. A desk over one machine's journal and a desk over etcd both run this
-state; what is around it writes the log, talks to opcplan and answers callers.
+state; the code around it writes the log, talks to opcplan and answers callers.
 
-What always holds (`State.broken` says what doesn't, and tests/test_desk_states.py asks it in each state of small
+What always holds (`State.broken` says what doesn't, and tests/test_desk_states.py calls it in each state of small
 worlds):
 
-- The position is never above the greatest entry whose reply was seen from this plan, and each entry up to it is
-  answered.
+- The position is never above the greatest entry whose reply came from this plan, and each entry up to it is answered.
 - Each answered entry reaches each subscriber once, in order, without a gap.
-- One key stands for one stream.
+- One key belongs to one stream.
 - What is acknowledged is durable: nothing is sent to opcplan that the log doesn't have."""
 
 import collections
@@ -22,14 +21,14 @@ from opcplan.errors import Error
 from opcplan.plans.chain import chained
 from opcplan.plans.entry import Entry
 
-# statements that opcplan has at once without having answered them
+# the most statements that opcplan has at once without a reply
 MOST_IN_FLIGHT = 64
-# answered entries that stay in memory for those who read behind a position, and the bytes of their texts
+# the most answered entries in memory for readers of events, and the most bytes of their texts
 MOST_RECENT, RECENT_BYTES = 500, 4 << 20
 
 
 class Item(Protocol):
-    """What opcplan is asked: a change has an entry, a question has none."""
+    """A statement for opcplan: a change has an entry, a question has none."""
 
     @property
     def entry(self) -> Entry | None:
@@ -45,61 +44,62 @@ ItemT = TypeVar("ItemT", bound=Item)
 
 @dataclasses.dataclass(frozen=True)
 class Send(Generic[ItemT]):
-    """Command: opcplan gets an item."""
+    """Command: send opcplan an item."""
 
     item: ItemT
 
 
 @dataclasses.dataclass(frozen=True)
 class Answer(Generic[ItemT]):
-    """Command: whoever waits for an item gets its reply, in the state of the plan that `tag` and `position` name."""
+    """Command: answer an item, in the state of the plan that `tag` and `position` name."""
 
     item: ItemT
     reply: str
-    entry: Entry | None  # answered, of a change that wasn't answered before
+    entry: Entry | None  # the answered entry of a change that wasn't answered before, else None
     tag: str
     position: int
 
 
 @dataclasses.dataclass(frozen=True)
 class Drop(Generic[ItemT]):
-    """Command: whoever waits for an item is sent away. A change stays, since the log has it."""
+    """Command: reject an item for all that wait for it. A change stays, because the log has it."""
 
     item: ItemT
 
 
 @dataclasses.dataclass(frozen=True)
 class Read:
-    """Command: the journal has the answered entries behind `since`, up to `upto`; if it has none, look behind that."""
+    """Command: read the answered entries after `since`, up to `upto`, in the journal; if it has none, look after
+    `upto`."""
 
     since: int
     upto: int
 
 
 class Claim(NamedTuple):
-    """A stream under a caller's key, that so many requests are about."""
+    """The digest of the stream under a caller's key, and how many requests use it."""
 
     stream: str
     users: int
 
 
 class InvariantBroken(Error):
-    """An invariant that doesn't hold: the desk can't go on."""
+    """Which invariant doesn't hold: the desk can't go on."""
 
 
 class State(Generic[ItemT]):
-    """The state of a desk over a plan that has all entries up to `position`, and of the later ones in `pending` perhaps
-    some. `life` names the log, `chain` the digest of its entries and replies up to the position, None where that isn't
-    known."""
+    """The state of a desk over a plan that has all entries up to `position`, and perhaps some of the later ones in
+    `pending`. `life` is the name of the log, `chain` the digest of its entries and replies up to the position, or None
+    if it isn't known."""
 
     def __init__(self, life: str, position: int, chain: str | None = None, pending: Iterable[ItemT] = ()) -> None:
         self.life = life
         self.position = self.changed = self.kept = self.recent_from = position
         self.chain = chain
-        self.line: collections.deque[ItemT] = collections.deque(pending)  # that opcplan is to get, in order
-        self.flight: collections.deque[ItemT] = collections.deque()  # that it got in this life, and hasn't answered
-        self.recent: list[Entry] = []  # answered entries behind `recent_from`, up to the position
-        self.chains: list[str | None] = []  # the digest at each of them
+        self.line: collections.deque[ItemT] = collections.deque(pending)  # the items that opcplan will get, in order
+        self.flight: collections.deque[ItemT] = collections.deque()  # the items that this process has without a reply
+        self.recent: list[Entry] = []  # answered entries after `recent_from`, up to the position
+        self.chains: list[str | None] = []  # the digest at each of `recent`
         self.by_key: dict[tuple[str, str], ItemT] = {}  # changes whose reply the journal doesn't have
         self.claims: dict[tuple[str, str], Claim] = {}
         self.is_open = False
@@ -111,29 +111,29 @@ class State(Generic[ItemT]):
     # What the log has.
 
     def appended(self, items: Sequence[ItemT]) -> list[Send[ItemT]]:
-        """The log has these changes durably, behind all others. Raises InvariantBroken."""
+        """Takes changes that the log has now, durably, after all others. Raises InvariantBroken."""
         for item in items:
             if item.entry is None or item.entry.seq != self.durable + 1:
-                raise InvariantBroken(f"entry {item.entry and item.entry.seq} doesn't come behind entry {self.durable}")
+                raise InvariantBroken(f"entry {item.entry and item.entry.seq} doesn't come after entry {self.durable}")
             self.durable = item.entry.seq
             self.line.append(item)
         return self.sends()
 
     def asked(self, item: ItemT) -> list[Send[ItemT]]:
-        """Somebody asks a question."""
+        """Takes a question."""
         self.line.append(item)
         return self.sends()
 
     # What opcplan does.
 
     def opened(self) -> list[Send[ItemT]]:
-        """A life of opcplan has opened the plan."""
+        """A process of opcplan has opened the plan."""
         self.is_open = True
         return self.sends()
 
     def sends(self) -> list[Send[ItemT]]:
-        """What opcplan gets now. No change goes before the questions in front of it are answered: a question that is
-        asked again in a later life is answered without it."""
+        """What opcplan gets now. A change waits until the questions in front of it are answered, so that a question
+        that is sent again to a later process doesn't see the change."""
         found: list[Send[ItemT]] = []
         while self.is_open and self.line and len(self.flight) < MOST_IN_FLIGHT:
             if is_change(self.line[0]) and self.flight and not is_change(self.flight[-1]):
@@ -143,12 +143,12 @@ class State(Generic[ItemT]):
         return found
 
     def replied(self, reply: str) -> list[Answer[ItemT] | Send[ItemT]]:
-        """Opcplan has answered the first item in flight. Raises InvariantBroken."""
+        """Takes opcplan's reply to the first item in flight. Raises InvariantBroken."""
         item, answered = self.flight.popleft(), None
         if is_change(item):
             assert item.entry is not None
             if item.entry.seq != self.position + 1:
-                raise InvariantBroken(f"entry {item.entry.seq} is answered behind entry {self.position}")
+                raise InvariantBroken(f"entry {item.entry.seq} was answered after entry {self.position}")
             answered = dataclasses.replace(item.entry, reply=reply)
             self.position = answered.seq
             if reply.startswith("ok"):
@@ -159,13 +159,13 @@ class State(Generic[ItemT]):
         return [Answer(item, reply, answered, self.tag, self.position), *self.sends()]
 
     def ended(self) -> None:
-        """A life of opcplan is over: what it hasn't answered is asked again, in the same order."""
+        """A process of opcplan is over: the next one gets what has no reply, in the same order."""
         self.is_open = False
         self.line.extendleft(reversed(self.flight))
         self.flight.clear()
 
     def stopped(self) -> list[Drop[ItemT]]:
-        """Opcplan can't be started for now: nobody waits any more, and changes stay in line."""
+        """Opcplan can't be started for now: all items are rejected, and changes stay in line."""
         found = [Drop(item) for item in (*self.flight, *self.line)]
         self.line = collections.deque(one.item for one in found if is_change(one.item))
         self.flight.clear()
@@ -173,31 +173,31 @@ class State(Generic[ItemT]):
 
     @property
     def is_idle(self) -> bool:
-        """Whether the plan is exactly that of the position."""
+        """Whether nothing waits or is in flight, so the plan is exactly that of the position."""
         return not self.line and not self.flight
 
     @property
     def changes(self) -> int:
-        """How many changes wait for opcplan, or for what it answers."""
+        """How many changes have no reply yet."""
         return self.durable - self.position
 
     @property
     def has_room(self) -> bool:
-        """Whether opcplan can be given more."""
+        """Whether opcplan may get more."""
         return len(self.line) + len(self.flight) < MOST_IN_FLIGHT
 
     # The journal beside the plan.
 
     def unkept(self) -> list[Entry]:
-        """The answered entries whose reply the journal doesn't have, in their order."""
+        """The answered entries whose reply the journal lacks, in their order."""
         return self.recent[self.kept - self.recent_from :]
 
     def digests(self, entries: Sequence[Entry]) -> list[str | None]:
-        """The digest at each of some answered entries that are in memory."""
+        """The digest at each of these answered entries, which must be in memory."""
         return [self.chains[one.seq - self.recent_from - 1] for one in entries]
 
     def adopt(self, seq: int, digest: str) -> None:
-        """Takes the digest of the log up to an entry from another desk, where none is known here."""
+        """Takes another desk's digest of the log up to an entry, if this desk doesn't know its own."""
         if self.chain is None and self.recent_from <= seq <= self.position:
             chain: str | None = digest
             for place in range(seq - self.recent_from, len(self.recent)):
@@ -205,7 +205,7 @@ class State(Generic[ItemT]):
             self.chain = chain
 
     def keeps(self, entries: Sequence[Entry]) -> None:
-        """The journal has the replies of these entries: a retry finds them there."""
+        """The journal has the replies of these entries now, where a retry finds them."""
         self.kept = max([self.kept, *(one.seq for one in entries)])
         for one in entries:
             item = None if one.key is None else self.by_key.get((one.who, one.key))
@@ -214,7 +214,7 @@ class State(Generic[ItemT]):
         self.trim()
 
     def trim(self) -> None:
-        """Lets go of entries that the journal has, where those in memory are many."""
+        """Drops entries that the journal has, if too many are in memory."""
         size, count = sum(len(one.text) for one in self.recent), len(self.recent)
         over = 0
         while over < self.kept - self.recent_from and (count - over > MOST_RECENT or size > RECENT_BYTES):
@@ -224,22 +224,22 @@ class State(Generic[ItemT]):
         del self.chains[:over]
         self.recent_from += over
 
-    # Who reads.
+    # Readers.
 
     def due(self, last: int, most: int) -> list[Entry] | Read:
-        """What comes behind an entry for somebody who has it: at most so many answered entries, or where they are."""
+        """The answered entries after `last`, at most `most` of them, or where to read them."""
         if last < self.recent_from:
             return Read(last, self.recent_from)
         return self.recent[last - self.recent_from : last - self.recent_from + most]
 
     @property
     def tag(self) -> str:
-        """Names the state of the plan: another log, or another change, make another tag."""
+        """The name of the plan's state: another log, or another change, has another tag."""
         return f"{self.life}-{self.changed}"
 
     def is_state(self, tag: str) -> bool:
-        """Whether a tag names the state of the plan, and that has nothing behind it. A desk that began later may have
-        named it by a later entry."""
+        """Whether a tag names the state of the plan, and nothing waits. A desk that was started later may have named
+        the same state by a later entry."""
         life, _, entry = tag.rpartition("-")
         is_one = life == self.life and re.fullmatch("[0-9]{1,15}", entry)
         return self.is_idle and bool(is_one) and self.changed <= int(entry) <= self.position
@@ -247,8 +247,8 @@ class State(Generic[ItemT]):
     # Keys.
 
     def claim(self, who: str, key: str, stream: str, stored: str | None) -> bool:
-        """Whether a stream may go under a caller's key: the key stands for no stream, or for this one. `stored` is the
-        stream for which the log has it. `release` ends it."""
+        """Claims a caller's key for a stream, until `release`; whether the key belongs to no other stream. `stored` is
+        the stream to which the key belongs in the log, or None."""
         known = self.claims.get((who, key))
         if stored is not None and stored != stream or known is not None and known.stream != stream:
             return False
@@ -256,7 +256,7 @@ class State(Generic[ItemT]):
         return True
 
     def release(self, who: str, key: str) -> None:
-        """A request about a stream is over: all its changes are answered, or sent away."""
+        """Releases a key, once all changes of a request are answered or rejected."""
         known = self.claims[who, key]
         if known.users > 1:
             self.claims[who, key] = Claim(known.stream, known.users - 1)
@@ -264,15 +264,15 @@ class State(Generic[ItemT]):
             del self.claims[who, key]
 
     def wants(self, who: str, key: str, item: ItemT) -> None:
-        """A change waits for the log under a caller's key."""
+        """Notes a change that waits for the log under a caller's key."""
         self.by_key[who, key] = item
 
     def known(self, who: str, key: str) -> ItemT | None:
-        """The change that waits under a caller's key, or whose reply the journal doesn't have."""
+        """The change under a caller's key that waits, or whose reply the journal lacks, or None."""
         return self.by_key.get((who, key))
 
     def forget(self, who: str, key: str, item: ItemT) -> None:
-        """A change under a caller's key wasn't taken into the log."""
+        """Drops a change under a caller's key that didn't get into the log."""
         if self.by_key.get((who, key)) is item:
             del self.by_key[who, key]
 
@@ -282,13 +282,14 @@ class State(Generic[ItemT]):
         """Which invariant doesn't hold, or nothing."""
         waiting = [item.entry.seq for item in (*self.flight, *self.line) if item.entry is not None and is_change(item)]
         if waiting != list(range(self.position + 1, self.durable + 1)):
-            return f"entries {waiting} wait behind entry {self.position}, and the log has entry {self.durable}"
+            return f"entries {waiting} wait after entry {self.position}, and the log has entry {self.durable}"
         if [one.seq for one in self.recent] != list(range(self.recent_from + 1, self.position + 1)):
-            return f"there are gaps among the entries behind {self.recent_from}"
+            return f"there are gaps among the entries after {self.recent_from}"
         if not self.recent_from <= self.kept <= self.position or not self.changed <= self.position:
-            return f"entry {self.kept} is kept and entry {self.changed} the last change, at position {self.position}"
+            return (f"the journal has replies up to entry {self.kept}, and entry {self.changed} is the last change, at "
+                    f"position {self.position}")
         if any(one.reply is None for one in self.recent):
-            return "an entry is told that isn't answered"
+            return "an entry without a reply is among the answered ones"
         return ""
 
 

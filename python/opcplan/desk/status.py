@@ -1,7 +1,7 @@
-"""How a desk's plan is: what needs somebody, when the plans end, the agents, and the nodes of etcd.
+"""`GET /status`: what in a desk's plan needs somebody, when the plans end, the agents, and the nodes of etcd.
 
-A process of its own finds what needs somebody, of a copy of the plan. It is found again once the plan or the minute has
-changed, but takes no more than a quarter of the time."""
+A process of its own finds what needs somebody, from a copy of the plan. The desk runs it again once the plan or the
+minute has changed, but for no more than a quarter of the time."""
 
 import asyncio
 import contextlib
@@ -26,15 +26,15 @@ if TYPE_CHECKING:
 
 PROCESS = [sys.executable, "-E", "-B", "-m", "opcplan.desk.needs_process"]
 LONGEST_MAKING = 120
-# how many times what it took passes before it is found again
+# the pause before the next run, in times of what the last run took
 PAUSES = 3
-# seconds for which counts wait for what isn't found yet
+# seconds for which metrics wait for the facts
 PATIENCE = 5
 
 
 class Found(NamedTuple):
-    """What was found: as of which moment it was asked for, in which minute of the clock, when that ended and how long
-    it took by the steady clock, when by the clock, and the state of the plan."""
+    """The facts of a plan: for which moment (None: the clock's), in which minute of the clock, when the run ended and
+    how long it took by the monotonic clock, when by the clock, and the state of the plan."""
 
     now: int | None
     minute: int
@@ -47,13 +47,13 @@ class Found(NamedTuple):
 
 
 class Status:
-    """The status of a desk's plan, whose journal has a path."""
+    """The status of a desk's plan, with the paths of the plan and its journal."""
 
     def __init__(self, desk: "Desk", path: str, journal: str) -> None:
         self.desk, self.path, self.journal = desk, path, journal
         self.making = asyncio.Lock()
         self.found: Found | None = None
-        self.last: Found | None = None  # of the clock
+        self.last: Found | None = None  # the last one for the clock's moment
         self.counting: asyncio.Task[Found] | None = None
 
     async def handle(self, request: web.Request) -> web.StreamResponse:
@@ -67,7 +67,7 @@ class Status:
         return web.json_response(values, headers=heads)
 
     async def latest(self, now: int | None = None) -> Found:
-        """What is found as of a moment, or of the clock. Raises HTTPServiceUnavailable."""
+        """The facts for a moment, or for the clock's. Raises HTTPServiceUnavailable."""
         async with self.making:
             found = self.found
             if found is None or found.now != now or not self.is_fresh(found):
@@ -76,26 +76,26 @@ class Status:
         return found
 
     def is_fresh(self, found: Found) -> bool:
-        """Whether what was found will do still."""
+        """Whether these facts are still new enough."""
         if found.tag == self.desk.tag() and (found.now is not None or found.minute == moments.now()):
             return True
         return found.now is None and time.monotonic() < found.ended + PAUSES * found.took
 
     async def find(self, now: int | None) -> Found:
-        """What needs somebody, of a copy of the plan. Raises HTTPServiceUnavailable."""
+        """Finds the facts in a copy of the plan. Raises HTTPServiceUnavailable."""
         begun, minute = time.monotonic(), moments.now()
         with tempfiles.folder("desk-") as folder:
             copy = os.path.join(folder, "plan.db")
             try:
                 stands = await snapshot.copied(self.desk, self.path, copy)
             except (OSError, Unreadable, FileReplaced) as error:
-                raise web.HTTPServiceUnavailable(text=f"there is no copy of the plan: {error}\n") from None
+                raise web.HTTPServiceUnavailable(text=f"the desk can't copy the plan: {error}\n") from None
             facts = await facts_of(copy, "-" if now is None else str(now), self.journal)
         ended = time.monotonic()
         return Found(now, minute, ended, ended - begun, moment_now(), stands.position, stands.tag, facts)
 
     async def counted(self) -> Found | None:
-        """What is found as of the clock, for counts: after a while what was found last, or None."""
+        """The facts for metrics: those for the clock's moment, or after a while the last ones, or None."""
         if self.counting is None or self.counting.done():
             self.counting = asyncio.create_task(self.latest())
         with contextlib.suppress(asyncio.TimeoutError, web.HTTPServiceUnavailable):
@@ -104,20 +104,20 @@ class Status:
 
 
 async def facts_of(copy: str, now: str, journal: str) -> dict[str, Any]:
-    """What the process says of a copy. Raises HTTPServiceUnavailable."""
+    """The facts that the process finds in a copy. Raises HTTPServiceUnavailable."""
     process = await asyncio.create_subprocess_exec(
         *PROCESS, copy, now, os.path.abspath(journal), cwd=PYTHON, stdin=asyncio.subprocess.DEVNULL,
         stdout=asyncio.subprocess.PIPE, stderr=asyncio.subprocess.PIPE)
     try:
         out, said = await asyncio.wait_for(process.communicate(), LONGEST_MAKING)
     except asyncio.TimeoutError:
-        raise web.HTTPServiceUnavailable(text="to find what needs somebody takes too long\n") from None
+        raise web.HTTPServiceUnavailable(text="finding what needs somebody took too long; try again\n") from None
     finally:
         with contextlib.suppress(ProcessLookupError):
             if process.returncode is None:
                 process.kill()
     if process.returncode:
         why = said.decode("utf-8", "replace").strip().split("\n")[-1]
-        raise web.HTTPServiceUnavailable(text=f"what needs somebody isn't found: {why}\n")
+        raise web.HTTPServiceUnavailable(text=f"the desk can't find what needs somebody: {why}\n")
     found: dict[str, Any] = json.loads(out)
     return found

@@ -1,13 +1,14 @@
-"""What stands in etcd of a log, below /opcplan/NAME/.
+"""A log in etcd. Its keys are below /opcplan/NAME/.
 
-    begun            which log it is, and behind which plan it begins
+    begun            the id of the log, and from which plan it began
     head             the last entry, and how often the version was moved: `LAST MOVES`
     version/SINCE    the opcplan that answers the entries from this one on
     log/FIRST        entries that were appended together, under the number of the first
-    key/WHO/KEY      for which entry a caller's key stands
-    desk/ID          how far a desk has applied the log
+    key/WHO/KEY      the entry that has a caller's key
+    desk/ID          the position and digests that a desk publishes
 
-Who appends or moves the version does it where `head` is what that one knows, so all see one order."""
+A desk that appends, or moves the version, does so on the condition that `head` is as it knows it. So all see one
+order."""
 
 import json
 import urllib.parse
@@ -21,12 +22,12 @@ from opcplan.desk.log_entries import number_of, of_base64
 from opcplan.desk.log_words import Where
 from opcplan.plans.entry import Entry
 
-# entries that were appended together, that are read at once
+# the most batches that are read at once
 MOST_READ = 64
-# entries that are taken away by one call
+# the most entries that are removed by one call
 MOST_TRIMMED = 2000
-BEHIND_ALL = ":"  # behind each digit
-Part = Mapping[str, Any]  # of a transaction: a condition, a question or something that is put
+BEHIND_ALL = ":"  # sorts after each digit
+Part = Mapping[str, Any]  # of a transaction: a condition, a read or a write
 
 
 class Head(NamedTuple):
@@ -40,7 +41,8 @@ class Head(NamedTuple):
 
 
 class State(NamedTuple):
-    """What stands of a log: `first` is the first entry that is left, behind `head` where there is none."""
+    """The state of a log: its id, the entry from which it began and the sum of that plan, its head, its first entry
+    that is left (the one after `head` if none is), and the opcplan from each entry on at which it was moved."""
 
     id: str
     base: int
@@ -51,7 +53,7 @@ class State(NamedTuple):
 
 
 class Appended(NamedTuple):
-    """What came of an append: whether it is done, else what stands there instead."""
+    """What came of an append: whether it is done, and if not, what is there instead."""
 
     is_done: bool
     head: Head | None
@@ -60,36 +62,36 @@ class Appended(NamedTuple):
 
 
 class TransactionResult(NamedTuple):
-    """What etcd answers to a transaction: whether its conditions held, and what its parts answered."""
+    """etcd's answer to a transaction: whether its conditions held, and the answers to its parts."""
 
     held: bool
     answers: list[dict[str, Any]]
 
 
 class LogContent(NamedTuple):
-    """What was read of a log: its Head, None where there is none, and Batches."""
+    """What was read of a log: its Head, or None if there is no log, and Batches."""
 
     head: Head | None
     batches: list[Batch]
 
 
 class Size(NamedTuple):
-    """How many entries stand there, and their bytes."""
+    """How many entries a log has, and their bytes."""
 
     entries: int
     bytes: int
 
 
 class Trimmed(NamedTuple):
-    """How many batches went, and etcd's revision then."""
+    """How many batches were removed, and etcd's revision then."""
 
     gone: int
     revision: int
 
 
 class Report(NamedTuple):
-    """How a desk stands, as it says in etcd: its last entry, its plan and its opcplan, and when that was; of the last
-    entry whose digest it knows the number and the digest, and the digests of the last ones, shortened."""
+    """What a desk publishes in etcd: its last entry, its plan and its opcplan, and when; the number and the digest of
+    the last entry whose digest it knows; and the digests of its last entries, shortened."""
 
     position: int
     plan: str = ""
@@ -101,7 +103,7 @@ class Report(NamedTuple):
 
     @property
     def text(self) -> str:
-        """How it stands in etcd."""
+        """Its text in etcd."""
         return json.dumps({name: value for name, value in self._asdict().items() if value is not None})
 
 
@@ -117,29 +119,29 @@ class Store:
         return "/".join([self.root, *parts])
 
     def log_key(self, seq: int) -> str:
-        """The key of the entries that begin with a number."""
+        """The key of the batch that begins with an entry."""
         return self.key("log", f"{seq:010d}")
 
     def caller_key(self, who: str, key: str) -> str:
-        """The key of a caller's key."""
+        """The key in etcd of a caller's key."""
         return self.key("key", urllib.parse.quote(who, safe=""), key)
 
     async def txn(self, compare: Sequence[Part], success: Sequence[Part], failure: Sequence[Part],
                   until: float | None = None) -> TransactionResult:
-        """What a transaction is answered. Raises EtcdUnreachable and EtcdError."""
+        """The answer to a transaction. Raises EtcdUnreachable and EtcdError, as do all calls that use etcd."""
         said = {"compare": compare, "success": success, "failure": failure}
         found = await self.etcd.post("/v3/kv/txn", said, until)
         answers = [next(iter(one.values())) for one in found.get("responses", ())]
         return TransactionResult(found.get("succeeded", False), answers)
 
     async def asked(self, *ranges: Part) -> list[dict[str, Any]]:
-        """The answers to some ranges at one moment."""
+        """The answers to some reads at one moment."""
         return (await self.txn([], ranges, [])).answers
 
-    # What stands there.
+    # Reading.
 
     async def state(self) -> State | None:
-        """The State, or None where there is no such log."""
+        """The State, or None if there is no such log."""
         begun, head, versions, first = await self.asked(
             at(self.key("begun")), at(self.key("head")), below(self.key("version") + "/"),
             below(self.key("log") + "/", limit="1", keys_only=True))
@@ -151,7 +153,7 @@ class Store:
                      {number_of(kv): of_base64(kv["value"]).decode() for kv in kvs(versions)})
 
     async def head(self, until: float | None = None) -> Head | None:
-        """The Head, or None where there is no such log."""
+        """The Head, or None if there is no such log."""
         found = await self.etcd.post("/v3/kv/range", at(self.key("head"))["request_range"], until)
         return head_of(value(found)) if kvs(found) else None
 
@@ -161,7 +163,7 @@ class Store:
         return {number_of(kv): of_base64(kv["value"]).decode() for kv in kvs(found)}
 
     async def read(self, after: int) -> LogContent:
-        """What comes behind an entry, not all where that is much; less where etcd took too long."""
+        """The batches after an entry, at most `self.most` of them, which gets less after etcd took too long."""
         try:
             head, log = await self.asked(at(self.key("head")), self.behind(after, self.most))
         except EtcdUnreachable:
@@ -171,17 +173,17 @@ class Store:
         return LogContent(head_of(value(head)) if kvs(head) else None, [batch_of(kv) for kv in kvs(log)])
 
     def behind(self, after: int, most: int) -> Part:
-        """A question for the batches behind an entry, so many at most."""
+        """A read of the batches after an entry, at most `most`."""
         return below(self.log_key(after + 1), self.key("log", BEHIND_ALL), limit=str(most))
 
     async def holding(self, seq: int) -> Batch | None:
-        """The Batch that has an entry, or None where it isn't left."""
+        """The Batch that has an entry, or None if it was removed."""
         (found,) = await self.asked(below(self.log_key(max(0, seq - MOST_TOGETHER)), self.log_key(seq + 1)))
         last = batch_of(kvs(found)[-1]) if kvs(found) else None
         return last if last and last.last >= seq else None
 
     async def size(self) -> Size:
-        """How much stands there."""
+        """The size of the log."""
         entries, size, after = 0, 0, -1
         while True:
             (found,) = await self.asked(self.behind(after, MOST_READ))
@@ -193,17 +195,17 @@ class Store:
                 after = batch.last
 
     async def keys(self, who: str, key: str) -> dict[str, KeyHolder]:
-        """What stands under a caller's key and those of its stream, `key#n`, by key."""
+        """What has a caller's key, and those of its stream (`key#n`), by key."""
         begin = self.caller_key(who, key)
         found = await self.asked(at(begin), below(f"{begin}#", f"{begin}$"))
         prefix = len(self.caller_key(who, ""))
         return {of_base64(kv["key"]).decode()[prefix:]: holder_in(of_base64(kv["value"]))
                 for answer in found for kv in kvs(answer)}
 
-    # What is put there.
+    # Writing.
 
     async def create(self, log_id: str, position: int, base_sum: str, version: str, at: str) -> bool:
-        """Makes the log, where there is none; whether it did."""
+        """Makes the log unless there is one; whether it did."""
         begun = {"id": log_id, "position": position, "sum": base_sum, "at": at}
         absent = [is_absent(self.key(name)) for name in ("head", "begun")]
         return (await self.txn(absent, [
@@ -212,8 +214,8 @@ class Store:
 
     async def append(self, head: Head, mark: str, entries: Sequence[Entry], lease: str | None,
                      until: float | None = None) -> Appended:
-        """Puts Entries behind a Head, where it is still that, and their keys, where none of them is used.
-        A transaction of etcd has 128 parts at most, and this one two beside the keys."""
+        """Appends Entries and their keys if the head is still `head`, and none of the keys is used. A transaction of
+        etcd has at most 128 parts, and this one has two besides the keys."""
         keyed = {(one.who, one.key): one for one in entries if one.key is not None}
         names = [self.caller_key(*one) for one in keyed]
         last = entries[-1].seq
@@ -230,36 +232,37 @@ class Store:
                         {known: holder_in(value(answer)) for known, answer in zip(keyed, used) if kvs(answer)})
 
     async def move_version(self, head: Head, version: str) -> bool:
-        """Has another opcplan answer what is behind a Head, where it is still that; whether it did."""
+        """Moves the log to another opcplan from the entry after `head` on, if the head is still that; whether it
+        did."""
         moved = head._replace(moves=head.moves + 1)
         return (await self.txn([self.is_head(head)], [
             put(self.key("version", f"{head.last + 1:010d}"), version), put(self.key("head"), str(moved))], [])).held
 
     def is_head(self, head: Head) -> Part:
-        """A condition: the head is still that."""
+        """The condition that the head is still `head`."""
         return {"key": in_base64(self.key("head")), "target": "VALUE", "result": "EQUAL",
                 "value": in_base64(str(head))}
 
     async def lease(self, seconds: int) -> str:
-        """A new lease, which ends after so many seconds."""
+        """The id of a new lease, which ends after so many seconds."""
         return str((await self.etcd.post("/v3/lease/grant", {"TTL": str(seconds)}))["ID"])
 
     async def report(self, desk_id: str, given: Report, lease: str) -> None:
-        """Says how a desk stands."""
+        """Publishes a desk's Report."""
         await self.etcd.post("/v3/kv/put", put(self.key("desk", desk_id), given.text, lease)["request_put"])
 
     async def desks(self) -> dict[str, Report]:
-        """How the desks stand that said so, by their names."""
+        """The Reports of desks, by their names."""
         (found,) = await self.asked(below(self.key("desk") + "/"))
         prefix = len(self.key("desk", ""))
         return {of_base64(kv["key"]).decode()[prefix:]: report_of(of_base64(kv["value"])) for kv in kvs(found)}
 
     async def forget(self, name: str) -> None:
-        """Takes away how far a desk is. It says so again where it still runs."""
+        """Removes a desk's Report. A desk that still runs publishes it again."""
         await self.etcd.post("/v3/kv/deleterange", {"key": in_base64(self.key("desk", name))})
 
     async def trim(self, first: int, before: int) -> Trimmed:
-        """Takes the batches away that begin from one entry on and before another, some at a time, since others wait
+        """Removes the batches that begin at `first` or later and before `before`, some at a time, because others wait
         meanwhile."""
         gone, revision, end = 0, 0, first
         while end < before or not revision:
@@ -270,38 +273,38 @@ class Store:
         return Trimmed(gone, revision)
 
 
-# How it is spelled.
+# Parts of a transaction, and their answers.
 
 
 def at(key: str) -> Part:
-    """A question for one key."""
+    """A read of one key."""
     return {"request_range": {"key": in_base64(key)}}
 
 
 def below(begin: str, end: str | None = None, **more: str | bool) -> Part:
-    """A question for the keys that begin so, or up to an end, in their order."""
+    """A read of the keys with a prefix, or from `begin` up to an end, in their order."""
     end = end or begin[:-1] + chr(ord(begin[-1]) + 1)
     return {"request_range": {"key": in_base64(begin), "range_end": in_base64(end), **more}}
 
 
 def put(key: str, text: str, lease: str | None = None) -> Part:
-    """A text under a key, as long as a lease lasts."""
+    """A write of a text under a key, perhaps for as long as a lease lasts."""
     return {"request_put": {"key": in_base64(key), "value": in_base64(text), **({"lease": lease} if lease else {})}}
 
 
 def is_absent(key: str) -> Part:
-    """A condition: nothing stands under a key."""
+    """The condition that there is nothing under a key."""
     return {"key": in_base64(key), "target": "CREATE", "result": "EQUAL", "create_revision": "0"}
 
 
 def kvs(answer: Mapping[str, Any]) -> Sequence[Mapping[str, str]]:
-    """The keys and values that an answer has."""
+    """The keys and values in an answer."""
     found: Sequence[Mapping[str, str]] = answer.get("kvs", ())
     return found
 
 
 def value(answer: Mapping[str, Any]) -> bytes:
-    """The value of the one key that an answer has."""
+    """The value of the one key in an answer."""
     return of_base64(answer["kvs"][0].get("value"))
 
 

@@ -1,4 +1,4 @@
-"""Which opcplan answers a log: each desk of it has the same one, since another one may answer otherwise."""
+"""Which opcplan answers a log. All desks of a log need the same one, because another one may answer differently."""
 
 import contextlib
 import os
@@ -8,12 +8,12 @@ from typing import NamedTuple
 
 from opcplan.errors import Error
 
-# seconds in which opcplan says which version it is
+# seconds in which opcplan has to print its version
 LONGEST = 30
 
 
 class Stamp(NamedTuple):
-    """What changes where another file has a program's place."""
+    """What differs once another file has taken a program's place."""
 
     device: int
     inode: int
@@ -22,38 +22,38 @@ class Stamp(NamedTuple):
 
 
 class CannotJoin(Error):
-    """Why a plan and a log don't go together, and what to do."""
+    """Why a plan and a log don't belong together, and what to do."""
 
 
 def version_at(versions: Mapping[int, str], seq: int) -> str:
-    """The opcplan that answers an entry, of those from each entry on at which it was moved."""
+    """The opcplan that answers an entry, by those from each entry on at which the log was moved."""
     return versions[max((since for since in versions if since <= seq), default=min(versions))]
 
 
 def first_line(version: str) -> str:
-    """How a version is called in a sentence."""
+    """A version as sentences name it."""
     return version.split("\n", 1)[0]
 
 
 def different(theirs: str, own: str) -> str:
-    """What tells two versions apart whose first line is the same."""
-    return " of other sources" if first_line(theirs) == first_line(own) else ""
+    """What a sentence adds to a version if two versions have the same first line."""
+    return " built from other sources" if first_line(theirs) == first_line(own) else ""
 
 
 def version_of(program: str) -> str:
-    """Which opcplan a program is, as it says itself. Raises CannotJoin."""
+    """The version that a program prints. Raises CannotJoin."""
     try:
         ran = subprocess.run([program, "--version"], stdin=subprocess.DEVNULL, capture_output=True, check=False,
                              encoding="utf-8", errors="replace", timeout=LONGEST)
     except (OSError, subprocess.TimeoutExpired) as error:
         raise CannotJoin(f"{program}: it can't be run: {getattr(error, 'strerror', None) or error}") from None
     if ran.returncode or not ran.stdout.strip():
-        raise CannotJoin(f"{program}: it doesn't say which version it is")
+        raise CannotJoin(f"{program}: it doesn't print a version, so it isn't an opcplan that a desk can use")
     return ran.stdout.strip()
 
 
 def of_version(program: str, version: str, why_not: Callable[[], str]) -> Callable[[], str]:
-    """A question that says what is wrong, by another one, or once a program isn't that opcplan any more."""
+    """A function that returns what `why_not` says, or why a program isn't that opcplan any more, or nothing."""
     seen = stamp(program)
 
     def asked() -> str:
@@ -68,8 +68,8 @@ def of_version(program: str, version: str, why_not: Callable[[], str]) -> Callab
         except CannotJoin as why:
             return str(why)
         if found != version:
-            return (f"{program} is {first_line(found)} by now, and the log is answered by {first_line(version)}"
-                    f"{different(found, version)}: start the desk again")
+            return (f"{program} is {first_line(found)}{different(found, version)} by now, and this desk needs "
+                    f"{first_line(version)}; start the desk again")
         seen = now
         return ""
 
@@ -77,7 +77,7 @@ def of_version(program: str, version: str, why_not: Callable[[], str]) -> Callab
 
 
 def stamp(program: str) -> Stamp | None:
-    """The Stamp of a program, None where there is no such file."""
+    """The Stamp of a program, None if there is no such file."""
     with contextlib.suppress(OSError):
         found = os.stat(program)
         return Stamp(found.st_dev, found.st_ino, found.st_mtime_ns, found.st_size)

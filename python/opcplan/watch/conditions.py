@@ -1,6 +1,6 @@
-"""What the rules of a watch find in what it has seen. It opens nothing.
+"""What the rules of a watch find in what it has seen. No I/O.
 
-How bad something is is a level: what got twice as bad has the next one."""
+A level says how bad something is: each time that it gets twice as bad, the level goes up by one."""
 
 import fnmatch
 import math
@@ -14,12 +14,12 @@ from opcplan.watch.sightings import Sightings
 from opcplan.watch.state import Found, Looked
 
 WORST = 9
-MISSING = "it can't be looked at: "
+MISSING = "the watch can't examine it: "
 
 
 class Seen(NamedTuple):
-    """What a watch saw: how the plan is, as a desk tells it (None where none does), who answers, and by path how much
-    of a disk is used, in percent, or why that isn't known."""
+    """What a watch saw: a desk's answer to `GET /status` (None if no desk answered), who answered when, and by path how
+    much of a disk is used, in percent, or why that isn't known."""
 
     status: Mapping[str, Any] | None
     sightings: Sightings
@@ -27,7 +27,7 @@ class Seen(NamedTuple):
 
 
 def looked(rule: Rule, seen: Seen, now: float) -> Looked | None:
-    """What a rule finds at a moment, None where it can't be looked at."""
+    """What a rule finds at a moment, in seconds since 1970; None if what it is about can't be seen."""
     match rule.on:
         case "desk":
             return Looked(tuple(away(rule, "desk", seen.sightings.desks, seen.sightings.why, now)))
@@ -47,17 +47,17 @@ def looked(rule: Rule, seen: Seen, now: float) -> Looked | None:
 
 
 def matches(name: str, patterns: tuple[str, ...]) -> bool:
-    """Whether a name is like one of some patterns."""
+    """Whether a name matches one of some patterns."""
     return any(fnmatch.fnmatchcase(name, one) for one in patterns)
 
 
 def doublings(value: float, unit: float) -> int:
-    """How often a unit was doubled up to a value that is at least as much."""
+    """How often a unit can be doubled without exceeding a value, at most WORST; 0 if the value is less."""
     return min(WORST, int(math.log2(value / unit))) if unit > 0 and value >= unit else 0
 
 
 def moment_of(text: str) -> int:
-    """The moment that a desk tells. Raises ValueError."""
+    """The moment of a desk's text. Raises ValueError."""
     found = moments.moment_of(text)
     if found is None:
         raise ValueError(text)
@@ -65,7 +65,7 @@ def moment_of(text: str) -> int:
 
 
 def of_rows(rule: Rule, status: Mapping[str, Any]) -> Iterator[Found]:
-    """The rows that are in error, late or at risk. Raises KeyError, TypeError and ValueError."""
+    """The rows that a rule on errors, late rows or risks finds. Raises KeyError, TypeError and ValueError."""
     now = moment_of(status["now"])
     for row in status["rows"]:
         if not matches(row["app"], rule.apps):
@@ -76,7 +76,7 @@ def of_rows(rule: Rule, status: Mapping[str, Any]) -> Iterator[Found]:
         is_in_error = row["state"] == "in error"
         if rule.on == "error" and is_in_error:
             due = f"{'was' if row['late'] else 'is'} due {row['deadline'].replace('/', ' ')}"
-            yield Found(key, int(row["late"]), f"{name} is in error, and {due}")
+            yield Found(key, int(row["late"]), f"{name} is in error; it {due}")
         elif rule.on == "late" and row["late"] and late >= rule.minutes:
             text = f"{name} is late by {length_text(late)}, {row['state']}{waits}"
             yield Found(key, doublings(late, max(rule.minutes, 1)), text)
@@ -86,7 +86,7 @@ def of_rows(rule: Rule, status: Mapping[str, Any]) -> Iterator[Found]:
 
 
 def risk_text(name: str, row: Mapping[str, Any], waits: str) -> str:
-    """That a row is likely to end late."""
+    """The sentence about a row that is at risk."""
     due, end = row["deadline"].replace("/", " "), row["expected"]
     least = "not before " if row["or_later"] else ""
     likely = f", and is expected to end {least}{end.replace('/', ' ')}" if end else ""
@@ -94,7 +94,7 @@ def risk_text(name: str, row: Mapping[str, Any], waits: str) -> str:
 
 
 def plan_end(rule: Rule, status: Mapping[str, Any]) -> Iterator[Found]:
-    """That the current plan ends soon, or has ended. Raises ValueError and TypeError."""
+    """Finds that the current plan ends soon, or has ended. Raises ValueError and TypeError."""
     if status["plan_end"] is None:
         return
     end = moment_of(status["plan_end"])
@@ -111,18 +111,18 @@ def plan_end(rule: Rule, status: Mapping[str, Any]) -> Iterator[Found]:
 def away(
     rule: Rule, what: str, last: Mapping[str, float], why: Mapping[str, str], now: float
 ) -> Iterator[Found]:
-    """Who hasn't answered since a moment."""
+    """Finds who hasn't answered for too long; `last` has since when, in seconds since 1970, and `why` the reason."""
     for name, at in sorted(last.items()):
         minutes = (now - at) / 60
         if minutes >= rule.minutes and now > at:
             more = f": {why[name]}" if why.get(name) else ""
-            text = f"the {what} {name} hasn't {'looked' if what == 'agent' else 'answered'} for " \
+            text = f"the {what} {name} hasn't {'contacted its desk' if what == 'agent' else 'answered'} for " \
                 f"{length_text(int(minutes))}{more}"
             yield Found(f"{rule.name}:{name}", doublings(minutes, max(rule.minutes, 1)), text)
 
 
 def disk(rule: Rule, used: float | str) -> Iterator[Found]:
-    """That a disk is nearly full, or can't be looked at."""
+    """Finds that a disk is nearly full, or that its use isn't known."""
     key = f"{rule.name}:{rule.path}"
     if isinstance(used, str):
         yield Found(key, 0, f"{rule.path}: {MISSING}{used}")

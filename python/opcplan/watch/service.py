@@ -1,4 +1,4 @@
-"""A watch from its beginning to its end: it asks desks, keeps its state and calls."""
+"""./plan watch as a process: it queries desks, stores its state, and calls."""
 
 import contextlib
 import dataclasses
@@ -22,20 +22,20 @@ from opcplan.watch.rulebook import Rulebook
 from opcplan.watch.sightings import Sightings
 from opcplan.watch.state import Call, InvalidState, State, of_kept
 
-# seconds for which an answer of a desk is waited for
+# seconds to wait for a desk's answer
 PATIENCE = 30
 TAIL, LOCK = ".state", ".lock"
 MOST_BYTES = 1 << 20
 
 
 class WatchNotStarted(Error):
-    """Why a watch doesn't begin."""
+    """Why a watch doesn't start."""
 
 
 @dataclasses.dataclass(frozen=True)
 class Settings:
-    """What a watch is given: desks of one plan, the file of its rules and that of its state, how long it rests between
-    two looks, and perhaps a moment in place of the desk's clock."""
+    """The options of a watch: the desks of one plan, with commas between them; the files of its rules and of its state;
+    how many seconds it rests between two looks; a moment in place of the desk's clock, or None."""
 
     desk: str
     rules: str
@@ -45,7 +45,7 @@ class Settings:
 
 
 class Quick(client.Client):
-    """A client of one desk, which doesn't wait long for it."""
+    """A client of one desk, with a short timeout."""
 
     def connection(self) -> Any:
         """A connection to the desk."""
@@ -53,8 +53,8 @@ class Quick(client.Client):
 
 
 class Watch:
-    """Looks, and calls somebody. `clock` tells seconds since 1970; `moment`, where there is one, as of when desks are
-    asked, as statements have a moment."""
+    """Looks, and calls somebody. `clock` returns seconds since 1970. `moment` returns the moment for which desks are
+    queried, as statements have it, or None for the desk's clock."""
 
     def __init__(self, given: Settings, rules: Rulebook, token: str | None, clock: Callable[[], float] = time.time,
                  moment: Callable[[], str | None] | None = None) -> None:
@@ -62,10 +62,10 @@ class Watch:
         self.moment = moment or (lambda: given.now)
         self.desks = [Quick(name, token) for name in client.BETWEEN.split(given.desk)]
         self.state, self.sightings = State(), Sightings()
-        self.said: dict[str, str] = {}  # what is wrong for now, by what it is of
+        self.said: dict[str, str] = {}  # the last message about each thing
 
     def load(self) -> None:
-        """Takes what a watch before this one kept. Raises WatchNotStarted."""
+        """Loads the state that an earlier watch stored. Raises WatchNotStarted."""
         try:
             with open(self.given.state, encoding="utf-8") as file:
                 kept = json.load(file)
@@ -73,9 +73,9 @@ class Watch:
         except FileNotFoundError:
             return
         except (InvalidState, KeyError, TypeError, ValueError, AttributeError) as error:
-            why = str(error) if isinstance(error, InvalidState) else "it isn't what a watch keeps"
-            raise WatchNotStarted(f"{self.given.state}: {why}; take it away, and calls that it has are sent "
-                                  "anew") from None
+            why = str(error) if isinstance(error, InvalidState) else "this isn't the state of a watch"
+            raise WatchNotStarted(f"{self.given.state}: {why}; move the file away to start without it (then calls may "
+                                  "be sent a second time)") from None
         except OSError as error:
             raise WatchNotStarted(f"{self.given.state}: it can't be read: {error.strerror}") from None
         self.state.settle(self.rules.calls())
@@ -97,7 +97,7 @@ class Watch:
             self.say(name, one if isinstance(one, str) else "")
 
     def ask(self, desk: Quick) -> dict[str, Any] | str:
-        """How the plan of a desk is, or why the desk doesn't say it."""
+        """A desk's answer to `GET /status`, or why there is none."""
         moment = self.moment()
         query = f"?now={urllib.parse.quote(moment)}" if moment else ""
         try:
@@ -106,27 +106,27 @@ class Watch:
         except (client.DeskUnreachable, client.RequestRefused) as why:
             return str(why)
         except (ValueError, TypeError, KeyError, AttributeError):
-            return "it doesn't answer as a desk does"
+            return "its answer isn't that of a desk; check the address"
         return found
 
     def say(self, what: str, wrong: str) -> None:
-        """Says once what is wrong with something, and that it isn't any more."""
+        """Prints once what is wrong with something, and once that nothing is any more."""
         if wrong != self.said.get(what, ""):
             print_message(f"{what}: {wrong}" if wrong and not wrong.startswith(what)
-                          else wrong or f"{what}: it is well again")
+                          else wrong or f"{what}: all is well again")
         self.said[what] = wrong
 
     # Calls.
 
     def keep(self) -> None:
-        """Has the disk keep all; where it doesn't, that is said, and calls may be sent again after a stop."""
+        """Stores the state. If that fails, prints it once; calls may then be sent again after a stop."""
         kept = {"watch": self.state.kept(), "sightings": self.sightings.kept()}
         try:
             output.put(os.path.realpath(self.given.state), json.dumps(kept, indent=1).encode(), True)
             self.say(self.given.state, "")
         except OSError as error:
-            self.say(self.given.state, f"it can't be written: {error.strerror}; where the watch is stopped now, calls "
-                     "are sent twice")
+            self.say(self.given.state, f"it can't be written: {error.strerror}; if the watch stops before it can, "
+                     "calls are sent a second time")
         self.state.is_changed = False
 
     def step(self, is_over: Callable[[], bool] = lambda: False) -> None:
@@ -136,7 +136,7 @@ class Watch:
         self.call_all(is_over)
 
     def call_all(self, is_over: Callable[[], bool] = lambda: False) -> None:
-        """Sends the calls that are to be sent now. The state is kept before each one and after it."""
+        """Sends the calls that are due now. The state is stored before each one and after it."""
         while not is_over() and (call := self.state.call(self.clock())) is not None:
             if self.state.is_changed:
                 self.keep()
@@ -145,19 +145,19 @@ class Watch:
             self.keep()
 
     def send(self, call: Call) -> None:
-        """Sends a call once, and notes what came of it."""
+        """Sends a call once, and notes whether it was delivered."""
         try:
             calls.deliver(self.rules.targets[call.target], call, self.given.desk, self.rules.sendmail)
         except calls.Undelivered as why:
             self.state.failed(call.target, self.clock())
-            self.say(call.target, f"{why}; it is tried again")
+            self.say(call.target, f"{why}; the watch tries again")
             return
         self.state.sent(call.target)
         self.say(call.target, "")
         print_message(f"called {call.target}: {calls.subject(call)}")
 
     def shown(self) -> list[str]:
-        """What would be sent now, to whom and how, in lines; nothing is sent."""
+        """What would be sent now, to whom and how, in lines. Nothing is sent."""
         lines = []
         while (call := self.state.call(self.clock())) is not None:
             target = self.rules.targets[call.target]
@@ -169,7 +169,7 @@ class Watch:
 
 
 def checked(found: Any) -> None:
-    """Asks that an answer has what a desk tells. Raises KeyError, TypeError and ValueError."""
+    """Checks that an answer has the fields of `GET /status`. Raises KeyError, TypeError and ValueError."""
     int(found["position"])
     conditions.moment_of(found["now"])
     for name, one in found["agents"].items():
@@ -197,43 +197,46 @@ def used_of(path: str) -> float | str:
 
 
 def rules_of(path: str) -> Rulebook:
-    """The rules that a file has. Raises UsageError and WatchNotStarted."""
+    """The rules of a file. Raises UsageError and WatchNotStarted."""
     try:
         with open(path, encoding="utf-8") as file:
             return rulebook.of_text(file.read(MOST_BYTES))
     except OSError as error:
         raise WatchNotStarted(f"watch: {path}: it can't be read: {error.strerror}") from None
     except UnicodeDecodeError:
-        raise rulebook.InvalidRules(f"watch: {path}: it is no text in UTF-8") from None
+        raise rulebook.InvalidRules(f"watch: {path}: the file isn't text in UTF-8") from None
     except rulebook.InvalidRules as why:
         raise rulebook.InvalidRules(f"watch: {path}: {why}") from None
 
 
 def made(given: Settings) -> Watch:
-    """A Watch that has what the one before it kept. Raises UsageError and WatchNotStarted."""
+    """A Watch with the stored state. Raises UsageError and WatchNotStarted."""
     rules = rules_of(given.rules)
     try:
         found = Watch(given, rules, client.token())
     except client.InvalidAddress as why:
         raise UsageError(f"watch: {why}") from None
     except OSError as error:
-        raise WatchNotStarted(f"watch: {error.filename}: the token can't be read: {error.strerror}") from None
+        raise WatchNotStarted(f"watch: {error.filename}: the token can't be read: {error.strerror}; name another "
+                              "file in OPCPLAN_TOKEN_FILE") from None
     found.load()
     return found
 
 
 @contextlib.contextmanager
 def locked(path: str) -> Iterator[None]:
-    """A context in which this watch alone has a file of a state. Raises WatchNotStarted."""
+    """A context in which no other watch uses a state file. Raises WatchNotStarted."""
     try:
         number = os.open(f"{path}{LOCK}", os.O_WRONLY | os.O_CREAT | os.O_CLOEXEC | os.O_NOFOLLOW, 0o600)
     except OSError as error:
-        raise WatchNotStarted(f"watch: {path}: it can't be kept there: {error.strerror}") from None
+        raise WatchNotStarted(f"watch: {path}: the state can't be stored there: {error.strerror}; name another file "
+                              "with --state") from None
     try:
         fcntl.flock(number, fcntl.LOCK_EX | fcntl.LOCK_NB)
         yield
     except BlockingIOError:
-        raise WatchNotStarted(f"watch: {path}: another watch has it") from None
+        raise WatchNotStarted(f"watch: {path}: another watch uses this state; end it, or name another file with "
+                              "--state") from None
     finally:
         os.close(number)
 
@@ -254,13 +257,13 @@ def once(given: Settings) -> bool:
 
 
 def run(given: Settings) -> None:
-    """Watches until it is to end. Raises UsageError and WatchNotStarted."""
+    """Watches until a signal. Raises UsageError and WatchNotStarted."""
     stop = threading.Event()
     for one in (signal.SIGTERM, signal.SIGINT):
         signal.signal(one, lambda *_: stop.set())
     with locked(given.state):
         found = made(given)
-        print_message(f"watches {given.desk} by the rules of {given.rules}")
+        print_message(f"watches {given.desk} by the rules in {given.rules}")
         next_look = time.monotonic()
         while not stop.is_set():
             if time.monotonic() >= next_look:
@@ -274,6 +277,6 @@ def run(given: Settings) -> None:
 
 
 def print_message(text: str) -> None:
-    """Says something on standard error, where that takes it."""
+    """Prints a line on standard error; errors of writing are ignored."""
     with contextlib.suppress(OSError):
         print(f"watch: {text}", file=sys.stderr, flush=True)

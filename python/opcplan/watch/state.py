@@ -1,14 +1,13 @@
 """What a watch knows and decides, without I/O: looks go in, and calls come out one at a time. There is no clock here,
 no file and no network.
 
-What always holds, where whoever drives it keeps the state before each call is sent and after it was
-(tests/test_watch_states.py asks it in each state of small worlds, with a stop between any two steps):
+What always holds if the caller stores the state before each call is sent and after it was
+(tests/test_watch_states.py checks it in each state of small worlds, with a stop between any two steps):
 
-- Of each event that was noted each target hears, and hears last what the event is: that it is there, that it got worse,
-  or that it is over.
+- Each target hears of each event that was noted. The last that it hears is how the event is: there, worse, or over.
 - A target hears of one event once, again only when it got worse, and once more when it is over.
-- A call is delivered twice, under one id, only where its answer was lost, or where the watch was stopped between the
-  call and its note. It is never lost: what isn't known to be delivered is sent again.
+- A call is delivered twice, under one id, only if its answer was lost, or if the watch stopped between the call and its
+  note. It is never lost: a call that isn't known to be delivered is sent again.
 - What can't be looked at is neither new nor over."""
 
 import dataclasses
@@ -20,16 +19,16 @@ from typing import Any, NamedTuple
 from opcplan.errors import Unreadable
 
 NEW, WORSE, OVER = "new", "worse", "over"
-# what one call tells of at most
+# the most mentions in one call
 MOST_TOGETHER = 50
-# seconds until a target is tried again, once and at most
+# seconds until a target is tried again: after the first failure, and at most
 SHORTEST_PAUSE, LONGEST_PAUSE = 10.0, 600.0
 VERSION = 1
 
 
 class Found(NamedTuple):
-    """Something that is the case: the event that it is, how bad, and in a sentence. What doesn't open an event counts
-    only where that is there already."""
+    """Something that a rule found: the key of its event, how bad it is, and a sentence. If `opens` is false, it counts
+    only for an event that is there already."""
 
     key: str
     level: int
@@ -38,7 +37,7 @@ class Found(NamedTuple):
 
 
 class Looked(NamedTuple):
-    """What a rule finds; where that isn't whole, what lacks may be there all the same."""
+    """What a rule found. If `is_whole` is false, there may be more than it lists."""
 
     found: tuple[Found, ...]
     is_whole: bool = True
@@ -46,7 +45,7 @@ class Looked(NamedTuple):
 
 @dataclasses.dataclass(frozen=True)
 class Event:
-    """What is the case: by which rule, how bad it was at worst, in a sentence, and since when, in seconds."""
+    """An event: its rule, how bad it was at worst, a sentence, and since when, in seconds since 1970."""
 
     rule: str
     level: int
@@ -55,8 +54,8 @@ class Event:
 
 
 class Mention(NamedTuple):
-    """What a target is to hear of an event: what kind of news it is, how bad, in a sentence, since when the event is
-    there, and when this was found."""
+    """News of an event for a target: its kind (NEW, WORSE or OVER), how bad the event is, a sentence, since when it is
+    there, and when this was found, in seconds since 1970."""
 
     key: str
     rule: str
@@ -68,7 +67,7 @@ class Mention(NamedTuple):
 
 
 class Call(NamedTuple):
-    """What a target is told at once: mentions of one rule and one kind. The id stays where it is sent again."""
+    """What is sent to a target at once: mentions of one rule and one kind. It keeps its id when it is sent again."""
 
     id: str
     target: str
@@ -86,32 +85,32 @@ class Call(NamedTuple):
 
 
 class InvalidState(Unreadable):
-    """Why what was kept of a watch isn't read."""
+    """Why a stored state can't be read."""
 
 
 class State:
-    """The state of a watch. `is_changed` says that it has to be kept again."""
+    """The state of a watch. `is_changed` says that it has to be stored again."""
 
     def __init__(self) -> None:
         self.life, self.count = secrets.token_hex(6), 0
         self.events: dict[str, Event] = {}
         self.pending: dict[str, dict[tuple[str, float], Mention]] = {}  # by target and event, in their order
-        self.calls: dict[str, Call] = {}  # by target: that may have been sent, and isn't known to be delivered
+        self.calls: dict[str, Call] = {}  # by target: the call that may have been sent, and isn't known to be delivered
         self.fails: dict[str, int] = {}
-        self.rests: dict[str, float] = {}  # until when a target isn't tried
+        self.rests: dict[str, float] = {}  # a target isn't tried before this time
         self.is_changed = False
 
     # What is looked at.
 
     def settle(self, rules: Mapping[str, Sequence[str]]) -> None:
-        """The rules are these, with the targets of each: what other ones left is dropped."""
+        """Takes the rules and the targets of each, and drops what belongs to no rule or target any more."""
         targets = {target for names in rules.values() for target in names}
         self.events = {key: one for key, one in self.events.items() if one.rule in rules}
         self.pending = {target: mentions for target, mentions in self.pending.items() if target in targets}
         self.calls = {target: call for target, call in self.calls.items() if target in targets}
 
     def take(self, now: float, rule: str, targets: Sequence[str], looked: Looked | None) -> None:
-        """Takes what a rule finds at a moment, None where it can't be looked at."""
+        """Takes what a rule found at a moment, None if what it is about couldn't be seen."""
         if looked is None:
             return
         for one in looked.found:
@@ -128,8 +127,8 @@ class State:
                 del self.events[key]
 
     def note(self, key: str, event: Event, kind: str, now: float, targets: Iterable[str]) -> None:
-        """An event is there, or is as it is from now on, or is over: each target has to hear it. What it hasn't heard
-        yet is replaced."""
+        """Notes that an event is there, got worse, or is over, for each target. It replaces what a target hasn't heard
+        yet."""
         self.events[key] = event
         for target in targets:
             pending = self.pending.setdefault(target, {})
@@ -142,7 +141,7 @@ class State:
     # Who is called.
 
     def call(self, now: float) -> Call | None:
-        """The call that is to be sent at a moment, or None. Whoever sends it keeps the state before."""
+        """The call that is due at a moment, or None. The caller stores the state before it sends the call."""
         for target in sorted(self.calls.keys() | self.pending.keys()):
             if self.rests.get(target, now) <= now:
                 if target not in self.calls and self.pending.get(target):
@@ -152,8 +151,8 @@ class State:
         return None
 
     def formed(self, target: str) -> Call:
-        """The next call of a target: its first mention, and those of the same rule and kind behind it. Mentions stay in
-        their order: the last one of an event says what it is."""
+        """The next call of a target: its first mention, and those after it of the same rule and kind. Mentions stay in
+        their order, because the last one of an event says how it is."""
         pending = self.pending[target]
         first = next(iter(pending.values()))
         alike = itertools.takewhile(lambda one: (one.rule, one.kind) == (first.rule, first.kind), pending.values())
@@ -165,26 +164,26 @@ class State:
         return Call(f"{self.life}-{self.count}", target, tuple(found))
 
     def sent(self, target: str) -> None:
-        """The call of a target is delivered."""
+        """Notes that the call of a target was delivered."""
         del self.calls[target]
         self.fails.pop(target, None)
         self.rests.pop(target, None)
         self.is_changed = True
 
     def failed(self, target: str, now: float) -> None:
-        """The call of a target isn't known to be delivered: it is sent again, after a pause that grows."""
+        """Notes that the call of a target isn't known to be delivered. It is sent again, after a pause that grows."""
         self.fails[target] = self.fails.get(target, 0) + 1
         self.rests[target] = now + pause_of(self.fails[target])
 
     def next_try(self) -> float | None:
-        """When the next call that waits is to be sent, or None where none waits."""
+        """When the next waiting call is due, or None if none waits."""
         waiting = {*self.calls, *(target for target, mentions in self.pending.items() if mentions)}
         return min((self.rests.get(target, 0.0) for target in waiting), default=None)
 
     # What is kept.
 
     def kept(self) -> dict[str, Any]:
-        """All that has to be kept, as JSON has it."""
+        """All that has to be stored, as JSON has it."""
         return {
             "version": VERSION, "life": self.life, "count": self.count,
             "events": {key: dataclasses.asdict(one) for key, one in self.events.items()},
@@ -194,16 +193,16 @@ class State:
 
 
 def pause_of(fails: int) -> float:
-    """How many seconds a target rests after so many failures."""
+    """The seconds until a target is tried again after so many failures."""
     return min(SHORTEST_PAUSE * 2.0 ** min(fails - 1, 20), LONGEST_PAUSE)
 
 
 def of_kept(kept: Any) -> State:
-    """The State of which this was kept. Raises InvalidState."""
+    """The State that was stored so. Raises InvalidState."""
     found = State()
     try:
         if kept["version"] != VERSION:
-            raise InvalidState(f"another version of it was kept, {kept['version']}")
+            raise InvalidState(f"it was stored in another form, version {kept['version']}")
         found.life, found.count = str(kept["life"]), int(kept["count"])
         found.events = {key: Event(**one) for key, one in kept["events"].items()}
         for target, mentions in kept["pending"].items():
@@ -211,11 +210,11 @@ def of_kept(kept: Any) -> State:
         for target, (name, mentions) in kept["calls"].items():
             found.calls[target] = Call(str(name), target, tuple(map(mention_of, mentions)))
     except (KeyError, TypeError, ValueError, AttributeError):
-        raise InvalidState("it isn't what a watch keeps") from None
+        raise InvalidState("this isn't the state of a watch") from None
     return found
 
 
 def mention_of(fields: Sequence[Any]) -> Mention:
-    """The Mention that was kept. Raises ValueError and TypeError."""
+    """The Mention that was stored so. Raises ValueError and TypeError."""
     key, rule, kind, level, text, since, at = fields
     return Mention(str(key), str(rule), str(kind), int(level), str(text), float(since), float(at))
