@@ -224,7 +224,7 @@ class Cut(unittest.TestCase):
         with mock.patch.object(page_html, "MOST_WITHOUT_SCRIPT", 3):
             plain = page_html.without_script(page_data.data_of(self.path, NOW))
         self.assertEqual(plain.count("<tr><td>"), 3)
-        self.assertIn(f"<p>These are 3 of {count}.</p>", plain)
+        self.assertIn(f"<p>The table shows 3 of {count}.</p>", plain)
 
 
 class Limits(unittest.TestCase):

@@ -310,8 +310,8 @@ def trials(browser, folder, ask):
     found = room.js("document.querySelector('#told').textContent")
     wanted = plans.planner_of(data_centre.whole())
     reply = plans.plain.run(b"dp-trial extend --to 2026-11-27/00.00\n", wanted)[-1].split()
-    ask(found == f"Nothing is done yet. It would be: {reply[2]} moved, {reply[4]} carried, {reply[6]} completed, "
-        f"{reply[8]} deleted.", "the trial in words", found)
+    ask(found == f"Nothing is done yet. The result would be: {reply[2]} moved, {reply[4]} carried, {reply[6]} "
+        f"completed, {reply[8]} deleted.", "the trial in words", found)
     ask(room.js("D.plan.end") == END and room.desk.health()["position"] == 0, "a trial changes nothing")
     ask(room.js("document.activeElement.id") == "trial", "the focus is at what it would do")
     ready = room.row("state(i) === 'R'")
@@ -368,7 +368,8 @@ def roles(browser, folder, ask):
         ask("centre" not in room.js("document.documentElement.outerHTML"), "nothing of the plan is told before")
         browser.type("wrong")
         browser.key("Enter")
-        room.comes("document.querySelector('#told').textContent.includes('isn’t known')", "a wrong token is told")
+        told = "document.querySelector('#told').textContent"
+        room.comes(f"{told}.includes('doesn’t know this token')", "a wrong token is told")
         room.js("document.querySelector('#token').value = ''; document.querySelector('#token').focus()")
         browser.type(ROLES[role])
         browser.key("Enter")
@@ -434,7 +435,7 @@ def looks(browser, folder, ask, pictures=None):
                          "new Promise(done => setTimeout(done, 700))",
                 "planning": "document.querySelectorAll('#trial details').forEach(one => { one.open = true; }); "
                             "document.querySelector('#planning').scrollIntoView({behavior: 'instant'})",
-                "lost": "tellLink('the desk doesn’t answer; what is shown is what it told last'); scrollTo(0, 0)",
+                "lost": "tellLink('the desk doesn’t answer; the page shows its last answer'); scrollTo(0, 0)",
             }
             for step, text in steps.items():
                 room.js(text)

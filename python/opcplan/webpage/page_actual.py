@@ -1,5 +1,5 @@
-"""What the page is given of a desk's journal: when its rows ran, what applications take, what ended late or is going
-to, and the chain that decides when all is done."""
+"""The page's data from a desk's journal: when its rows ran, how long applications take, what ended late or is going to,
+and the chain that decides when all is done."""
 
 from collections.abc import Mapping, Sequence
 
@@ -19,7 +19,7 @@ def of_rows(
     known: Actual | None,
     now: int,
 ) -> Ran | None:
-    """The journal's part of the page's value, or None where there is no journal; rows by place, moments of the plan."""
+    """The journal's part of the page's data, or None if there is no journal. Rows are named by place."""
     if known is None:
         return None
     places = {row.serial: place for place, row in enumerate(rows)}
@@ -42,10 +42,10 @@ def of_rows(
 
 
 def usual_of(usual: Usual) -> list[float]:
-    """What an application takes: in the middle, at worst, and by how many runs."""
+    """How long an application takes, in seconds: the middle run, the worst, and of how many runs."""
     return [usual.middle, usual.worst, usual.count]
 
 
 def run_of(run: Run) -> list[object]:
-    """A run: its first and last minute, how many seconds it took, and how it ended."""
+    """A run: its first and last minute since 1970 (None if not known), how many seconds it took, and its status."""
     return [*(None if at is None else actual.moment(at) for at in (run.start, run.end)), run.seconds, run.status]

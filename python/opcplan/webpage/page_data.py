@@ -1,4 +1,4 @@
-"""What the page is given: the plan as one value of JSON, in columns of small numbers."""
+"""The data of the page: the plan as one value of JSON, in columns of small numbers."""
 
 import contextlib
 import datetime
@@ -19,8 +19,8 @@ MOST_CHANGES = 5000
 
 
 def packed(rows: list[Row], model: Model, apps: dict[str, int], cycles: dict[str, int]) -> page_values.Rows:
-    """Columns: serials and input arrivals by what each is past the one before, deadlines from the arrival on, pairs and
-    roots as runs."""
+    """The rows as columns: serials and input arrivals as steps from the row before, deadlines in minutes from the
+    arrival, pairs and roots as packed lists (`run`)."""
     return {
         "serial": steps([row.serial for row in rows]),
         "app": [apps[row.app] for row in rows],
@@ -33,12 +33,13 @@ def packed(rows: list[Row], model: Model, apps: dict[str, int], cycles: dict[str
 
 
 def steps(numbers: list[int]) -> list[int]:
-    """Numbers by what each is past the one before."""
+    """Numbers as steps, each from the one before; the first from 0."""
     return [after - before for before, after in zip([0, *numbers], numbers)]
 
 
 def run(lists: Mapping[int, Sequence[int]]) -> list[int]:
-    """Lists of places by place, flat: how far on from the one before, how many, how far back each."""
+    """Lists of places by place, packed into one list: the step from the place before, how many, and how far back each
+    is."""
     flat: list[int] = []
     at = 0
     for place in sorted(lists):
@@ -94,7 +95,7 @@ def definition_columns(
 def of_model(
     plan: Plan, rows: list[Row], model: Model, defined: Definitions, lists: Lists, now: int, first: int, last: int
 ) -> page_values.Data:
-    """All but what is asked of an older copy."""
+    """The data without what an older copy of the plan shows."""
     names = sorted(set(defined.applications) | {row.app for row in rows})
     cycles = sorted({row.cycle for row in rows if row.cycle is not None})
     columns = definition_columns(defined, lists, names, first, last)
@@ -114,7 +115,7 @@ def of_model(
 
 
 def shortfalls(plan: Plan, defined: Definitions) -> list[str]:
-    """What is to be said of definitions that end before the long-term plan does."""
+    """A sentence about each definition that ends before the long-term plan does."""
     if not plan.is_created:
         return []
     found = horizons.shortfalls(defined, plan.meta["plan_end"] // moments.DAY, plan.meta["last_day"])
@@ -140,7 +141,8 @@ def data_of(
     since: str | None = None,
     journal: str | None = None,
 ) -> page_values.Data:
-    """What the page shows of a plan's file."""
+    """The data of the page for a plan file, at a moment, for days, since an older copy, and with a journal. Raises
+    Unreadable."""
     clock = moments.now()
     with contextlib.ExitStack() as files:
         plan = files.enter_context(plan_file.opened(path))
@@ -160,19 +162,19 @@ def data_of(
 
 
 def moment_of(plan: Plan, now: int | None, clock: int) -> tuple[int, str]:
-    """As of when the plan is shown, with a note where the clock is outside the plan."""
+    """The moment that the page shows, and a note if the clock is outside the plan."""
     if now is not None:
         return now, ""
     first, last = plan.meta["first_day"] * moments.DAY, (plan.meta["last_day"] + 2) * moments.DAY
     if not plan.is_created or first <= clock <= last:
         return clock, ""
-    return plan.meta["plan_end"], (f"The clock says {moments.moment_text(clock)}, which is outside this plan, so it is "
-                                   "shown as of the end of its current plan; --now gives another moment.")
+    return plan.meta["plan_end"], (f"The clock says {moments.moment_text(clock)}, which is outside this plan, so the "
+                                   "page shows the end of the current plan; --now names another moment.")
 
 
 def span(plan: Plan, now: int, first: int | None, last: int | None) -> tuple[int, int]:
-    """The days that are shown: those asked for, else this month and the next as far as they are planned; in a month's
-    first week the month before too."""
+    """The days that the page shows: those requested, else this month and the next as far as they are planned; in the
+    first week of a month the month before too."""
     begin = (moments.EPOCH + datetime.timedelta(minutes=now, days=-7)).replace(day=1)
     end = moments.EPOCH + datetime.timedelta(minutes=now)
     for _ in range(2):

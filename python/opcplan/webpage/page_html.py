@@ -1,4 +1,4 @@
-"""The page as text: its parts are put together with the plan's data, and nothing is asked of any other place."""
+"""The page as text: its parts and the plan's data. It loads nothing from elsewhere."""
 
 import base64
 import hashlib
@@ -21,27 +21,27 @@ STATES = {"E": "in error", "S": "started", "R": "ready", "B": "blocked", "F": "t
 
 
 def joined(names: Iterable[str]) -> str:
-    """The text of some parts."""
+    """The text of some parts, one after another."""
     return "".join((PARTS / name).read_text(encoding="utf-8") for name in names)
 
 
 def digest(text: str) -> str:
-    """A text's sum, as the page's policy names it."""
+    """The SHA-256 of a text, as the page's policy has it."""
     return base64.b64encode(hashlib.sha256(text.encode("utf-8", "replace")).digest()).decode()
 
 
 def page_of(data: Data) -> str:
-    """The page of what page_data.data_of gives."""
+    """The page of the data of page_data.data_of."""
     return framed(data, data_text(data))
 
 
 def data_text(data: object) -> str:
-    """A value as a page has it within."""
+    """A value as JSON that may be within a page."""
     return json.dumps(data, separators=(",", ":")).replace("<", "\\u003c")
 
 
 def policy_of(styles: Sequence[str] = STYLES, scripts: Sequence[str] = SCRIPTS, more: str = "") -> str:
-    """What a page of these parts may: its own style and script, and more where that is named."""
+    """The Content-Security-Policy of a page of these parts: its own style and script, and what `more` allows."""
     return (f"default-src 'none'; img-src data:; {more}style-src 'sha256-{digest(joined(styles))}'; "
             f"script-src 'sha256-{digest(joined(scripts))}'")
 
@@ -49,7 +49,7 @@ def policy_of(styles: Sequence[str] = STYLES, scripts: Sequence[str] = SCRIPTS, 
 def framed(
     data: Data, text: str, styles: Sequence[str] = STYLES, scripts: Sequence[str] = SCRIPTS, more: str = ""
 ) -> str:
-    """The page of some parts, with a text in the place of its data; `more` is what it may besides."""
+    """The page of some parts, with a text in the place of its data; `more` is what its policy also allows."""
     return filled("page.html", {
         "title": html.escape(title(data)),
         "policy": policy_of(styles, scripts, more),
@@ -61,24 +61,24 @@ def framed(
 
 
 def filled(name: str, texts: Mapping[str, str]) -> str:
-    """A part with texts in the places that it names."""
+    """A part with its placeholders replaced by texts."""
     return re.sub(r"\{\{(\w+)\}\}", lambda found: texts[found[1]], joined([name]))
 
 
 def title(data: Data) -> str:
-    """How bad it is."""
+    """The title of the page, which says how bad it is."""
     errors, late = data["state"].count("E"), data["marks"].count("l")
     return f"{errors} in error, {late} late: {data['file']} {moments.moment_text(data['now'])}"
 
 
 def row_of(data: Data, arrivals: list[int], place: int) -> tuple[str, int, int]:
-    """A row's application, input arrival and deadline."""
+    """A row's application, input arrival and deadline, in minutes since 1970."""
     rows = data["rows"]
     return data["apps"][rows["app"][place]][0], arrivals[place], arrivals[place] + rows["due"][place]
 
 
 def without_script(data: Data) -> str:
-    """What a reader without scripts gets: how many rows stand in each status, and those in error or late."""
+    """The text for a browser without scripts: how many rows are in each state, and those in error or late."""
     arrivals = list(itertools.accumulate(data["rows"]["arrival"]))
     late = {place for place, mark in enumerate(data["marks"]) if mark == "l"}
     places = late | {place for place, state in enumerate(data["state"]) if state == "E"}
@@ -95,5 +95,5 @@ def without_script(data: Data) -> str:
             lines.append(f"<tr><td>{html.escape(app)}{times}<td>{status}</tr>")
         lines.append("</table>")
     if len(rows) > MOST_WITHOUT_SCRIPT:
-        lines.append(f"<p>These are {MOST_WITHOUT_SCRIPT} of {len(rows)}.</p>")
+        lines.append(f"<p>The table shows {MOST_WITHOUT_SCRIPT} of {len(rows)}.</p>")
     return "\n".join(lines)

@@ -1,4 +1,4 @@
-"""What the rows of a plan mean at a moment: states, lateness, roots, what is held up. It knows no SQL and no HTML."""
+"""What the rows of a plan mean at a moment: states, what is late, roots, what is held up. No SQL and no HTML."""
 
 from collections import defaultdict
 from collections.abc import Iterable, Mapping, Sequence
@@ -9,29 +9,29 @@ from opcplan.webpage.page_values import Hold
 
 OPEN = "WSE"  # places in the current plan that are neither complete nor deleted
 COMPLETE = "CH"
-# what a root is, the worst first
+# the rank of a root by its state, the worst first
 RANK = {"E": 0, "S": 1, "R": 2, "B": 3, "F": 4}
 MOST_HELD, MOST_HEADS = 5000, 300
 
 
 @dataclass
 class Model:
-    """By place in the list of rows. A state is E in error, S started, R ready, B blocked, F its time is to come,
-    C complete, D deleted, and L, H, o, w, p as a Row's place."""
+    """The model of rows, by place in their list. A state is E in error, S started, R ready, B blocked, F its time is to
+    come, C complete, D deleted, and L, H, o, w, p as a Row's place."""
 
     states: list[str]
     is_late: list[bool]
-    before: dict[int, list[int]]  # all that it waits for, complete or not
-    waits: dict[int, list[int]] = field(default_factory=dict)  # what of the current plan isn't complete of it
-    behind: dict[int, list[int]] = field(default_factory=dict)  # what of the current plan waits for it
-    roots: dict[int, int] = field(default_factory=dict)  # the worst of the rows at whose completion the waiting begins
+    before: dict[int, list[int]]  # the predecessors of a row, complete or not
+    waits: dict[int, list[int]] = field(default_factory=dict)  # those of them in the current plan that aren't complete
+    behind: dict[int, list[int]] = field(default_factory=dict)  # the rows of the current plan that wait for a row
+    roots: dict[int, int] = field(default_factory=dict)  # the worst row at the beginning of what a row waits for
     at_risk: list[int] = field(default_factory=list)
     holds: list[Hold] = field(default_factory=list)
-    hold_count: int = 0  # how many there are, of which the first are in `holds`
+    hold_count: int = 0  # how many there are; `holds` has the first ones
 
 
 def is_late(row: Row, now: int) -> bool:
-    """Late: not complete, and past its deadline."""
+    """Whether a row isn't complete and is past its deadline."""
     return row.place in OPEN and row.deadline < now
 
 
@@ -47,7 +47,7 @@ def of_rows(rows: Sequence[Row], pairs: Iterable[tuple[int, int]], now: int) -> 
 
 
 def of_waits(rows: Sequence[Row], pairs: Iterable[tuple[int, int]], now: int) -> Model:
-    """The same, without what is at risk and what holds others up."""
+    """The model without what is at risk and what holds others up."""
     index = {row.serial: place for place, row in enumerate(rows)}
     before: defaultdict[int, list[int]] = defaultdict(list)
     for successor, predecessor in pairs:
@@ -62,7 +62,7 @@ def of_waits(rows: Sequence[Row], pairs: Iterable[tuple[int, int]], now: int) ->
 
 
 def find_waits(model: Model) -> None:
-    """What each row of the current plan waits for that isn't complete, and the other way round."""
+    """Finds the incomplete rows for which each row of the current plan waits, and the rows that wait for each."""
     is_open = [state in OPEN for state in model.states]
     behind: defaultdict[int, list[int]] = defaultdict(list)
     for later, others in model.before.items():
@@ -75,7 +75,7 @@ def find_waits(model: Model) -> None:
 
 
 def find_roots(model: Model, rows: Sequence[Row]) -> None:
-    """Gives each row that waits the worst of its roots: first those in error, then those started, then by deadline."""
+    """Gives each waiting row the worst of its roots: first those in error, then those started, then by deadline."""
 
     def rank(place: int) -> tuple[int, int, int]:
         return RANK[model.states[place]], rows[place].deadline, place
@@ -93,7 +93,7 @@ def find_roots(model: Model, rows: Sequence[Row]) -> None:
 
 
 def reached(start: int, steps: Mapping[int, Sequence[int]], most: int) -> set[int]:
-    """What is reached from a place by steps, without itself; a little more than the most where there is more."""
+    """The places that steps reach from a place, without itself; cut soon after `most`."""
     seen, left = {start}, [start]
     while left and len(seen) <= most:
         for place in steps.get(left.pop(), ()):
@@ -105,7 +105,7 @@ def reached(start: int, steps: Mapping[int, Sequence[int]], most: int) -> set[in
 
 
 def find_holds(model: Model, rows: Sequence[Row]) -> None:
-    """The rows that arrived, wait for nothing and hold others up."""
+    """Finds the rows that have arrived, wait for nothing, and hold others up."""
     states = model.states
     heads = [place for place in model.behind if place not in model.waits and states[place] in "ESR"]
     heads.sort(key=lambda place: (states[place] != "E", rows[place].deadline, place))

@@ -1,4 +1,4 @@
-"""What the page asks of a plan."""
+"""The page's queries of a plan."""
 
 import sqlite3
 from operator import itemgetter
@@ -11,12 +11,12 @@ from opcplan.rules import moments
 from opcplan.rules.definitions import Definitions
 from opcplan.webpage.page_values import Difference, Job, Redefinition
 
-Lists = dict[str, dict[str, int | None]]  # of predecessors: by application and name the hours of a limit or None
+Lists = dict[str, dict[str, int | None]]  # by application and predecessor the limit in hours, or None
 MOST_JOBS = 3000
 
 
 class Stand(NamedTuple):
-    """Where an occurrence stands: its place as a Row has it, its deadline, and its key."""
+    """An occurrence: its place as a Row has it, its deadline, and its key."""
 
     place: str
     due: int
@@ -39,8 +39,8 @@ def plain_cursor(plan: Plan) -> sqlite3.Cursor:
 
 
 def occurrences(plan: Plan, first: int, last: int) -> tuple[list[Row], list[tuple[int, int]]]:
-    """The whole current plan, of the other sets the days from first to last, and what all these wait for, by input
-    arrival and application; and the pairs of serials (successor, predecessor)."""
+    """The rows of the whole current plan, those of the other sets on the days from first to last, and their
+    predecessors, by input arrival and application; and the pairs of serials (successor, predecessor)."""
     ask = plain_cursor(plan).execute
     days = (first * moments.DAY, (last + 1) * moments.DAY)
     found = ask(f"{CURRENT} UNION ALL {OTHERS.format('ia >= ?1 AND ia < ?2')}", days).fetchall()
@@ -55,14 +55,14 @@ def occurrences(plan: Plan, first: int, last: int) -> tuple[list[Row], list[tupl
 
 
 def totals(plan: Plan) -> dict[str, int]:
-    """How many occurrences stand in each set."""
+    """How many occurrences each set has."""
     return {table: plan.db.execute(f"SELECT count(*) FROM {table}_row").fetchone()[0]
             for table in ("ltp", "cp", "history", "deletion")}
 
 
 def journal(plan: Plan) -> tuple[list[Job], int]:
-    """The jobs from the last daily plan on, by number: number, statement, answer, the last of them where they are many;
-    and how many there are. A plan keeps no times, so numbers stand for the order in which jobs came."""
+    """The jobs from the last daily plan on, by number, at most the last MOST_JOBS of them; and how many there are. A
+    plan stores no times, so the numbers give the order in which jobs came."""
     jobs: list[Job] = []
     count = 0
     for number, text, reply in plain_cursor(plan).execute(
@@ -84,8 +84,8 @@ def places(plan: Plan) -> dict[int, Stand]:
 
 
 def difference(plan: Plan, old: Plan) -> list[Difference]:
-    """Each occurrence that is new, stands elsewhere or is due otherwise than in an older copy of the plan: serial,
-    place before ('' where it is new), place, application, input arrival, deadline before, deadline."""
+    """Each occurrence that is new, has moved, or has another deadline than in an older copy of the plan, by input
+    arrival, application and serial."""
     before = places(old)
     found = []
     for serial, (place, due, app, ia) in places(plan).items():
@@ -100,7 +100,7 @@ KINDS = [("calendar", "calendars"), ("period", "periods"), ("application", "appl
 
 
 def redefined(new: Definitions, old: Definitions) -> list[Redefinition]:
-    """Each definition that is new, gone or other than in an older copy: what it is, its name, and which of these."""
+    """Each definition that is new, gone or changed since an older copy."""
     found = []
     for what, field in KINDS:
         now, before = getattr(new, field), getattr(old, field)
@@ -114,5 +114,5 @@ def redefined(new: Definitions, old: Definitions) -> list[Redefinition]:
 
 
 def applications(plan: Plan) -> tuple[Definitions, Lists]:
-    """The definitions, and the lists of predecessors that the plans go by."""
+    """The definitions, and the lists of predecessors in force."""
     return plan_definitions.of_plan(plan), plan_definitions.lists_of(plan, "link_in_force")

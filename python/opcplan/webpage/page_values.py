@@ -1,4 +1,4 @@
-"""The forms of what the page is given: one value of JSON, whose parts its scripts know by these names and places."""
+"""The types of the page's data: one value of JSON, whose parts its scripts know by these names and places."""
 
 from typing import NamedTuple, NotRequired, TypedDict
 
@@ -6,8 +6,8 @@ Limits = list[int | None]  # hours
 
 
 class Hold(NamedTuple):
-    """A row that holds others up, by its place: how many, how many of these are late, and the first of them to be
-    due."""
+    """A row that holds others up, by its place: how many, how many of these are late, and which of them is due
+    first."""
 
     place: int
     held: int
@@ -16,7 +16,7 @@ class Hold(NamedTuple):
 
 
 class Job(NamedTuple):
-    """A job: its number, its statement, and what it was answered."""
+    """A job: its number, its statement, and its reply."""
 
     number: int
     statement: str
@@ -24,7 +24,7 @@ class Job(NamedTuple):
 
 
 class Difference(NamedTuple):
-    """An occurrence that is new, stands elsewhere or is due otherwise than before; `was` is '' where it is new."""
+    """An occurrence that is new, has moved, or has another deadline; `was` is its place before, '' if it is new."""
 
     serial: int
     was: str
@@ -36,7 +36,7 @@ class Difference(NamedTuple):
 
 
 class Redefinition(NamedTuple):
-    """What is defined otherwise: its kind, its name, and whether it is new, gone or changed."""
+    """A changed definition: its kind, its name, and whether it is new, gone or changed."""
 
     what: str
     name: str
@@ -44,7 +44,8 @@ class Redefinition(NamedTuple):
 
 
 class App(NamedTuple):
-    """An application: 1 for active, 0 for pending, -1 where it isn't defined; its calendar's place, its run cycles."""
+    """An application: its name, 1 for active, 0 for pending, -1 if it isn't defined; its calendar's place, its run
+    cycles."""
 
     name: str
     status: int
@@ -53,7 +54,8 @@ class App(NamedTuple):
 
 
 class Calendar(NamedTuple):
-    """A calendar: whether it is defined, and of each day from the first to the last 1 for a work day, else 0."""
+    """A calendar: its name, whether it is defined, and for each day from the first to the last 1 for a work day, else
+    0."""
 
     name: str
     is_defined: bool
@@ -82,7 +84,7 @@ class Rows(TypedDict):
 
 
 class Since(TypedDict):
-    """What changed since an older copy: of the differences the first ones, and how many there are."""
+    """What changed since an older copy: the first differences, and how many there are in all."""
 
     file: str
     kept: str
@@ -92,7 +94,7 @@ class Since(TypedDict):
 
 
 class Ran(TypedDict):
-    """What the journal of a desk says of the rows, by place, and of what applications take, by number."""
+    """What a desk's journal shows: of rows by place, and of applications' run times by number."""
 
     runs: dict[int, list[list[object]]]
     usual: dict[int, list[float]]
@@ -104,7 +106,7 @@ class Ran(TypedDict):
 
 
 class Data(Definitions):
-    """All of it. The last four stand there where the value is whole."""
+    """All data of the page. A complete value also has the last four."""
 
     file: str
     now: int

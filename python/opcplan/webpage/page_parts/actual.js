@@ -1,4 +1,4 @@
-// What a desk's journal tells: when rows ran, what is expected of them, what ended late or is going to.
+// What a desk's journal shows: when rows ran, when they are expected to end, what ended late or is going to.
 const RAN = { S: 'not ended yet', C: 'complete', E: 'in error' };
 const took = seconds => seconds < 59.5 ? Math.round(seconds) + ' s' : length(Math.round(seconds / 60));
 
@@ -19,7 +19,7 @@ function usualText(usual) {
 const endText = ([, end, isLeast]) => (isLeast ? 'not before ' : '') + at(end);
 const pastText = (i, end) => end > due[i] ? ', late by ' + length(end - due[i]) : '';
 
-/** What the card says of a row's runs. */
+/** The lines about a row's runs in its card. */
 function runPairs(i) {
   if (!D.actual) return [];
   const runs = D.actual.runs[i] || [], expected = D.actual.expected[i];

@@ -13,13 +13,13 @@ function cycleLine([title, kind, period, rule, offsets, time, days, minute, inEf
   return h('p', { class: 'cycle' }, h('b', {}, title), text, how);
 }
 
-/** An application in a list: a button where it is defined or has rows. */
+/** An application in a list: a button if it is defined or has rows. */
 function appLink(other) {
   if (typeof other === 'string') return h('span', {}, other + ' (not defined) ');
   return h('button', { class: 'in', 'data-a': other, on: () => showApp(other) }, D.apps[other][0]);
 }
 
-/** One that is waited for, with its limit: it is waited for where it arrives at most so many hours before. */
+/** A predecessor, with its limit: it counts if it arrives at most so many hours before. */
 function waitLink(other, hours) {
   const limit = h('small', { class: 'quiet' }, 'within ' + hours + ' h ');
   return hours === null ? appLink(other) : h('span', {}, appLink(other), limit);

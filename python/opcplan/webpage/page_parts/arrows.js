@@ -1,4 +1,4 @@
-// The arrows of the day, in one picture over its rows: all faintly, those of a row that is looked at strongly.
+// The arrows of the day, in one picture over its rows: all of them faintly, and strongly those of the row in focus.
 const MOST_ARROWS = 400;
 const laid = { box: null, lineOf: new Map(), buttons: new Map(), folds: new Map(), picked: null, note: null };
 
@@ -20,7 +20,7 @@ function layArrows(box, drawn) {
     isNow ? s('line', { class: 'now', x1: x, x2: x, y1: '0', y2: '100%' }) : '')));
 }
 
-/** The arrows of runs that are one line lead to that line. */
+/** Leads the arrows of folded runs to their line. */
 function foldArrows({ key, rows }, n, button) {
   if (view.opened.has(key)) return;
   for (const i of rows) {
@@ -39,7 +39,7 @@ function allArrows() {
     for (const row of before.get(successor) || []) if (isArrow(row, successor)) pairs.push([row, successor]);
   }
   if (pairs.length <= MOST_ARROWS) return pairs.map(([row, successor]) => arrow(row, successor));
-  laid.note.textContent = pairs.length + ' arrows are too many to be drawn: those of a row that is looked at are.';
+  laid.note.textContent = 'There are ' + pairs.length + ' arrows, too many to draw. Point at a row to see its arrows.';
   return [];
 }
 
@@ -74,11 +74,11 @@ function showArrows(i) {
   }
   drawn.sort((a, b) => (a[2] === 'own') - (b[2] === 'own'));
   laid.picked.replaceChildren(...drawn.slice(-MOST_ARROWS).map(one => arrow(...one)));
-  const text = 'Of its chain ' + MOST_ARROWS + ' of ' + drawn.length + ' arrows are drawn.';
+  const text = MOST_ARROWS + ' of the ' + drawn.length + ' arrows of its chain are drawn.';
   if (drawn.length > MOST_ARROWS) laid.note.textContent = text;
 }
 
-/** The chosen row's chain stands out, and the other rows are dimmed. */
+/** Highlights the chosen row's chain, and dims the other rows. */
 function markChosen() {
   const isThere = view.pick >= 0 && laid.buttons.has(view.pick);
   laid.box?.classList.toggle('dim', isThere);

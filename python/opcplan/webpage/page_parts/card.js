@@ -1,8 +1,8 @@
 // The card: one occurrence or one application.
-const RULES = { E: 'work days are counted alone', 1: 'a free day goes to the work day before',
-  2: 'a free day goes to the work day after', 3: 'free days too', 4: 'not on free days' };
+const RULES = { E: 'only work days are counted', 1: 'a free day moves to the work day before',
+  2: 'a free day moves to the work day after', 3: 'on free days too', 4: 'not on free days' };
 const MOST_IN_TREE = 80;
-/** What others put into the card of a row, above its times. */
+/** What other parts put into the card of a row, above its times. */
 const inCard = [];
 
 /** A row as a button that chooses it. */
@@ -12,7 +12,7 @@ function link(i, more, isDue) {
     h('small', { class: isDue ? tone(i) : '' }, text));
 }
 
-/** What is reached from a row and isn't complete, as a tree; what stood above isn't opened again. */
+/** What is reached from a row and isn't complete, as a tree; a row that is above already isn't opened again. */
 function tree(i, steps, seen, left) {
   const rows = (steps.get(i) || []).filter(isOpen);
   if (!rows.length) return null;
@@ -20,11 +20,11 @@ function tree(i, steps, seen, left) {
     if (left.rows-- <= 0) return null;
     const isAbove = seen.has(k);
     seen.add(k);
-    return h('li', {}, link(k, isAbove ? 'above' : '', true), isAbove ? '' : tree(k, steps, seen, left));
+    return h('li', {}, link(k, isAbove ? 'shown above' : '', true), isAbove ? '' : tree(k, steps, seen, left));
   }));
 }
 
-/** The tree of a row, how many it leaves out, or what is said where there is none. */
+/** The tree of a row and how many rows it leaves out, or the text `nothing` if there is none. */
 function wholeTree(i, steps, nothing) {
   const seen = new Set([i]), drawn = tree(i, steps, seen, { rows: MOST_IN_TREE });
   if (!drawn) return h('p', { class: 'quiet' }, nothing);
@@ -37,13 +37,13 @@ const links = (title, rows, most) => rows.length
     h('ul', { class: 'tree' }, rows.slice(0, most).map(i => h('li', {}, link(i))), restLine(rows.length, most)))
   : '';
 
-/** Where a predecessor of the same day arrives later than the row: it goes by the one before, and that may surprise. */
+/** Notes for a row whose predecessor of the same day arrives later: it waits for an earlier one, which may surprise. */
 function goesByEarlier(i) {
   const told = (before.get(i) || []).map(k => {
     const next = perApp.get(app(k)).find(j => ia[j] > ia[i] && !isGone(j));
     const isSurprise = dayOf(ia[k]) < dayOf(ia[i]) && next !== undefined && dayOf(ia[next]) === dayOf(ia[i]);
     if (!isSurprise || app(k) === app(i)) return '';
-    return h('p', { class: 'quiet' }, 'It goes by ' + name(k) + ' of ' + dayName(ia[k]) + ': that of ' +
+    return h('p', { class: 'quiet' }, 'Its predecessor is ' + name(k) + ' of ' + dayName(ia[k]) + ': that of ' +
       dayName(ia[next]) + ' arrives later than this, at ' + clock(ia[next]) + '.');
   }).filter(Boolean);
   const more = rest(told.length, 4, ' of this kind');
@@ -85,7 +85,7 @@ const SIGNS = [['E', 'in error'], ['S', 'started'], ['R', 'ready: arrived, nothi
   ['C', 'complete'], ['H', 'complete, in history'],
   ['L', 'planned, not yet in the current plan'], ['D', 'deleted or withdrawn']];
 const KEYS = [['/', 'find an application'], ['↑ ↓', 'rows of the day, cells of the month'],
-  ['← →', 'twelve hours back or on'], ['n', 'now'], ['t', 'next in trouble: first in error, then late'],
+  ['← →', 'twelve hours back or forward'], ['n', 'now'], ['t', 'next in trouble: first in error, then late'],
   ['g', 'the day as rows or as a graph'], ['?', 'signs and keys'],
   ['Enter', 'choose; once more: its card'], ['Esc', 'close']];
 
@@ -100,7 +100,7 @@ function drawLegend() {
     h('h3', {}, 'Keys'), h('ul', { class: 'signs' }, KEYS.map(([key, text]) => h('li', {}, h('kbd', {}, key), text))));
 }
 
-/** Names the row in the address, where the page has one. */
+/** Puts the row into the address of the page. */
 function address(i) {
   try {
     history.replaceState(null, '', i >= 0 ? '#o' + serial[i] : '#');
@@ -109,7 +109,7 @@ function address(i) {
   }
 }
 
-/** Draws the card: of the chosen row or application, else the signs and keys where they are asked for. */
+/** Draws the card: the chosen row or application, else the signs and keys if they are opened. */
 function showCard() {
   const isChosen = view.pick >= 0 || view.app >= 0, isOpened = isChosen || view.help;
   document.body.classList.toggle('chosen', isOpened);
@@ -121,13 +121,13 @@ function showCard() {
   else fill('#card');
 }
 
-/** Closes the card, whatever it shows; the focus goes back to what opened it. */
+/** Closes the card; the focus goes back to what opened it. */
 function shut() {
   const isHelp = view.help && view.pick < 0 && view.app < 0;
   if (isHelp) showHelp(false); else choose(-1);
 }
 
-/** Shows the signs and keys, or puts them away. */
+/** Shows or hides the signs and keys. */
 function showHelp(isShown) {
   if (view.pick >= 0 || view.app >= 0) choose(-1);
   view.help = isShown;
@@ -135,7 +135,7 @@ function showHelp(isShown) {
   (isShown ? $('#card') : $('#help')).focus({ preventScroll: true });
 }
 
-/** Runs what draws anew, and keeps what has the focus at its height on the screen. */
+/** Draws, and keeps the element with the focus at its height on the screen. */
 function keepHeight(draw) {
   const active = () => document.activeElement, height = () => active().getBoundingClientRect().top;
   const mark = () => active().dataset.i ?? active().id, [old, name] = [height(), mark()];

@@ -73,7 +73,7 @@ function jobsBox() {
     ? 'Jobs since the last daily plan that name one of these: ' + jobs.length + ' of ' + D.jobCount
     : 'Jobs since the last daily plan: ' + D.jobCount;
   const lost = D.jobCount - D.jobs.length, shown = rows.slice(-200);
-  const caption = (told ? 'All but accepted starts and completions' : 'Each') + ', by job number' +
+  const caption = 'All' + (told ? ' but accepted starts and completions' : '') + ', by job number' +
     (shown.length < rows.length ? ': the last 200 of ' + rows.length : '');
   const head = ['Job', 'Statement', 'Answer'].map(text => h('th', { scope: 'col' }, text));
   const lines = shown.map(([number, statement, reply, isRefused]) => h('tr', {}, h('td', {}, String(number)),
@@ -86,12 +86,12 @@ function jobsBox() {
       h('tbody', {}, lines)) : '');
 }
 
-/** What stands above the changes in place of the hint how to see more of them. */
+/** What is above the changes in place of the hint how to see more of them. */
 const aboveChanges = [];
 
 function drawChanges() {
-  const hint = 'With --since and an older copy of the plan, each occurrence and definition that changed stands here. ' +
-    'A plan keeps no times, so the jobs from its last daily plan on follow by their numbers.';
+  const hint = 'Name an older copy of the plan with --since to see each occurrence and definition that changed here. ' +
+    'A plan stores no times, so the jobs from its last daily plan on follow by their numbers.';
   const above = aboveChanges.length ? aboveChanges.map(part => part()) : h('p', { class: 'hint quiet' }, hint);
   fill('#changed', D.since ? sinceBox(D.since) : above, jobsBox());
 }

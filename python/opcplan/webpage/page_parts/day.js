@@ -1,16 +1,16 @@
-// The day: a row an occurrence in the order of arrival, a box from input arrival to deadline.
+// The day: a row for each occurrence in the order of arrival, with a box from input arrival to deadline.
 const KIND_NAMES = { open: 'Not complete', trouble: 'Trouble', all: 'All', chain: 'Its chain' };
-const TILE_NAMES = { error: 'In error', late: 'Late', risk: 'At risk', hour: 'Due in the hour', started: 'Started',
+const TILE_NAMES = { error: 'In error', late: 'Late', risk: 'At risk', hour: 'Due within the hour', started: 'Started',
   ready: 'Ready' };
 
 const kindName = kind => KIND_NAMES[kind] || TILE_NAMES[kind];
 
-/** Where a moment stands in the window, in hundredths; a little outside where it is outside. */
+/** The place of a moment in the window, in hundredths; just beyond the edge if it is outside. */
 const share = minute => Math.min(Math.max(100 * (minute - view.from) / DAY, -1), 101);
 
 const isOutside = i => ia[i] >= view.from + DAY || lastShown(i) <= view.from;
 
-/** The rows that the filter takes, and how many each filter of the window would. */
+/** The rows that the filter selects, and how many each filter of the window would select. */
 function rowsOfDay() {
   const chain = view.pick >= 0 ? chainOf(view.pick) : new Set();
   const counts = { all: 0, open: 0, trouble: 0, chain: 0 }, rows = [], ofTile = OF_TILES.includes(view.kind);
@@ -28,7 +28,7 @@ function rowsOfDay() {
   return { rows, counts };
 }
 
-/** Runs what draws anew, and gives the focus back to what it was on. */
+/** Draws, and gives the focus back to the element that had it. */
 function keepFocus(draw) {
   const old = document.activeElement, { key, i } = old?.dataset || {};
   draw();
@@ -114,7 +114,7 @@ function axis() {
     h('span', { css: 'left:' + share(minute) + '%', class: look }, text))));
 }
 
-/** What stands beside a row's box. */
+/** The remark beside a row's box. */
 function remark(i) {
   const early = due[i] < ia[i] ? 'due before it arrives' : '';
   if (late.has(i)) return lateness(i) + (early && ', ' + early);

@@ -1,4 +1,4 @@
-// The day as a graph: a box an occurrence, to the right of all that it waits for, with the critical chain marked.
+// The day as a graph: a box for each occurrence, to the right of all that it waits for, with the critical chain marked.
 const drawn = { nodes: new Map(), lines: [] };
 
 /** A line through the columns that a pair passes. */
@@ -41,7 +41,7 @@ function node(i, { x, y }, number, length) {
   s('title', {}, rowName(i) + ', due ' + at(due[i])));
 }
 
-/** What the critical chain is, in words. */
+/** The text about the critical chain, as parts. */
 function chainText(chain) {
   if (!chain.length) return '';
   const first = chain[0], last = chain.at(-1), left = due[last] - D.now;
@@ -50,12 +50,12 @@ function chainText(chain) {
   }
   const time = late.has(last) ? lateness(last) : left < 0 ? 'past' : length(left) + ' from now, ' +
     length(Math.floor(left / chain.length)) + ' for each';
-  return ['Critical chain: ' + chain.length + ' one behind the other, ', first, ' to ', last,
+  return ['Critical chain: ' + chain.length + ' one after the other, ', first, ' to ', last,
     ', which is due ' + at(due[last]) + ' (' + time + ').'];
 }
 
-const CHAIN_HINT = 'It is the longest chain of what isn’t complete, and of several that which is due first. A plan ' +
-  'knows no running times, so each counts as one. A box stands to the right of all that it waits for.';
+const CHAIN_HINT = 'It is the longest chain of what isn’t complete; of several, the one that is due first. A plan ' +
+  'has no running times, so each counts as one. A box is to the right of all that it waits for.';
 
 /** How much of the graph isn't drawn. */
 function cutText({ nodes, ways, count, pairCount }) {
@@ -100,11 +100,11 @@ function drawGraph(rows) {
   room.scrollTo(x - (nodes.has(view.pick) ? room.clientWidth / 2 - NODE.wide / 2 : 20), y - room.clientHeight / 2);
 }
 
-const beyondText = beyond => ' ' + beyond + (beyond === 1 ? ' stands' : ' stand') + ' in other hours than these.';
-const loneText = lone => ' ' + lone + (lone === 1 ? ' that waits for none of these isn’t drawn.'
-  : ' that wait for none of these aren’t drawn.');
+const beyondText = beyond => ' ' + many(beyond, 'box is', 'boxes are') + ' of other hours than these.';
+const loneText = lone => ' ' + many(lone, 'occurrence that waits for none of these isn’t drawn.',
+  'occurrences that wait for none of these aren’t drawn.');
 
-/** Texts that are wider than their box are drawn narrower. */
+/** Draws texts narrower that are wider than their box. */
 function narrow(picture) {
   for (const text of picture.querySelectorAll('.title, .times')) {
     const room = NODE.wide - (text.matches('.critical > .title') ? 54 : 38);

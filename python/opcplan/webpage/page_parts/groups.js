@@ -1,21 +1,21 @@
-// Lines that stand for several rows, which a click opens: the runs of one application through the day, and where there
-// are too many rows the applications whose names begin alike.
+// Lines for several rows, which a click opens: the runs of one application through the day, and if there are too many
+// rows, the applications whose names begin alike.
 const MOST_GROUPS = 80, FOLDED_FROM = 3, FOLDING = ['open', 'all'];
 
-/** How many letters names are to share, so that there are few groups. */
+/** How many letters the names of a group share, so that there are few groups. */
 function sharedLetters(rows) {
   const names = [...new Set(rows.map(app))].map(k => D.apps[k][0]);
   for (let n = 16; n > 0; n--) if (new Set(names.map(text => text.slice(0, n))).size <= MOST_GROUPS) return n;
   return 0;
 }
 
-/** A line that stands for several rows, with these below it where it is opened. */
+/** A line for several rows, with these below it if it is opened. */
 function foldOf(key, title, rows, inside = rows) {
   if (view.reveal && rows.includes(view.pick)) view.opened.add(key);
   return [{ key, title, rows }, ...(view.opened.has(key) ? inside : [])];
 }
 
-/** Rows, where the runs of an application of which there are several are one line. */
+/** The lines of rows, with one line for several runs of an application. */
 function foldedRuns(rows) {
   if (!FOLDING.includes(view.kind)) return rows;
   const runs = new Map();
@@ -27,7 +27,7 @@ function foldedRuns(rows) {
   });
 }
 
-/** The lines of the day: rows, lines that stand for several runs of an application, and if these are too many, groups of
+/** The lines of the day: rows, lines for several runs of an application, and if these are too many, groups of
  *  applications. */
 function linesOf(rows) {
   const folded = foldedRuns(rows), groups = new Map(), letters = folded.length > 400 ? sharedLetters(rows) : 0;
@@ -39,7 +39,7 @@ function linesOf(rows) {
   return lines;
 }
 
-/** A line that stands for several rows: what they are, and how many of them are in error or late. */
+/** A line for several rows: what they are, and how many of them are in error or late. */
 function groupRow({ key, title, rows }, n) {
   const errors = rows.filter(KINDS.error).length, lates = rows.filter(KINDS.late).length;
   const told = [errors ? errors + ' in error' : '', lates ? lates + ' late' : ''].filter(Boolean).join(', ');
@@ -59,7 +59,7 @@ function groupRow({ key, title, rows }, n) {
   h('span', { class: 'way', 'aria-hidden': 'true' }, isRuns ? runsOf(rows) : hours(rows))));
 }
 
-/** The runs of an application in one picture, whose unit is a minute: a box each, and a line where one is late. */
+/** The runs of an application in one picture, in minutes: a box for each, and a line if one is late. */
 function runsOf(rows) {
   const boxes = new Map(), x = minute => Math.min(Math.max(minute - view.from, -20), DAY + 20);
   let lines = '';
@@ -75,7 +75,7 @@ function runsOf(rows) {
     lines ? s('path', { class: 'over', d: lines }) : '');
 }
 
-/** How many rows arrive in each hour of the window, as columns; those that arrived before are counted alone. */
+/** How many rows arrive in each hour of the window, as columns; those that arrived before have none. */
 function hours(rows) {
   const perHour = new Array(24).fill(0), worst = new Array(24).fill('');
   for (const i of rows) {

@@ -8,7 +8,7 @@ function drawTop() {
     created ? ' · planned ' + date(first) + ' to ' + date(last) : '');
   const isPast = created && !D.note && D.plan.end <= D.now;
   const notes = [D.note, isPast ? 'The current plan ended ' + at(D.plan.end) +
-    ': what arrives since then isn’t in it until dp-extend.' : ''].filter(Boolean);
+    ': what arrives after that isn’t in it until dp-extend.' : ''].filter(Boolean);
   $('#note').hidden = !notes.length;
   $('#note').textContent = notes.join(' ');
   $('#short').hidden = !D.short.length;
@@ -17,13 +17,13 @@ function drawTop() {
   if (!created) for (const part of ['#needs', '#next', '#day']) $(part).hidden = true;
 }
 
-/** Says how old the page is, by the viewer's clock; it stands at its moment and doesn't go on. */
+/** Says how old the page is, by the viewer's clock; the page itself keeps its moment. */
 function tellAge() {
   const t = new Date();
   const here = Date.UTC(t.getFullYear(), t.getMonth(), t.getDate(), t.getHours(), t.getMinutes()) / 60000;
   const age = Math.round(here - D.made);
   $('#stale').hidden = D.sample || age < 5;
-  $('#stale').textContent = 'This page is ' + length(Math.max(age, 0)) + ' old: make it anew.';
+  $('#stale').textContent = 'This page is ' + length(Math.max(age, 0)) + ' old: make it again.';
 }
 
 let waiting_ = 0;
@@ -43,7 +43,7 @@ function find() {
   }, 120);
 }
 
-/** Says what is filtered, on the page, on paper and in the title of the tab. */
+/** Says what the search shows, on the page, on paper and in the title of the tab. */
 function tellFilter() {
   const number = D.apps.filter(one => matches(one[0])).length;
   nameTab();
@@ -59,7 +59,7 @@ function tellFilter() {
 }
 let titleOfAll = document.title;
 
-/** Says in the title of the tab how bad it is, of what is filtered too. */
+/** Says in the title of the tab how bad it is, also for the applications of a search. */
 function nameTab() {
   document.title = titleOfAll;
   if (!isFiltered()) return;
@@ -69,7 +69,7 @@ function nameTab() {
 
 const SERIAL = /^#?0*([1-9]\d{0,8})$/, KEY = /^(\S+)\s+(\d{4}-\d\d-\d\d)(?:[/T]|\s+)(\d\d)[.:](\d\d)$/;
 
-/** The row that a text names by its serial, or by application and arrival as they are printed; else none. */
+/** The row that a text names by its serial, or by application and arrival as lists print them, or undefined. */
 function typedRow(text) {
   const number = text.match(SERIAL), key = text.match(KEY);
   if (number && !D.apps.some(one => one[0] === text)) return rowOfSerial(+number[1]);
@@ -79,7 +79,7 @@ function typedRow(text) {
   return (perApp.get(k) || []).find(i => ia[i] === arrival);
 }
 
-/** Opens the row that the search names, or the application that it names or begins. */
+/** Opens the row that the search names, or the first application that it names, begins or is part of. */
 function openFound() {
   const text = $('#find').value.trim().toUpperCase(), row = typedRow(text);
   if (row !== undefined) {
@@ -160,7 +160,7 @@ function addressed() {
   return found ? rowOfSerial(+found[1]) ?? -1 : -1;
 }
 
-/** The pointer and the focus show a row's arrows, a click chooses it. */
+/** Listens: the pointer and the focus show a row's arrows, a click chooses it. */
 function listen() {
   const rowOf = event => event.target.closest?.('.row[data-i], .node');
   const look = event => { const row = rowOf(event); showArrows(row ? +row.dataset.i : view.pick); };

@@ -1,4 +1,4 @@
-// A graph of what waits for what: which rows stand in it, its critical chain, and where each row stands.
+// A graph of what waits for what: which rows are in it, its critical chain, and the place of each row.
 const NODE = { wide: 180, high: 40, gap: 12, between: 44, bend: 6, apart: 26 };
 const MOST_NODES = 240, MOST_PAIRS = 1200, SWEEPS = 8;
 
@@ -16,7 +16,7 @@ function pairsAmong(rows) {
   return { nodes: [...inside].filter(i => ins.has(i) || outs.has(i)), ins: i => to(ins, i), outs: i => to(outs, i) };
 }
 
-/** Rows, and all that isn't complete of what they wait for, also where that arrives in other hours. */
+/** Rows, and all that they wait for and that isn't complete, also if it arrives in other hours. */
 function withWaits(rows) {
   const found = new Set(rows), left = [...rows];
   while (left.length) {
@@ -29,7 +29,7 @@ function withWaits(rows) {
   return [...found].sort((a, b) => a - b);
 }
 
-/** Rows, each behind all that it waits for; those in a ring, which no sound plan has, at the end. */
+/** Rows, each after all that it waits for; those in a loop, which no sound plan has, at the end. */
 function inOrder({ nodes, ins, outs }) {
   const left = new Map(nodes.map(i => [i, ins(i).length])), order = nodes.filter(i => !left.get(i));
   for (let at = 0; at < order.length; at++) {
@@ -44,8 +44,8 @@ function inOrder({ nodes, ins, outs }) {
 
 const isLeft = i => isOpen(i) || state(i) === 'L';
 
-/** The longest chain of rows that are to be done, each counted as one; of several that which is due first. Where
- *  nothing is to be done, the longest of all. */
+/** The longest chain of rows that are still to be done, each counted as one; of several, the one that is due first. If
+ *  nothing is left to do, the longest of all. */
 function criticalChain(graph) {
   const order = inOrder(graph), left = order.filter(isLeft), best = new Map();
   const better = (a, b) => best.get(b).length - best.get(a).length || due[a] - due[b] || a - b;
@@ -58,7 +58,7 @@ function criticalChain(graph) {
   return chain.length > 1 ? chain : [];
 }
 
-/** Of too many rows those that are nearest to the critical chain, and then those in trouble with what is near them. */
+/** Of too many rows, those nearest to the critical chain, and then those in trouble with what is near them. */
 function nearest({ nodes, ins, outs }, chain) {
   if (nodes.length <= MOST_NODES) return nodes;
   const kept = new Set(), seeds = [chain, ...nodes.filter(isTrouble).map(i => [i]), ...nodes.map(i => [i])];
@@ -73,7 +73,7 @@ function nearest({ nodes, ins, outs }, chain) {
   return [...kept].sort((a, b) => a - b);
 }
 
-/** The parts of a graph that hang together: that of the critical chain first, then those in trouble, then the large. */
+/** The connected parts of a graph: that of the critical chain first, then those in trouble, then the large. */
 function partsOf({ nodes, ins, outs }, chain) {
   const seen = new Set(), parts = [];
   for (const start of nodes) {
@@ -91,7 +91,7 @@ function partsOf({ nodes, ins, outs }, chain) {
   return parts.sort((a, b) => rank(b) - rank(a) || b.length - a.length || Math.min(...a) - Math.min(...b));
 }
 
-/** The column of each row: behind all that it waits for, and no farther from what waits for it than it has to be. */
+/** The column of each row: after all that it waits for, and as near to what waits for it as can be. */
 function columnsOf(part, { ins, outs }) {
   const order = inOrder({ nodes: part, ins, outs }), column = new Map();
   for (const i of order) column.set(i, 1 + Math.max(-1, ...ins(i).map(k => column.get(k) ?? -1)));
@@ -102,7 +102,7 @@ function columnsOf(part, { ins, outs }) {
   return column;
 }
 
-/** The columns of a part as lists of items, with an item of its own where a pair passes a column by. */
+/** The columns of a part as lists of items, with an item wherever a pair passes a column. */
 function itemsOf(part, graph, pairs) {
   const column = columnsOf(part, graph), columns = [], items = new Map();
   const add = item => { (columns[item.column] ??= []).push(item); return item; };
@@ -142,7 +142,7 @@ function sortColumns(columns) {
   }
 }
 
-/** Puts the items of a column as near as can be to the heights that are wished for, in their order and apart. */
+/** Puts the items of a column as near as can be to the wished heights, in their order and with gaps. */
 function place(items, wished) {
   let at = 0;
   const least = items.map((item, k) => at += k ? (items[k - 1].high + item.high) / 2 + NODE.gap : 0), blocks = [];
@@ -158,7 +158,7 @@ function place(items, wished) {
   items.forEach((item, k) => { item.y = shifts[k] + least[k]; });
 }
 
-/** Lays a part out below a height, and answers where it ends. */
+/** Lays a part out below a height; returns where it ends. */
 function layPart(columns, top) {
   sortColumns(columns);
   for (const items of columns) place(items, items.map(() => 0));

@@ -1,5 +1,5 @@
-// Buttons of the chosen row, by what its status allows, and what the desk answered.
-// by serial: the answer that is shown, the act that is under way, its key, and one that is to be pressed again
+// The buttons of the chosen row, by what its status allows, and the desk's answers.
+// by serial: the answer that is shown, the act in progress, its key, and an act that must be pressed again
 const answers = new Map();
 
 const statusOfRow = i => 'RBF'.includes(state(i)) ? 'W' : state(i);
@@ -10,7 +10,7 @@ const allows = (act, i) => desk.acts[act].from.includes(statusOfRow(i)) && !(act
 
 const streamName = i => '--app ' + name(i) + ' --ia ' + isoDay(dayOf(ia[i])) + '/' + clock(ia[i]);
 
-/** A row's buttons. Each stands in its place, whether it is allowed or not, so that a second press meets no other. */
+/** A row's buttons. Each keeps its place, whether it is allowed or not, so that a second press hits no other. */
 function actsOf(i) {
   if (!may('operate') || !isInPlan(i)) return '';
   for (const [number, one] of answers) if (one.sure && number !== serial[i]) answers.delete(number);
@@ -21,13 +21,13 @@ function actsOf(i) {
       disabled: kept.busy || !allows(act, i) ? '' : undefined, 'data-act': act, 'data-i': i });
   });
   const text = kept.text || [];
-  return h('div', { class: 'acts', role: 'group', 'aria-label': 'What may be done with it' },
+  return h('div', { class: 'acts', role: 'group', 'aria-label': 'Actions' },
     h('p', { class: 'answer ' + (kept.look || ''), tabindex: -1, id: 'answer' }, text),
     h('div', { class: 'buttons' }, buttons));
 }
 inCard.push(actsOf);
 
-/** Shows an answer in the card of a row, and says it; the focus goes there from the button that was pressed. */
+/** Shows and announces an answer in the card of a row; the focus goes there from the button that was pressed. */
 function answerOf(number, kept) {
   answers.set(number, kept);
   const isFocused = $('.acts')?.contains(document.activeElement);
@@ -39,7 +39,7 @@ function answerOf(number, kept) {
     : rowName(rowOfSerial(number)) + ': ' + plainText(kept.text));
 }
 
-/** A press of a button: what is deleted is asked about once more. */
+/** A press of a button. Delete needs a second press. */
 async function press(i, act) {
   const number = serial[i], kept = answers.get(number) || {};
   if (kept.busy) return;
@@ -51,7 +51,7 @@ async function press(i, act) {
   }
   const text = 'cp-' + act + ' ' + streamName(i), key = kept.open === text ? kept.key : newKey();
   ownKeys.add(key);
-  answerOf(number, { busy: true, text: ['Asked …'] });
+  answerOf(number, { busy: true, text: ['Sent, waiting for the answer …'] });
   const found = await ask(text, key);
   const reply = found.lines?.[0].reply ?? '';
   if (found.wrong) answerOf(number, { text: [found.wrong], look: 'is-error', open: found.isOpen ? text : '', key });

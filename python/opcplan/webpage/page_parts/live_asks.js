@@ -1,16 +1,16 @@
-// What is asked of the desk: statements under keys, and their answers in words.
+// Statements that the page sends to the desk under keys, and their answers as texts.
 const desk = JSON.parse(document.getElementById('desk').textContent);
 const RESTS = [.3, .7, 1.5, 3, 5, 8, 10];  // seconds between two tries of one request
 const MAY = { read: 1, operate: 2, plan: 3 };
 const may = role => MAY[desk.role] >= MAY[role];
 const pause = seconds => new Promise(done => setTimeout(done, 1000 * seconds));
 
-/** A key that stands for one press of a button. */
+/** A new key, for one press of a button. */
 const newKey = () => Array.from(crypto.getRandomValues(new Uint8Array(16)),
   byte => byte.toString(16).padStart(2, '0')).join('');
 
-/** What the desk answers to a statement: its `lines`, or in `wrong` why there are none; `isOpen` where it may have been
- * done all the same. It is sent under its key until it is answered, so that it is done once. */
+/** The desk's answer to a statement: its `lines`, or in `wrong` why there are none; `isOpen` if it may have been done
+ * all the same. The statement is sent under its key until it is answered, so that it is done once. */
 async function ask(text, key, tag) {
   const headers = { 'X-Opcplan': 'desk', 'Content-Type': 'text/plain', Accept: 'application/x-ndjson' };
   if (key) headers['Idempotency-Key'] = key;
@@ -31,20 +31,20 @@ async function ask(text, key, tag) {
     } catch (error) {
       wrong = error.message;
     }
-    tellLink('no answer yet; it is asked again');
+    tellLink('no answer yet; the page sends the statement again');
   }
-  const hint = 'Press again: it is then asked under the same key, and done once.';
+  const hint = 'Press again: the page sends it under the same key, so it is done once.';
   return { status: 0, isOpen: true, wrong: 'No answer (' + wrong + '). ' + hint };
 }
 
 /** Why nothing was done. */
 function sentence(status, text) {
-  if (status === 401) return 'Nothing was done: your session has ended. Load the page anew to sign in.';
-  if (status === 412) return 'Nothing was done: the plan has changed since it was looked at.';
+  if (status === 401) return 'Nothing was done: your session has ended. Reload the page to sign in.';
+  if (status === 412) return 'Nothing was done: the plan has changed since you looked at it.';
   return 'Nothing was done: ' + text;
 }
 
-/** A refusal in words, as parts. */
+/** The text of a refusal, as parts. */
 function refusal(reply) {
   const told = meaning(reply).slice(), [, number] = reply.split(' ');
   if (!told.length) return ['Refused: ' + reply + '.'];

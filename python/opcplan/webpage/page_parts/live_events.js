@@ -1,16 +1,16 @@
-// What the desk tells: each change is drawn as it comes, and rows are fetched anew where others came or went.
+// The desk's events: each change is drawn as it comes, and the rows are fetched again if some came or went.
 const MOST_LATELY = 100, MOST_JOBS = 3000, LONGEST_WAIT = 2000, HOUR = 3600000;
-/** How far the desk was heard, as of where the rows were fetched, and what is under way. */
+/** The position of the last event, that of the rows that were fetched, and what is in progress. */
 const live = { position: desk.position, shown: desk.position, isOld: false, isFetching: false, resting: 0,
   failed: 0, tries: 0, drawing: 0, drawn: 0, cost: 0, begun: Date.now(), source: null, lost: '' };
-const changes = [];  // statuses behind the rows that were fetched: position, serial, status
+const changes = [];  // statuses after the rows that were fetched: position, serial, status
 const lately = [], unsaid = [], ownKeys = new Set();
 let applied = 0;
 
-/** The desk's clock, in the minutes of the plan; one that stands goes on standing. */
+/** The desk's clock, in the minutes of the plan; a page that keeps its moment stays at it. */
 const clockNow = () => desk.stands ? D.now : Math.floor(desk.clock + (Date.now() - live.begun) / 60000);
 
-/** Takes an entry: a status that one row gets, and other changes, for which the rows are fetched anew. */
+/** Takes an entry: the status of one row, or another change, after which the rows are fetched again. */
 function onEntry(entry) {
   if (entry.seq <= live.position) return;
   live.position = entry.seq;
@@ -49,7 +49,7 @@ function applyChanges() {
   settle(clockNow());
 }
 
-/** Draws soon: at once after a rest, and behind another drawing the later the longer that took. */
+/** Draws soon: at once after a rest, and after another drawing the later, the longer that took. */
 function drawSoon() {
   const rested = performance.now() - live.drawn, rest = Math.min(LONGEST_WAIT, 4 * live.cost);
   live.drawing ||= setTimeout(() => {
@@ -62,7 +62,7 @@ function drawSoon() {
   }, Math.max(40, rest - rested));
 }
 
-/** Says what others changed, where it isn't too much. */
+/** Announces what others changed, or how many rows if they are many. */
 function sayChanges() {
   const rows = [...new Set(unsaid.splice(0))].map(rowOfSerial).filter(i => i !== undefined);
   if (!rows.length) return;
@@ -70,7 +70,7 @@ function sayChanges() {
     : rows.map(i => rowName(i) + ' is ' + WORD[state(i)]).join('; '));
 }
 
-/** Has the rows fetched anew, as soon as they were not fetched just now. */
+/** Fetches the rows again, after a rest if they were fetched just now. */
 function fetchRows() {
   live.isOld = true;
   if (!live.isFetching && !live.resting) fetchNow();
@@ -88,7 +88,7 @@ async function fetchNow() {
   }, rest);
 }
 
-/** The rows as they stood at a position or behind it, or null. */
+/** The rows at a position or after it, or null. */
 async function fetchedRows(since) {
   const now = new URLSearchParams(location.search).get('now');
   try {
@@ -127,13 +127,13 @@ function hear() {
   source.onerror = () => {
     source.close();
     if (source !== live.source) return;
-    tellLink('the desk doesn’t answer; what is shown is what it told last');
+    tellLink('the desk doesn’t answer; the page shows its last answer');
     live.source = null;
     setTimeout(hear, Math.min(10000, 500 * 2 ** live.tries++));
   };
 }
 
-/** A desk that was started anew may have another plan. */
+/** Takes the state of the plan: a desk that was started again may have another plan. */
 function onState({ tag, position }) {
   const isAnew = tag.split('-')[0] !== desk.tag.split('-')[0];
   desk.tag = tag;
@@ -141,22 +141,22 @@ function onState({ tag, position }) {
   else if (isAnew) fetchRows();
 }
 
-/** Asks how the desk is, and listens anew where events stay away. */
+/** Requests the desk's health, and listens again if no events come. */
 async function lookAfter() {
   try {
     const found = await (await fetch('/health')).json();
     if (found.status === 'stopped') return tellLink('the desk is stopped: ' + (found.why || ''));
-    if (found.position === undefined) return tellLink('your session has ended; load the page anew to sign in');
+    if (found.position === undefined) return tellLink('your session has ended; reload the page to sign in');
     const position = live.position;
     if (live.source && found.position > position) {
       setTimeout(() => { if (live.position === position) live.source?.onerror(); }, 3000);
     } else if (live.source?.readyState === EventSource.OPEN) tellLink('');
   } catch {
-    tellLink('the desk doesn’t answer; what is shown is what it told last');
+    tellLink('the desk doesn’t answer; the page shows its last answer');
   }
 }
 
-/** Says at the top whether the page is live, and who looks at it. */
+/** Says at the top whether the page is live, and who is signed in. */
 function tellLink(lost) {
   if (lost === live.lost && $('#link').textContent) return;
   live.lost = lost;
@@ -167,14 +167,14 @@ function tellLink(lost) {
   if (lost) say('Not live: ' + lost);
 }
 
-/** The last statements, who asked them and when. */
+/** The last statements, who sent them and when. */
 function latelyBox() {
   const shown = lately.filter(one => !isFiltered() || isJobOfThese([0, one.statement])).slice(-20).reverse();
   const head = ['At', 'Who', 'Statement', 'Answer'].map(text => h('th', { scope: 'col' }, text));
-  return h('div', { class: 'pane box' }, h('h3', {}, 'Asked of the desk, the last first'),
+  return h('div', { class: 'pane box' }, h('h3', {}, 'Sent to the desk, the latest first'),
     shown.length ? h('div', { class: 'wide' }, h('table', { class: 'jobs lately' }, h('thead', {}, h('tr', {}, head)),
       h('tbody', {}, shown.map(latelyLine))))
-      : h('p', { class: 'empty' }, none('Nothing was asked yet.', 'Nothing of these was asked lately.')));
+      : h('p', { class: 'empty' }, none('No statement was sent yet.', 'No statement about these was sent lately.')));
 }
 aboveChanges.push(latelyBox);
 
@@ -187,7 +187,7 @@ function latelyLine({ at: moment, who, statement, reply }) {
     h('td', {}, answer, isRefused && reply ? meaning(reply) : ''));
 }
 
-/** What was asked before the page was opened. */
+/** Fetches the statements from before the page was opened. */
 async function fetchLately() {
   try {
     const found = await fetch('/journal?from=' + Math.max(1, desk.position - 19));

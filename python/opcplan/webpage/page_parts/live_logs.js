@@ -1,10 +1,10 @@
-// The end of the log of a row's job: fetched when its card is opened, when its status changes, and while its job runs.
+// The end of the log of a row's job. It is fetched when its card is opened, when its status changes, and while it runs.
 const LOG_LINES = 200, LOG_SECONDS = 5;
 // by serial: the text, and the status of the row for which it was fetched; the serial whose card is opened
 const jobLogs = new Map();
 let logOpened = 0;
 
-/** The part of the card that shows it, as text. */
+/** The part of the card that shows the log, as text. */
 function logOf(i) {
   const number = serial[i], isStarted = 'SECH'.includes(state(i));
   if (!may('operate') || !isStarted) return '';
@@ -16,7 +16,7 @@ function logOf(i) {
 }
 inCard.push(logOf);
 
-/** Fetches the log of a serial, and shows it where its card is opened and it has become another. */
+/** Fetches the log of a serial, and shows it if its card is opened and the log has changed. */
 async function fetchLog(number, key) {
   const old = jobLogs.get(number);
   jobLogs.set(number, { text: old?.text, key });
@@ -30,7 +30,7 @@ async function fetchLog(number, key) {
   focus();
 }
 
-/** The last lines of a log, a sentence where they can't be had, or nothing where the desk has none. */
+/** The last lines of a log, a sentence if they can't be read, or nothing if the desk has none. */
 async function logText(number) {
   try {
     const found = await fetch('/logs/' + number, { redirect: 'error' }), told = (await found.text()).trimEnd();

@@ -1,15 +1,15 @@
-// What follows from the rows' statuses at a moment: states, lateness, roots, what is held up.
+// What follows from the rows' statuses at a moment: states, what is late, roots, what is held up.
 const ROOT_RANK = { E: 0, S: 1, R: 2, B: 3, F: 4 };
 const MOST_HELD = 5000, MOST_HEADS = 300;
 
-/** Gives a row of the current plan another status; of one that waits `settle` finds whether it is ready. */
+/** Gives a row of the current plan another status; `settle` finds whether a waiting row is ready.  */
 function setStatus(i, status) {
   if (typeof D.state === 'string') D.state = Array.from(D.state);
   D.state[i] = status === 'W' ? 'R' : status;
 }
 
-/** Finds what follows from the statuses at a moment: states, lateness, roots, what is at risk, what is held up. It goes
- *  through all rows in arrays of numbers, since a plan may have 200,000. */
+/** Finds what follows from the statuses at a moment: states, what is late, roots, what is at risk, what is held up. It
+ *  goes through all rows in arrays of numbers, because a plan may have 200,000. */
 function settle(now) {
   D.now = now;
   if (typeof D.state === 'string') D.state = Array.from(D.state);
@@ -35,8 +35,8 @@ function settle(now) {
   findHolds(heads, waits);
 }
 
-/** Gives each row that waits the worst of its roots: first those in error, then those started, then by deadline; the
- *  rows that wait for nothing and are waited for are answered. */
+/** Gives each waiting row the worst of its roots: first those in error, then those started, then by deadline. Returns
+ *  the rows that wait for nothing and have others waiting. */
 function findRoots(open, waits, left) {
   const rank = i => ROOT_RANK[D.state[i]];
   const isWorse = (a, b) => (rank(a) - rank(b) || due[a] - due[b] || a - b) < 0;
@@ -56,7 +56,7 @@ function findRoots(open, waits, left) {
   return heads;
 }
 
-/** What waits for a row, at once or behind others, without itself; a little more than the most where there is more. */
+/** What waits for a row, also through others, without itself; cut soon after the most. */
 function reached(start, waits, seen, mark) {
   const found = [], queue = [start];
   seen[start] = mark;
@@ -84,7 +84,7 @@ function findHolds(all, waits) {
   }).sort((a, b) => notError(a[0]) - notError(b[0]) || b[2] - a[2] || b[1] - a[1] || due[a[0]] - due[b[0]]);
 }
 
-/** How bad it is, as the title of the tab says it. */
+/** The title of the tab, which says how bad it is. */
 function titleNow() {
   let errors = 0;
   for (let i = 0; i < rowCount; i++) errors += state(i) === 'E';

@@ -1,9 +1,9 @@
-// Drawing anew while somebody reads: what is seen, opened, chosen and in focus stays.
+// Drawing again while somebody reads: what is seen, opened, chosen and in focus stays.
 const BOXES = ['#sum', '#needs', '#next', '#daytools', '#lines', '#monthtools', '#grid', '#changed',
   '#card'];
 const SEEN = '.go[data-i], .row[data-i], .row.group, tbody button[data-a], #now h3, section > .bar, #changed h3';
 
-/** What names an element within its box, beyond another drawing of the same plan or a later one. */
+/** The name of an element within its box, which another drawing of the same or a later plan keeps. */
 function markOf(element) {
   const { key, i, a, d } = element.dataset;
   if (key !== undefined) return 'key ' + key;
@@ -16,7 +16,7 @@ const boxOf = element => BOXES.find(box => $(box).contains(element));
 const within = (box, mark, selector) => [...$(box).querySelectorAll(selector)].find(one => markOf(one) === mark);
 const FOCUSABLE = 'button, summary, input, select, [tabindex]';
 
-/** Where the focus is, so that it can be given back: to the same, or to what stands in its place then. */
+/** Notes the focus; returns a function that gives it back to the same element, or to the one in its place then. */
 function focusPlace() {
   const element = document.activeElement, box = boxOf(element);
   if (!box || element === $(box)) return () => {};
@@ -34,7 +34,7 @@ function focusPlace() {
   };
 }
 
-/** Where one reads: the first thing that is seen below the top, and its height on the screen. */
+/** Notes the first element in sight below the top, and its height; returns a function that scrolls back to it. */
 function readingPlace() {
   const top = innerWidth > 760 ? $('header').offsetHeight : 0;
   if (scrollY < 2) return () => {};
@@ -50,7 +50,7 @@ function readingPlace() {
   return () => {};
 }
 
-/** How far what scrolls by itself is scrolled, and which parts are opened. */
+/** Notes the scroll positions within boxes and the opened parts; returns a function that restores them. */
 function innerPlaces() {
   const scrolled = ['#grid .pane', '#lines .room', '#card'].filter($).map(one => [one, $(one).scrollLeft,
     $(one).scrollTop]);
@@ -72,7 +72,7 @@ function innerPlaces() {
 const isSame = (one, other) => one.childNodes.length === other.childNodes.length &&
   [...one.childNodes].every((node, n) => node.isEqualNode(other.childNodes[n]));
 
-/** Draws boxes anew and leaves those in which nothing became other, so that what is selected in them stays selected. */
+/** Draws boxes again, but leaves those in which nothing changed, so that a text selection in them stays. */
 function redraw(boxes, draw, isNew) {
   const old = boxes.map(box => {
     const was = $(box), spare = was.cloneNode(false);
@@ -94,7 +94,7 @@ function redraw(boxes, draw, isNew) {
   }
 }
 
-/** Draws all anew, behind a change; `isNew` where it puts other rows in the place of those that are drawn. */
+/** Draws all again, after a change; `isNew` if it replaces the rows by others. */
 function drawAll(change, isNew) {
   const [focus, reading, inner] = [focusPlace(), readingPlace(), innerPlaces()];
   const isAtNow = view.from === nowWindow(), { now } = D;
@@ -120,7 +120,7 @@ function drawTopAnew() {
   drawTop();
 }
 
-/** Takes other rows, and keeps what is chosen by its name. */
+/** Takes new rows, and keeps what is chosen, by its name. */
 function takeRows(data) {
   const picked = serial[view.pick], app = D.apps[view.app]?.[0], month = months[view.month];
   take(data);

@@ -1,4 +1,4 @@
-// The live page begins: its parts are put into the page, and it listens.
+// The start of the live page: adds its parts to the page, and listens.
 function addLiveParts() {
   $('header .line').append(h('p', { id: 'link' }));
   if (desk.signs) {
@@ -14,7 +14,7 @@ function addLiveParts() {
   chooseWork(true);
 }
 
-/** The key that leads to what may be done with the chosen row. */
+/** Takes the key that leads to the buttons of the chosen row. */
 function onActKey(event) {
   const isPlain = !event.ctrlKey && !event.metaKey && !event.altKey;
   if (event.key !== 'a' || !isPlain || event.target.matches('input, select, textarea')) return;
@@ -27,7 +27,7 @@ function onActKey(event) {
 addLiveParts();
 tellLink('');
 if (may('operate')) {
-  KEYS.splice(-1, 0, ['a', 'what may be done with the chosen row']);
+  KEYS.splice(-1, 0, ['a', 'the buttons of the chosen row']);
   addEventListener('keydown', onActKey);
 }
 if (clockNow() !== D.now) drawAll(applyChanges);

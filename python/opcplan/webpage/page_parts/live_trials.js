@@ -1,7 +1,7 @@
-// A daily plan, and a change of the long-term plan: the trial is shown first, and a second press does it as shown.
+// A daily plan, or a change of the long-term plan: first its trial is shown, and a second press does it as shown.
 const WORKS = [
   { what: 'Daily plan: extend the current plan', field: 'moment', trial: 'dp-trial extend', done: 'dp-extend' },
-  { what: 'Daily plan: plan the same days anew', trial: 'dp-trial replan', done: 'dp-replan' },
+  { what: 'Daily plan: plan the same days again', trial: 'dp-trial replan', done: 'dp-replan' },
   { what: 'Long-term plan: modify all', trial: 'ltp-trial modify-all', done: 'ltp-modify-all' },
   { what: 'Long-term plan: modify one application', field: 'app', trial: 'ltp-trial modify-one',
     done: 'ltp-modify-one' },
@@ -14,7 +14,7 @@ let seen = null;  // the trial that is shown
 
 const field = name => $('#field-' + name);
 
-/** The words behind a work's statement, or what is wrong with what is filled in. */
+/** The words after a work's statement, or what is wrong with the fields. */
 function wordsOf(work) {
   if (work.field === 'app') {
     const text = field('app').value.trim().toUpperCase();
@@ -29,7 +29,7 @@ function wordsOf(work) {
 
 const workNow = () => WORKS[+$('#work').value];
 
-/** Shows the fields of the work that is chosen, and forgets what was looked at. */
+/** Shows the fields of the chosen work, and drops the trial that is shown. */
 function chooseWork(isStart) {
   const { field: wanted } = workNow();
   $('#fields-when').hidden = !['moment', 'day'].includes(wanted);
@@ -83,7 +83,7 @@ function trialGroup(sign, lines) {
       h('tbody', {}, lines.slice(0, MOST_OF_TRIAL).map(trialLine)))), more && h('p', { class: 'quiet' }, more));
 }
 
-/** Shows the trial that was looked at, with the button that does it, or a sentence alone. */
+/** Shows a sentence, and the trial with the button that does it, if there is one. */
 function tellTrial(parts = [], look = '') {
   const groups = new Map();
   for (const sign in SIGNS_OF_TRIAL) groups.set(sign, []);
@@ -97,7 +97,7 @@ function tellTrial(parts = [], look = '') {
 
 const sameTrial = (one, other) => one.reply === other.reply && one.rows.join('\n') === other.rows.join('\n');
 
-/** Asks for a trial: what it shows, or null where that was told. */
+/** Runs a trial: what it shows, or null if the reason is shown. */
 async function trialOf(trial, done) {
   const found = await ask(trial);
   if (found.wrong) return void tellTrial([found.wrong], 'is-error');
@@ -106,14 +106,14 @@ async function trialOf(trial, done) {
   return { trial, done, rows, reply, tag: found.tag, key: newKey() };
 }
 
-const wouldText = one => 'Nothing is done yet. It would be: ' + counted(one.reply) + '.';
+const wouldText = one => 'Nothing is done yet. The result would be: ' + counted(one.reply) + '.';
 
 /** The first press. */
 async function lookFirst() {
   const work = workNow(), { text, wrong } = wordsOf(work);
   seen = null;
   if (wrong) return tellTrial([wrong], 'is-error');
-  tellTrial(['Asked …']);
+  tellTrial(['Sent, waiting for the answer …']);
   const found = await trialOf(work.trial + text, work.done + text);
   if (!found) return;
   seen = found;
@@ -121,7 +121,7 @@ async function lookFirst() {
   $('#trial').focus({ preventScroll: true });
 }
 
-/** The second press: it is done in the state that was looked at, or in a later one where the trial shows the same. */
+/** The second press: does it in the state of the trial, or in a later one in which the trial shows the same. */
 async function doSeen() {
   const asked = seen;
   $('#do').disabled = true;
@@ -133,12 +133,12 @@ async function doSeen() {
     if (!again || seen !== asked) return;
     if (!sameTrial(asked, again)) {
       seen = again;
-      const text = 'Nothing was done: the plan has changed since you looked, and it would now be other than shown: ';
-      return tellTrial([text + counted(again.reply) + '. Look once more.'], 'is-late');
+      const text = 'Nothing was done: the plan has changed since you looked, and the result would now be another: ';
+      return tellTrial([text + counted(again.reply) + '. Look at it, and press once more.'], 'is-late');
     }
     asked.tag = again.tag;
   }
-  if (seen === asked) tellTrial(['Nothing was done: the plan changes all the while. Press once more.'], 'is-late');
+  if (seen === asked) tellTrial(['Nothing was done: the plan keeps changing. Press once more.'], 'is-late');
 }
 
 function tellDone(asked, found) {

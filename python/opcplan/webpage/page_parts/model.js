@@ -1,5 +1,5 @@
 'use strict';
-// The plan as columns of rows, which are named by their place, and what waits for what.
+// The plan as columns of rows, which are known by their place, and what waits for what.
 const DAY = 1440;
 const late = new Set(), risk = new Set();
 let roots = new Int32Array(0), D, rowCount, serial, ia, due, before, after, perApp, bySerial;
@@ -26,7 +26,7 @@ function put(map, key, value) {
   if (list) list.push(value); else map.set(key, [value]);
 }
 
-/** Goes through a run of lists of rows: how far on from the one before, how many, how far back each. */
+/** Reads packed lists of rows: the step from the row before, how many, and how far back each is. */
 function eachOfRun(flat, take) {
   for (let k = 0, row = 0; k < flat.length;) {
     row += flat[k++];
@@ -34,7 +34,7 @@ function eachOfRun(flat, take) {
   }
 }
 
-/** Takes the plan's data, of which all else is drawn. */
+/** Takes the plan's data, from which all else is drawn. */
 function take(data) {
   D = data;
   rowCount = D.state.length;
@@ -60,7 +60,7 @@ function take(data) {
 }
 take(JSON.parse(document.getElementById('data').textContent));
 
-/** The row of a serial, where it is shown. */
+/** The row of a serial, if the page has it. */
 function rowOfSerial(number) {
   bySerial ??= new Map(Array.from(serial, (one, i) => [one, i]));
   return bySerial.get(number);
@@ -79,7 +79,7 @@ const lastShown = i => late.has(i) ? Math.max(D.now, ia[i] + 1) : Math.max(due[i
 
 const MOST_WALKED = 3000;
 
-/** All rows that are reached by steps: of those beyond the first step, the ones that aren't complete. */
+/** All rows that are reached by steps; beyond the first step only those that aren't complete. */
 function walk(i, steps, most = MOST_WALKED) {
   const seen = new Set(), left = [i];
   while (left.length && seen.size < most) {
@@ -96,14 +96,14 @@ function walk(i, steps, most = MOST_WALKED) {
 const chainOf = i => new Set([i, ...walk(i, before, Infinity), ...walk(i, after, Infinity)]);
 const behind = i => [...walk(i, after)].filter(isOpen);
 
-/** How many rows there are at whose completion a row's waiting begins, without the worst of them; -1 for very many. */
+/** How many roots a row has besides the worst one; -1 for very many. */
 function otherRoots(i) {
   const found = walk(i, before);
   if (found.size >= MOST_WALKED) return -1;
   return [...found].filter(k => isOpen(k) && k !== rootOf.get(i) && !openBefore(k).length).length;
 }
 
-/** What each filter of the day takes. Those of the tiles look at the whole current plan. */
+/** What each filter of the day selects. Those of the tiles select from the whole current plan. */
 const KINDS = {
   all: () => true,
   open: i => isOpen(i) || state(i) === 'L',
@@ -117,7 +117,7 @@ const KINDS = {
 };
 const OF_TILES = ['error', 'late', 'risk', 'hour', 'started', 'ready'];
 
-/** What is chosen: the day's window, its filter, the words that are searched, the row, how much is drawn. */
+/** What is chosen: the day's window, its filter, the words of the search, the row, how much is drawn. */
 const view = { from: 0, kind: 'open', find: [], kept: 'open', pick: -1, most: 400, month: null, apps: 110,
   opened: new Set(), whole: new Set(), app: -1, reveal: false, arrows: true, graph: false, help: false };
 const isFiltered = () => view.find.length > 0;

@@ -1,9 +1,9 @@
-// The months: applications by days, with the work and free days of each calendar.
+// The months: applications by days, with the free days of each calendar.
 const MOST_CALENDARS = 12;
 const isFree = (calendar, day) => D.calendars[calendar][2][day - D.first] === '0';
 const isToday = day => day === dayOf(D.now);
 
-/** The first day of each month that is shown, or of the part of it. */
+/** The first day of each month, or part of a month, that the page has. */
 function firstDays() {
   const days = [];
   for (let day = D.first; day <= D.last; day++) {
@@ -13,7 +13,7 @@ function firstDays() {
 }
 let months = firstDays();
 
-/** Per application and day of a month: arrivals, and of these the complete, those in error, those late. */
+/** By application and day of a month: how many arrive, and how many of these are complete, in error and late. */
 function countMonth(first, length) {
   const counts = new Map(), sums = new Array(length).fill(0);
   for (let i = 0; i < rowCount; i++) {
@@ -30,7 +30,7 @@ function countMonth(first, length) {
   return { counts, sums };
 }
 
-/** How many runs most of the days have on which an application runs; of several such numbers the least. */
+/** The most frequent number of runs a day, of the days on which an application runs; of several the least. */
 function usualOf(cells) {
   const days = new Map();
   for (const cell of cells) if (cell.all) days.set(cell.all, (days.get(cell.all) || 0) + 1);
@@ -85,7 +85,7 @@ function drawMonthTools(run, idle) {
     h('b', { class: 'printed' }, monthName(months[view.month] * DAY)),
     h('span', { class: 'quiet' }, many(run, 'application runs', 'applications run') +
       (idle ? ', ' + idle + (idle === 1 ? ' does not' : ' do not') : '') +
-      '. A number tells how many arrive, darker if that is more than usual; hatched is a free day of the calendar.'));
+      '. A number says how many arrive; it is darker if they are more than usual. Free days are hatched.'));
 }
 
 function sumRow(sums, first) {
@@ -126,7 +126,7 @@ function drawMonth(isAgain) {
   if (!isAgain) requestAnimationFrame(scrollToToday);
 }
 
-/** A day of an application is chosen: that day is shown, and its first occurrence. */
+/** Shows the day of a chosen cell, and its first occurrence. */
 function chooseCell(cell) {
   const k = +cell.dataset.a, day = +cell.dataset.d;
   const first = (perApp.get(k) || []).find(i => dayOf(ia[i]) === day && !isGone(i));
@@ -139,7 +139,7 @@ function chooseCell(cell) {
 
 const CELLS = 'tbody button[data-a], td[data-d]';
 
-/** The cell, or the application's name before the cells, that an arrow key leads to. */
+/** The cell, or the application's name in front of the cells, to which an arrow key leads. */
 function nextCell(cell, [across, down]) {
   const row = cell.closest('tr'), other = down > 0 ? row.nextElementSibling : row.previousElementSibling;
   const cells = [...row.querySelectorAll(CELLS)], column = cells.indexOf(cell);
@@ -147,7 +147,7 @@ function nextCell(cell, [across, down]) {
   return cells[Math.min(Math.max(column + across, 0), cells.length - 1)];
 }
 
-/** Where the month is wider than the screen, today is what is seen first. */
+/** Scrolls to today if the month is wider than the screen. */
 function scrollToToday() {
   const pane = $('#grid .pane'), head = $('.month thead .today');
   if (head && pane.scrollWidth > pane.clientWidth) pane.scrollLeft = head.offsetLeft - pane.clientWidth / 2;

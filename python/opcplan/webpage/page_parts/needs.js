@@ -1,4 +1,4 @@
-// What needs somebody, each row once and the worst first; beside it what may be started, and what arrives next.
+// What needs somebody, each row once and the worst first; and beside it what may be started, and what arrives next.
 const MOST_NEEDS = 5;
 
 const byDue = (a, b) => due[a] - due[b] || a - b;
@@ -43,7 +43,7 @@ function heldText(i, rows) {
   const number = heldBy(i), lates = rows.filter(k => late.has(k)).length;
   const all = (number > 5000 ? 'over 5000' : number) + (number === 1 ? ' waits for it' : ' wait for it');
   const part = rows.length >= number ? '' : isFiltered() ? ', ' + rows.length + ' of those that are shown'
-    : ', ' + rows.length + ' for nothing worse';
+    : ', ' + rows.length + ' of them for nothing worse';
   return all + part + (lates ? ', ' + lates + ' late' : '') + '; first due: ' + rowName(rows[0]) + ', by ' +
     soon(due[rows[0]]);
 }
@@ -77,18 +77,18 @@ function needLine(i, rows) {
   return entry;
 }
 
-/** What is started in time and holds others up, in a part that a click opens. */
+/** The rows that were started in time and hold others up, in a part that a click opens. */
 function busyPart(rows) {
   if (!rows.length) return '';
   const lines = rows.slice(0, MOST_LINES).map(dueLine);
-  return h('details', { class: 'busy', 'data-key': 'busy' }, h('summary', {}, 'Started in time, and waited for: ' +
+  return h('details', { class: 'busy', 'data-key': 'busy' }, h('summary', {}, 'Started in time, with others waiting: ' +
     rows.length), h('ul', { class: 'list pane' }, lines, restLine(rows.length, MOST_LINES)));
 }
 
 function drawNeeds({ rows, waiting, busy }) {
   const text = 'Nothing is in error, nothing is late, and nothing holds up what is late.';
   fill('#needs', list('Needs you', rows, i => needLine(i, waiting.get(i).rows.sort(byDue)),
-    none(text, 'None of these is in error, late, or waited for by what is late.'), MOST_NEEDS), busyPart(busy));
+    none(text, 'None of these is in error, is late, or holds up what is late.'), MOST_NEEDS), busyPart(busy));
 }
 
 /** What may be started, by deadline, and what arrives next: of each application the next one. */

@@ -1,4 +1,4 @@
-// The counts of the current plan, and how lists are drawn.
+// The counts of the current plan, and the drawing of lists.
 const MOST_LINES = 500;
 
 /** A list that is drawn up to a number of lines, with a button that shows the others; `count` is how many there are. */
@@ -74,10 +74,10 @@ function drawTiles() {
     n[key] ? h('i', { css: 'width:' + 100 * n[key] / n.total + '%;background:var(' + colour + ')' }) : '');
   const label = 'Current plan: ' + n.C + ' of ' + n.total + ' complete';
   fill('#sum', h('div', { class: 'tiles' },
-    tile('err', n.E, 'in error', under('E', n.E ? 'to be mended' : 'nothing'), 'error'),
+    tile('err', n.E, 'in error', under('E', n.E ? 'to be repaired' : 'nothing'), 'error'),
     tile('late', n.late, 'late', under('late', n.late ? 'past the deadline' : 'nothing'), 'late'),
-    tile('', n.risk, 'at risk', under('risk', 'behind an error or late'), 'risk'),
-    tile('', n.hour, 'due in the hour', under('hour', 'by ' + at(D.now + 60)), 'hour'),
+    tile('', n.risk, 'at risk', under('risk', 'waits for an error or late work'), 'risk'),
+    tile('', n.hour, 'due within the hour', under('hour', 'by ' + at(D.now + 60)), 'hour'),
     tile('', n.S, 'started', under('S', 'running now'), 'started'),
     tile('', n.R, 'ready', under('R', 'arrived, not started'), 'ready')),
   n.total ? h('div', { class: 'share', role: 'img', 'aria-label': label }, bar) : '',

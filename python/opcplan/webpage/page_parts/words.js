@@ -1,4 +1,4 @@
-// Words for times and states, and the making of elements.
+// Texts for times and states, and functions that make elements.
 const WORD = { E: 'in error', S: 'started', R: 'ready, not started', B: 'blocked', F: 'its time is to come',
   C: 'complete', D: 'deleted', L: 'planned', H: 'complete, in history', o: 'deleted by an operator', w: 'withdrawn',
   p: 'deleted in the current plan' };
@@ -7,7 +7,7 @@ const WEEKDAYS = 'Sun Mon Tue Wed Thu Fri Sat'.split(' ');
 const MONTHS = 'Jan Feb Mar Apr May Jun Jul Aug Sep Oct Nov Dec'.split(' ');
 const $ = selector => document.querySelector(selector);
 
-// Moments have no zone: only the UTC functions are asked.
+// Moments have no zone: only the UTC functions are used.
 const dateOf = minute => new Date(minute * 60000);
 const two = number => String(number).padStart(2, '0');
 const clock = minute => two(Math.floor(minute / 60) % 24) + '.' + two(minute % 60);
@@ -22,14 +22,14 @@ function dayName(minute) {
 
 const at = minute => (dayOf(minute) === dayOf(D.now) ? '' : dayName(minute) + ' ') + clock(minute);
 
-/** A moment in few letters: a weekday alone where it is one of the seven days around now. */
+/** A moment in few letters: only the weekday if it is one of the seven days around now. */
 function soon(minute) {
   const days = dayOf(minute) - dayOf(D.now);
   if (!days) return clock(minute);
   return (Math.abs(days) > 3 ? dayName(minute) : WEEKDAYS[dateOf(minute).getUTCDay()]) + ' ' + clock(minute);
 }
 
-/** A row by name and arrival, which tells it from the others of its application. */
+/** A row by name and arrival, which distinguish it from the others of its application. */
 const rowName = i => name(i) + ' ' + soon(ia[i]);
 
 function length(minutes) {
@@ -60,7 +60,7 @@ function waiters(i) {
   return ['; ' + (rows.length >= MOST_WALKED - 1 ? MOST_WALKED + ' or more' : rows.length) + ' wait for it'];
 }
 
-/** Why a row stands where it stands, as parts. */
+/** Why a row has its state, as parts. */
 function why(i) {
   const waits = openBefore(i);
   if (waits.length && isOpen(i)) {
@@ -86,10 +86,10 @@ const asNodes = parts => parts.map(part => typeof part === 'number' ? reference(
 const reference = i => h('button', { class: 'in', 'data-i': i, title: times(i), on: () => choose(i) },
   rowName(i));
 
-/** The words of the search, as they are told. */
+/** The words of the search, as texts quote them. */
 const findText = () => view.find.map(word => '“' + word + '”').join(' or ');
 
-/** What stands at the end of a list that is cut, or nothing. */
+/** The text at the end of a list that is cut, or nothing. */
 const rest = (number, shown, what) => number > shown ? 'and ' + (number - shown) + ' more' + (what || '') : '';
 const restLine = (number, shown, what) => number > shown ? h('li', { class: 'quiet' }, rest(number, shown, what)) : '';
 
