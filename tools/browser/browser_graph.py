@@ -56,7 +56,7 @@ def graph(browser, page, ask):
     ask(all(pair in wanted for pair in zip(chain, chain[1:])), "the critical chain is one of pairs", chain)
     names = [ask_plan("SELECT app FROM cp_row WHERE serial = ?", row)[0][0] for row in (chain[0], chain[-1])]
     said = browser.js("document.querySelector('.chain').textContent")
-    ask(all(name in said for name in names) and f"{len(chain)} one behind" in said, "the chain in words", said)
+    ask(all(name in said for name in names) and f"{len(chain)} one after the other" in said, "the chain in words", said)
     ask(browser.js("document.querySelectorAll('.pair.critical').length") == len(chain) - 1, "its marked pairs")
     browser.js(f"choose({row_of('LIMITS')}); showKind('chain')")
     serial = browser.js("serial[view.pick]")

@@ -5,7 +5,7 @@ the job begins, then how it ended. The lock of the log belongs to the agent firs
 lives.
 
 The record alone determines the key of each step: the key of the run, the number of the try, and the step. So an agent
-that is started anew sends a step again under the same key."""
+that is started again sends a step under the same key."""
 
 import contextlib
 import dataclasses

@@ -76,7 +76,7 @@ function drawTiles() {
   fill('#sum', h('div', { class: 'tiles' },
     tile('err', n.E, 'in error', under('E', n.E ? 'to be repaired' : 'nothing'), 'error'),
     tile('late', n.late, 'late', under('late', n.late ? 'past the deadline' : 'nothing'), 'late'),
-    tile('', n.risk, 'at risk', under('risk', 'waits for an error or late work'), 'risk'),
+    tile('', n.risk, 'at risk', under('risk', 'waits for error or late'), 'risk'),
     tile('', n.hour, 'due within the hour', under('hour', 'by ' + at(D.now + 60)), 'hour'),
     tile('', n.S, 'started', under('S', 'running now'), 'started'),
     tile('', n.R, 'ready', under('R', 'arrived, not started'), 'ready')),
