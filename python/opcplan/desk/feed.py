@@ -83,11 +83,11 @@ class Feed:
     def put(self, ask: Submission, is_alone: bool = False) -> None:
         """Puts a statement into the queue of changes, or that of questions alone. Raises StatementRejected."""
         if self.is_closing:
-            raise StatementRejected(503, "the desk is shutting down; nothing was done")
+            raise StatementRejected(503, "the desk is shutting down; send the request again later")
         if self.desk.planner.stopped:
             raise StatementRejected(503, f"the desk is stopped: {self.desk.planner.stopped}")
         if len(self.queue) + len(self.questions) >= MOST_QUEUED:
-            raise StatementRejected(503, "too many statements are waiting; nothing was done; try again")
+            raise StatementRejected(503, "too many statements are waiting; send the request again later")
         (self.questions if is_alone else self.queue).append(ask)
         (self.question_wake if is_alone else self.wake).set()
 
