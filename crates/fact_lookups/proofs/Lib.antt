@@ -1,6 +1,7 @@
 pub mod FindLemmas
 pub mod TestLemmas
 pub mod RowLemmas
+mod ToldLemmas
 pub mod SerialLemmas
 pub mod NumberLemmas
 pub mod LastLemmas

@@ -13,6 +13,12 @@ use Rattle.fact_lookups.specs.Finding.{StopsFor}
 use Rattle.fact_lookups.specs.declared.faults.LookupFault.{LookupFault}
 use Rattle.fact_lookups.specs.declared.faults.LookupFault.TheVariants.{Memory, Untold, Store}
 
+-- what is told by what was found in a row, or why nothing is: no fact has its values, or memory was refused
+abbrev pub told_by : {X E : Type 0} → Result (Option X) E → Result X LookupFault
+told_by (Ok (Some x)) = Ok x
+told_by (Ok None) = Err Untold
+told_by (Err e) = Err Memory
+
 -- one of the rows has the values of the fact; or there is no row
 abbrev pub TellsFirst : {X : Type 0} → (X → Row) → List Row → Option X → Type 0
 TellsFirst values_of rows None = rows ≡ []

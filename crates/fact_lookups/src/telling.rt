@@ -1,23 +1,30 @@
 // What the rows of an answer tell.
 
 ghost use Rattle.std.specs.Prelude.{◌≡◌, map, IfErr, IfOk};
-ghost use Rattle.fact_lookups.specs.Telling.{TellsFound, TellsNone, TellsNot};
+ghost use Rattle.fact_lookups.specs.Telling.{TellsFound, TellsNone, TellsNot, told_by};
 
 use crate::faults::LookupFault;
 use sqlite::{Error, Row};
 use std::alloc::{AllocError, Global};
 use table_reading::Told;
 
+// What was found in a row, or why nothing was.
+fn told_by<X>(found: Result<Option<X>, AllocError>) -> Result<X, LookupFault>
+    ensures { result ≡ told_by found }
+{
+    match found {
+        Ok(Some(fact)) => Ok(fact),
+        Ok(None) => Err(LookupFault::Untold),
+        Err(AllocError) => Err(LookupFault::Memory),
+    }
+}
+
 /// What the row tells.
 pub(crate) fn tell_row<X: Told>(alloc: Global, row: &Row) -> Result<X, LookupFault>
     ensures told { IfOk result (λ x. X.values x ≡ row.now) }
     ensures untold { IfErr result (TellsNone X.has_form X.values row.now) }
 {
-    match X::tell(alloc, row) {
-        Ok(Some(fact)) => Ok(fact),
-        Ok(None) => Err(LookupFault::Untold),
-        Err(AllocError) => Err(LookupFault::Memory),
-    }
+    told_by(X::tell(alloc, row))
 }
 
 /// What the first of the rows tells that were found; `None` where there is none.

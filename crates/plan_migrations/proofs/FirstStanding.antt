@@ -1,12 +1,12 @@
--- The tables of schema 1 that stand in a schema, and what is left without them.
+-- The tables of schema 1 that stand in a schema, and what is left without those that change.
 use Rattle.std.proofs.Common.{◌≡◌, ◌↔◌, List, refl, sym, ap, subst}
 use Rattle.sqlite_schema.specs.declared.schema.Schema.{Schema}
 use Rattle.sqlite_schema.specs.declared.schema.Table.{Table as Described}
-use Rattle.table_schema.specs.Free.{CanMake, IsFree}
-use Rattle.table_schema.specs.Schema.{plan_schema, tree}
+use Rattle.table_schema.specs.Free.{CanMake}
+use Rattle.table_schema.specs.Schema.{tree}
 use Rattle.table_opening.specs.Standing.{StandAmong}
 use Rattle.table_opening.proofs.AmongLemmas.{Forms, are_there, they_stand}
-use Rattle.table_remaking.specs.FirstSchema.{CanRemake, HasFirstTables, first_schema, first_table_at}
+use Rattle.table_remaking.specs.FirstSchema.{CanRemake, HasFirstTables, changed_schema, first_schema, first_table_at}
 use Rattle.table_remaking.specs.Leaving.{left_by}
 use Rattle.table_remaking.proofs.LeavingLemmas.{left_is}
 
@@ -25,18 +25,18 @@ stand_iff schema made is = (
 
 -- ---- they can be remade
 
--- the tables of schema 1 stand there, and those of a plan can be made in what is left without them
-pub remake_iff : (schema first plan : Schema) → first ≡ first_schema → plan ≡ plan_schema
-    → (StandAmong schema.tables first.tables × CanMake (left_by schema first.tables) plan) ↔ CanRemake schema
-remake_iff schema first plan is whole = (
+-- the tables of schema 1 stand there, and the two that change can be made in what is left without them
+pub remake_iff : (schema first made : Schema) → first ≡ first_schema → made ≡ changed_schema
+    → (StandAmong schema.tables first.tables × CanMake (left_by schema made.tables) made) ↔ CanRemake schema
+remake_iff schema first made is two = (
   λ h.
       let has = (stand_iff schema first.tables (ap (λ (s : Schema). s.tables) is)).0 h.0 in
-      let left : CanMake (left_by schema first_schema.tables) plan =
-      subst (λ (s : Schema). CanMake (left_by schema s.tables) plan) is h.1 in
-      record { has = has; free = subst IsFree (left_is schema has) (subst (CanMake _) whole left) },
+      let left : CanMake (left_by schema changed_schema.tables) changed_schema =
+      subst (λ (s : Schema). CanMake (left_by schema s.tables) s) two h.1 in
+      record { has = has; free = subst (λ (s : Schema). CanMake s changed_schema) (left_is schema has) left },
   λ can. (
     (stand_iff schema first.tables (ap (λ (s : Schema). s.tables) is)).1 can.has,
-    subst (λ (s : Schema). CanMake (left_by schema s.tables) plan) (sym is)
-        (subst (CanMake _) (sym whole) (subst IsFree (sym (left_is schema can.has)) can.free)),
+    subst (λ (s : Schema). CanMake (left_by schema s.tables) s) (sym two)
+        (subst (λ (s : Schema). CanMake s changed_schema) (sym (left_is schema can.has)) can.free),
   ),
 )

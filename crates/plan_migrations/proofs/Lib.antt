@@ -4,6 +4,7 @@ pub mod TurnLemmas
 pub mod ContentLemmas
 pub mod VersionLemmas
 pub mod ReadLemmas
+pub mod RowidLemmas
 pub mod HoldLemmas
 pub mod OlderLemmas
 pub mod FirstStanding

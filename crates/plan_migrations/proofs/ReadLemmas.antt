@@ -24,11 +24,12 @@ use Rattle.table_schema.specs.declared.tables.Table.TheVariants.{History, Deleti
 use Rattle.table_remaking.specs.FirstSchema.{CanRemake, HasFirstTables, first_shown}
 use Rattle.table_remaking.specs.FirstTexts.{first_select_sql}
 use Rattle.table_remaking.specs.Refusals.{FailsFor}
-use Rattle.table_remaking.specs.Remaking.{AreAllFirst, AreRemade, AreWhole, IsRemadeOf, RefusesToRemake, RemakesTo}
+use Rattle.table_remaking.specs.Remaking.{AreAllFirst, AreRemade, AreRowsOf, AreWhole, CanRemakeOf, HaveStayingRowids, IsRemadeOf, RefusesToRemake, RemakesTo}
 use Rattle.table_remaking.specs.Remaking.{remade_row, tables_in, with_all_put}
 use Rattle.table_remaking.specs.Turns.{DeviceHasCause, is_of_device}
 use Rattle.table_remaking.specs.Types.{AreFirst}
 use Rattle.table_opening.specs.Faults.{fault_for}
+use Rattle.table_opening.specs.Rowids.{rowid_sql}
 use Rattle.table_opening.specs.declared.faults.OpenFault.TheVariants as OpenFault
 use Rattle.table_opening.specs.declared.faults.OpenFault.TheVariants.{Unopened}
 use Rattle.table_remaking.specs.declared.rows.FirstRows.{FirstRows}
@@ -36,7 +37,7 @@ use Rattle.table_remaking.proofs.CauseLemmas.{calm_fill, fails_after}
 use Rattle.table_remaking.proofs.StepLemmas as step
 use Rattle.table_opening.specs.Kept.{IsKept}
 use Rattle.plan_migrations.specs.FirstContent.{AreOfFirst, IsFirstContentOf}
-use Rattle.plan_migrations.specs.Migrating.{AreNotTaken, AreRead, AreRenewed, AreRowsOf, AreShown, ChecksTables}
+use Rattle.plan_migrations.specs.Migrating.{AreNotTaken, AreRead, AreRenewed, AreShown, ChecksTables, HaveOtherRowids}
 use Rattle.plan_migrations.specs.Migrating.{FailToHold, FailsToRead, FailsToReadAll, FailsToRemake, HaveContent, HaveSound}
 use Rattle.plan_migrations.specs.Migrating.{IsMigrated, IsRemade, IsRenewed, IsUnmigrated, IsUnrenewed, MayRenew}
 use Rattle.plan_migrations.specs.Migrating.{RenewsFrom, TellsOf}
@@ -48,7 +49,7 @@ use Rattle.plan_migrations.specs.declared.faults.MigrateFault.TheVariants.{Unkno
 use Rattle.table_opening.proofs.KeptLemmas.{kept_if_same}
 use Rattle.plan_migrations.proofs.AskLemmas.{device_since}
 use Rattle.plan_migrations.proofs.ContentLemmas.{content_kept, content_stays}
-use Rattle.plan_migrations.proofs.TextLemmas.{first_reads}
+use Rattle.plan_migrations.proofs.TextLemmas.{first_reads, rowid_reads}
 use Rattle.plan_migrations.proofs.TurnLemmas.{failure_since, kept_since, memory_since, of_schema_since, of_version}
 use Rattle.plan_migrations.proofs.TurnLemmas.{otherwise_since, same_if_version, shown_since, shown_until, unmigrated}
 use Rattle.plan_migrations.proofs.TurnLemmas.{version_until}
@@ -127,8 +128,18 @@ module _ (a b : State) (reads : List FirstRows) (live : IsLive a) (whole : AreWh
   are_read can typed =
       record { can = can; whole = whole; typed = typed; rows = rows_of a b can.has live reads (tables_of a.now.trees) told }
 
+-- so they can be remade with these rows
+pub can_remake_of : (a b : State) (reads : List FirstRows) → IsUnchanged a b → IsLive a → CanRemake a.now.schema
+    → All (AreShown a b) reads → HaveStayingRowids (tables_of a.now.trees) → CanRemakeOf reads b.now
+can_remake_of a b reads same live can told rowids = subst (CanRemakeOf reads) (sym same.0.now_is) (record {
+  can = can;
+  obeys = (live same.0.was_open).0;
+  rowids = rowids;
+  rows = rows_of a b can.has live reads (tables_of a.now.trees) told;
+})
+
 module _ (a b c : State) where
-  shown_again : IsUnchanged b c → (read : FirstRows) → AreShown a b read → AreShown a c read
+  pub shown_again : IsUnchanged b c → (read : FirstRows) → AreShown a b read → AreShown a c read
   shown_again same read told =
       shown_until (first_select_sql read.table) (first_reads read.table) a b c read.rows.items told same
 
@@ -177,13 +188,18 @@ module _ (a b c : State) where
         inr (inr (reads, read_since reads read, e, tells, inl h))
     unrenewed_since OtherTable (inr (inr (reads, read, e, tells, inr h))) =
         inr (inr (reads, read_since reads read, e, tells, inr (fails_since reads e h)))
-    unrenewed_since Rows (can, none) = (
+    unrenewed_since Rows (can, inl other) = (
       subst (λ (d : Database). CanRemake d.schema) same.0.now_is can,
-      λ k is. none k (subst (λ (d : Database). IsFirstContentOf (tables_of d.trees) k) (sym same.0.now_is) is),
+      inl (subst (λ (d : Database). HaveOtherRowids d) same.0.now_is other),
+    )
+    unrenewed_since Rows (can, inr none) = (
+      subst (λ (d : Database). CanRemake d.schema) same.0.now_is can,
+      inr (λ k is. none k (subst (λ (d : Database). IsFirstContentOf (tables_of d.trees) k) (sym same.0.now_is) is)),
     )
     unrenewed_since Memory (inl h) = inl (memory_read_since h)
-    unrenewed_since Memory (inr (reads, read, sound, (e, tells, h))) =
-        inr (reads, read_since reads read, sound, (e, tells, fails_since reads e h))
+    unrenewed_since Memory (inr (inl h)) = inr (inl (failure_since a b c rowid_sql rowid_reads same more limit Memory h))
+    unrenewed_since Memory (inr (inr (reads, read, sound, (e, tells, h)))) =
+        inr (inr (reads, read_since reads read, sound, (e, tells, fails_since reads e h)))
     unrenewed_since Device h = device_since a b c same more h
     unrenewed_since UnknownVersion h = h
 
@@ -201,7 +217,8 @@ module _ (a b c : State) where
     pub failed_remake : HaveSound reads → (f : MigrateFault) → FailsToRemake reads b c f → IsUnrenewed a c f
     failed_remake sound OtherTable (e, tells, h) =
         inr (inr (reads, read, e, tells, inr (fails_since same more limit reads e h)))
-    failed_remake sound Memory (e, tells, h) = inr (reads, read, sound, (e, tells, fails_since same more limit reads e h))
+    failed_remake sound Memory (e, tells, h) =
+        inr (inr (reads, read, sound, (e, tells, fails_since same more limit reads e h)))
     failed_remake sound Device h = device_since a b c same more h
     failed_remake sound UnknownVersion (e, tells, h) = tells
     failed_remake sound Rows (e, tells, h) = absurd tells
@@ -211,7 +228,7 @@ pub failed_hold : (a b : State) (reads : List FirstRows) → IsUnchanged a b →
     → All (AreShown a b) reads → (f : MigrateFault) → FailToHold reads f → IsUnrenewed a b f
 failed_hold a b reads same live read told OtherTable (e, tells, h) = inr (inr (reads, read, e, tells, inl h))
 failed_hold a b reads same live read told Rows h =
-    (read.can, λ c is sound. h c (have_content a b reads live read.whole told read.can.has c is) sound)
+    (read.can, inr (λ c is sound. h c (have_content a b reads live read.whole told read.can.has c is) sound))
 failed_hold a b reads same live read told Memory h = inl (inl same)
 failed_hold a b reads same live read told Device h = absurd h
 failed_hold a b reads same live read told UnknownVersion h = h

@@ -2,6 +2,7 @@
 use Rattle.sqlite_tied.specs.Compute.{everything}
 use Rattle.sqlite_resolve.specs.Compile.{first}
 use Rattle.table_opening.specs.Queries.{IsReading}
+use Rattle.table_opening.specs.Rowids.{rowid_sql}
 use Rattle.table_schema.specs.Texts.{select_sql}
 use Rattle.table_schema.specs.declared.tables.Table.{Table}
 use Rattle.table_schema.specs.declared.tables.Table.TheVariants.{Meta}
@@ -11,6 +12,11 @@ pub select_reads : (t : Table) → IsReading (select_sql t)
 unfolding first everything
 select_reads Meta = tt
 select_reads t = tt
+
+pub rowid_reads : (t : Table) → IsReading (rowid_sql t)
+unfolding first everything
+rowid_reads Meta = tt
+rowid_reads t = tt
 
 pub first_reads : (t : Table) → IsReading (first_select_sql t)
 unfolding first everything

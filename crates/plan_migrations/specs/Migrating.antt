@@ -1,5 +1,5 @@
 -- What a migration finds and leaves.
-use Rattle.std.specs.Prelude.{◌≡◌, ◌⊎◌, ◌↔◌, None, ℕ, List, [], map, Result, Ok, Err, IsTrue, ⊤}
+use Rattle.std.specs.Prelude.{◌≡◌, ◌⊎◌, ◌↔◌, false, None, ℕ, List, [], map, Result, Ok, Err, IsTrue, ⊤}
 use Rattle.std.specs.List.{All}
 use Rattle.std.specs.List.Sorted.{IsPermutation}
 use Rattle.sqlite.specs.Change.{KeepsRows}
@@ -10,8 +10,7 @@ use Rattle.sqlite.specs.Tree.{Trees}
 use Rattle.sqlite.specs.declared.error.Error.{Error}
 use Rattle.planner_machine.specs.Content.{Content}
 use Rattle.planner_machine.specs.Sound.{IsSound}
-use Rattle.table_schema.specs.Free.{with_plan}
-use Rattle.table_schema.specs.Rows.{IsPlan, Tables, no_rows, shown, tables_of}
+use Rattle.table_schema.specs.Rows.{HaveRowids, IsPlan, MayFail, Tables, no_rows, shown, tables_of}
 use Rattle.table_schema.specs.Schema.{HasTables, all_tables, plan_schema}
 use Rattle.table_schema.specs.Texts.{select_sql}
 use Rattle.table_schema.specs.declared.tables.Table.{Table}
@@ -19,14 +18,15 @@ use Rattle.table_schema.specs.declared.tables.TheConstants.{SCHEMA_VERSION}
 use Rattle.table_facts.specs.Content.{IsContentOf}
 use Rattle.table_opening.specs.Faults.{fault_for}
 use Rattle.table_opening.specs.Foreign.{LacksMemory, RefusesVersion, version_sql}
+use Rattle.table_opening.specs.Rowids.{rowid_sql}
 use Rattle.table_opening.specs.Stored.{AllHaveRowids}
 use Rattle.table_opening.specs.declared.faults.OpenFault.TheVariants as OpenFault
 use Rattle.table_opening.specs.declared.faults.OpenFault.TheVariants.{Unopened}
-use Rattle.table_remaking.specs.FirstSchema.{CanRemake, first_shown, without}
+use Rattle.table_remaking.specs.FirstSchema.{CanRemake, first_shown, is_changed, remade_schema, without}
 use Rattle.table_remaking.specs.FirstTexts.{first_select_sql}
 use Rattle.table_remaking.specs.Refusals.{FailsFor}
-use Rattle.table_remaking.specs.Remaking.{AreAllFirst, AreRemade, AreWhole, IsRemadeOf, RefusesToFill, RefusesToRemake}
-use Rattle.table_remaking.specs.Remaking.{RemakesTo, remade_row, with_all_put}
+use Rattle.table_remaking.specs.Remaking.{AreAllFirst, AreRemade, AreRowsOf, AreWhole, HaveStayingRowids, IsRemadeOf}
+use Rattle.table_remaking.specs.Remaking.{RefusesToFill, RefusesToRemake, RemakesTo, remade_row, with_all_put}
 use Rattle.table_remaking.specs.declared.rows.FirstRows.{FirstRows}
 use Rattle.table_opening.specs.Kept.{IsKept}
 use Rattle.plan_migrations.specs.Asking.{FailsByDevice, IsFailure, IsFailureOfOne}
@@ -35,6 +35,13 @@ use Rattle.plan_migrations.specs.Schemas.{IsOfSchema, IsOfVersion, IsOther, IsOt
 use Rattle.plan_migrations.specs.declared.faults.MigrateFault.{MigrateFault}
 use Rattle.plan_migrations.specs.declared.faults.MigrateFault.TheVariants.{UnknownVersion, OtherTable, Rows, Memory, Device}
 use Rattle.plan_migrations.specs.declared.versions.TheConstants.{FIRST_VERSION}
+
+-- the fault of an error
+abbrev pub TellsOf : Error → MigrateFault → Type 0
+TellsOf e Memory = fault_for e Unopened ≡ OpenFault.Memory
+TellsOf e Device = fault_for e Unopened ≡ OpenFault.Device
+TellsOf e OtherTable = fault_for e Unopened ≡ Unopened
+TellsOf e _ = ⊥
 
 -- ---- tables of the current schema
 
@@ -67,10 +74,26 @@ FailsToReadAll old new OtherTable = (t : Table) × IsOtherFirst old new t
 FailsToReadAll old new Memory = IsUnchanged old new ⊎ IsFailureOfOne first_select_sql old new Memory
 FailsToReadAll old new fault = IsFailureOfOne first_select_sql old new fault
 
--- the rows that were read are those of the tables, each as often
-abbrev pub AreRowsOf : Tables → List FirstRows → Type 0
-AreRowsOf all reads = All (λ (read : FirstRows).
-    IsPermutation (map (first_shown read.table) (all read.table)) read.rows.items) reads
+-- ---- their rowids
+
+-- a table that stays has a rowid that is no integer, or comes twice
+abbrev pub HaveOtherRowids : Database → Type 0
+HaveOtherRowids db = HaveStayingRowids (tables_of db.trees) → ⊥
+
+-- the rowids of the table are integers, and none comes twice, if it stays; or one isn't so; or it fails. A limit on steps
+-- may be met.
+abbrev pub ChecksRowids : State → State → Table → Result (Unit {0}) MigrateFault → Type 0
+ChecksRowids old new t (Ok _) = is_changed t ≡ false → HaveRowids (tables_of old.now.trees t)
+ChecksRowids old new t (Err Rows) = HaveOtherRowids old.now
+ChecksRowids old new t (Err OtherTable) = (e : Error) × TellsOf e OtherTable × MayFail old new e
+ChecksRowids old new t (Err fault) = IsFailure (rowid_sql t) old new fault
+
+-- the same of each of the tables
+abbrev pub ChecksAllRowids : State → State → List Table → Result (Unit {0}) MigrateFault → Type 0
+ChecksAllRowids old new tables (Ok _) = All (λ t. is_changed t ≡ false → HaveRowids (tables_of old.now.trees t)) tables
+ChecksAllRowids old new tables (Err Rows) = HaveOtherRowids old.now
+ChecksAllRowids old new tables (Err OtherTable) = (e : Error) × TellsOf e OtherTable × MayFail old new e
+ChecksAllRowids old new tables (Err fault) = IsFailureOfOne rowid_sql old new fault
 
 -- ---- their content
 
@@ -81,13 +104,6 @@ HaveContent reads c = (all : Tables) → AreRemade reads all → IsContentOf all
 -- and it is sound
 abbrev pub HaveSound : List FirstRows → Type 0
 HaveSound reads = (c : Content) × IsSound c × HaveContent reads c
-
--- the fault of an error
-abbrev pub TellsOf : Error → MigrateFault → Type 0
-TellsOf e Memory = fault_for e Unopened ≡ OpenFault.Memory
-TellsOf e Device = fault_for e Unopened ≡ OpenFault.Device
-TellsOf e OtherTable = fault_for e Unopened ≡ Unopened
-TellsOf e _ = ⊥
 
 -- tables of a plan that stand alone take one of the rows not
 abbrev pub AreNotTaken : List FirstRows → Error → Type 0
@@ -111,13 +127,14 @@ AreRenewed old new = (t : Table) → IsPermutation (map (remade_row t) (map (fir
 abbrev pub KeepsContent : Tables → Tables → Type 0
 KeepsContent old new = (c : Content) → IsFirstContentOf old c ↔ IsContentOf new c
 
--- tables of schema 1 stood there, and nothing was in the way of those of a plan; these stand there in a database that
--- keeps its rules, behind the others, and have the rows and the content of those, which is sound; the tables beside
--- them have the rows that they had
+-- tables of schema 1 stood there, and nothing was in the way of the two of schema 2; these stand in place of the two that
+-- change, in a database that keeps its rules, behind all others, which stay where they were, with all their indexes;
+-- they have the rows and the content of those of schema 1, which is sound; the tables beside the plan have the rows that
+-- they had
 pub record RenewsFrom (old : Database) (db : Trees) : Type 0 where
   pub was : CanRemake old.schema
   pub schema : Schema
-  pub stands : schema ≡ with_plan (without was.has.trees all_tables old.schema)
+  pub stands : schema ≡ remade_schema was.has.trees old.schema
   pub obeys : IsDatabase (record { schema = schema; trees = db })
   pub plan : HasTables schema
   pub rowids : AllHaveRowids (tables_of db)
@@ -130,8 +147,7 @@ pub record RenewsFrom (old : Database) (db : Trees) : Type 0 where
 abbrev pub MayRenew : State → Trees → Type 0
 MayRenew s db = RenewsFrom s.now db
 
--- the tables of schema 1 stood there; those of the current schema stand there in their place, behind the others, and all
--- of it is committed
+-- the tables of schema 1 stood there; those of the current schema stand there, and all of it is committed
 pub record IsRenewed (old new : State) : Type 0 where
   pub remade : IsRemadeOf old.now new.now
   pub renewed : MayRenew old new.now.trees
@@ -173,15 +189,17 @@ abbrev pub LacksMemoryToWrite : State → State → Type 0
 LacksMemoryToWrite old new = (reads : List FirstRows) × AreRead old.now reads × HaveSound reads
     × FailsToRemake reads old new Memory
 
--- why they are not renewed: a table of schema 1 is missing or another, or something is in the way of those of a plan; a
--- table has other rows; a row is not taken; what they tell is not sound; or it fails
+-- why they are not renewed: a table of schema 1 is missing or another, or something is in the way of the two of schema 2;
+-- a table has other rows; a row is not taken; what they tell is not sound, or a rowid is no integer or comes twice; or it
+-- fails
 abbrev pub IsUnrenewed : State → State → MigrateFault → Type 0
 IsUnrenewed old new UnknownVersion = ⊥
 IsUnrenewed old new OtherTable = (CanRemake old.now.schema → ⊥)
     ⊎ (((t : Table) × IsOtherFirst old new t) ⊎ IsNotWritten old new)
-IsUnrenewed old new Rows = CanRemake old.now.schema
-    × ((c : Content) → IsFirstContentOf (tables_of old.now.trees) c → IsSound c → ⊥)
-IsUnrenewed old new Memory = FailsToReadAll old new Memory ⊎ LacksMemoryToWrite old new
+IsUnrenewed old new Rows = CanRemake old.now.schema × (HaveOtherRowids old.now
+    ⊎ ((c : Content) → IsFirstContentOf (tables_of old.now.trees) c → IsSound c → ⊥))
+IsUnrenewed old new Memory = FailsToReadAll old new Memory
+    ⊎ (IsFailureOfOne rowid_sql old new Memory ⊎ LacksMemoryToWrite old new)
 IsUnrenewed old new Device = FailsByDevice old new
 
 -- ---- all together

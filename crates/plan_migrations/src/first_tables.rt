@@ -19,37 +19,39 @@ use sqlite::{Alter, Connection, Error};
 use sqlite_schema::schema::Schema;
 use std::alloc::{AllocError, Global};
 use table_opening::{can_make, stand_among};
-use table_remaking::{FirstRows, are_first, first_select_text, left_without, make_first_tables};
-use table_schema::{Table, make_tables};
+use table_remaking::{
+    FirstRows, are_first, first_select_text, left_without, make_changed_tables, make_first_tables,
+};
+use table_schema::Table;
 
-// Whether the first tables stand in the schema, wherever that is, and those of the plan can be made in what is left
+// Whether the first tables stand in the schema, wherever that is, and those that change can be made in what is left
 // without them.
 fn can_remake(
     alloc: Global,
     schema: &Schema,
     first: &Schema,
-    plan: &Schema,
+    changed: &Schema,
 ) -> Result<bool, AllocError>
     ensures { IfOk result (λ b. IsTrue b ↔ (StandAmong schema.now.tables first.now.tables
-        × CanMake (left_by schema.now first.now.tables) plan.now)) }
+        × CanMake (left_by schema.now changed.now.tables) changed.now)) }
 {
     if !stand_among(schema.tables.as_slice(), first.tables.as_slice()) {
         return Ok(false);
     }
-    let left = left_without(alloc, schema, first.tables.as_slice())?;
-    Ok(can_make(&left, plan))
+    let left = left_without(alloc, schema, changed.tables.as_slice())?;
+    Ok(can_make(&left, changed))
 }
 
-/// Whether the tables of schema 1 stand in the database, wherever that is, and nothing is in the way of those of a plan
-/// in their place.
+/// Whether the tables of schema 1 stand in the database, wherever that is, and nothing is in the way of the two of schema
+/// 2 that are made in place of those that change.
 pub(crate) fn has_first_tables<S: Alter>(alloc: Global, conn: &Connection<S>) -> Result<bool, Error>
     ensures { IfOk result (λ b. IsTrue b ↔ CanRemake (state S.Store conn.now).now.schema) }
 {
     let mut first = Connection::open_in_memory(alloc)?;
     make_first_tables(&mut first)?;
-    let mut plan = Connection::open_in_memory(alloc)?;
-    make_tables(&mut plan)?;
-    Ok(can_remake(alloc, conn.schema(), first.schema(), plan.schema())?)
+    let mut changed = Connection::open_in_memory(alloc)?;
+    make_changed_tables(&mut changed)?;
+    Ok(can_remake(alloc, conn.schema(), first.schema(), changed.schema())?)
 }
 
 // Reads the rows of the table.

@@ -9,6 +9,7 @@ mod first_tables;
 mod migrating;
 mod older;
 mod renewing;
+mod rowids;
 mod tables;
 mod versions;
 

@@ -1,19 +1,22 @@
 // The tables of schema 1 are made those of the current schema.
 
-ghost use Rattle.std.specs.Prelude.{◌≡◌, false, IfErr, IsTrue, OnErr, OnOk};
-ghost use Rattle.sqlite.specs.State.{HasCleanDisk, Survives};
+ghost use Rattle.std.specs.Prelude.{◌≡◌, false, IfErr, IfOk, IsTrue, OnErr, OnOk};
+ghost use Rattle.std.specs.List.{All};
+ghost use Rattle.sqlite.specs.State.{HasCleanDisk, IsUnchanged, Survives};
 ghost use Rattle.sqlite.specs.Held.{state};
 ghost use Rattle.table_schema.specs.Rows.{tables_of};
 ghost use Rattle.table_remaking.specs.FirstSchema.{CanRemake};
-ghost use Rattle.table_remaking.specs.Remaking.{AreAllFirst, AreWhole, RemakesTo};
+ghost use Rattle.table_remaking.specs.Remaking.{AreAllFirst, AreWhole, CanRemakeOf, HaveStayingRowids};
+ghost use Rattle.table_remaking.specs.Remaking.{RemakesTo};
 ghost use Rattle.table_opening.specs.Kept.{IsKept};
 ghost use Rattle.plan_migrations.specs.FirstContent.{AreOfFirst};
-ghost use Rattle.plan_migrations.specs.Migrating.{FailsToRemake, IsRemade, IsRenewed, IsUnrenewed};
-ghost use Rattle.plan_migrations.specs.Migrating.{MayRenew};
+ghost use Rattle.plan_migrations.specs.Migrating.{AreShown, FailsToRemake, IsRemade, IsRenewed};
+ghost use Rattle.plan_migrations.specs.Migrating.{IsUnrenewed, MayRenew};
 
 use crate::contents::{check_content, remake_fault};
 use crate::faults::MigrateFault;
 use crate::first_tables::{has_first_tables, read_tables};
+use crate::rowids::check_rowids;
 use sqlite::{Alter, Connection};
 use std::alloc::Global;
 use table_remaking::{FirstRows, remake_tables};
@@ -29,22 +32,58 @@ fn remake<S: Alter>(
     requires whole { AreWhole reads.now }
     requires typed { AreAllFirst reads.now }
     ensures remade { HasCleanDisk (state S.Store conn.new)
-        → CanRemake (state S.Store conn.old).now.schema
+        → CanRemakeOf reads.now (state S.Store conn.old).now
         → OnOk result (IsRemade reads.now (state S.Store conn.old) (state S.Store conn.new)) }
     ensures failed { HasCleanDisk (state S.Store conn.new)
-        → CanRemake (state S.Store conn.old).now.schema
+        → CanRemakeOf reads.now (state S.Store conn.old).now
         → IfErr result (FailsToRemake reads.now (state S.Store conn.old) (state S.Store conn.new)) }
     ensures kept { HasCleanDisk (state S.Store conn.new)
-        → CanRemake (state S.Store conn.old).now.schema
+        → CanRemakeOf reads.now (state S.Store conn.old).now
         → OnErr result (IsKept (state S.Store conn.old) (state S.Store conn.new)) }
     ensures mode { conn.new.in_transaction ≡ false }
     ensures crash { Survives (state S.Store conn.old) (state S.Store conn.new)
-        (λ db. CanRemake (state S.Store conn.old).now.schema
+        (λ db. CanRemakeOf reads.now (state S.Store conn.old).now
         → RemakesTo reads.now (state S.Store conn.old).now db) }
 {
     match remake_tables(conn, alloc, reads) {
         Ok(()) => Ok(()),
         Err(error) => Err(remake_fault(&error)),
+    }
+}
+
+// Reads the rows of the tables of schema 1, and looks at the rowids of those that stay.
+fn read_first<S: Alter>(
+    alloc: Global,
+    conn: &mut Connection<S>,
+) -> Result<Vec<FirstRows>, MigrateFault>
+    requires mode { conn.old.in_transaction ≡ false }
+    requires first { CanRemake (state S.Store conn.old).now.schema }
+    requires open { HasCleanDisk (state S.Store conn.old)
+        → IsTrue (state S.Store conn.old).is_open }
+    ensures whole { IfOk result (λ reads. AreWhole reads.items) }
+    ensures typed { IfOk result (λ reads. AreAllFirst reads.items) }
+    ensures shown { HasCleanDisk (state S.Store conn.new)
+        → IfOk result (λ reads. All (AreShown (state S.Store conn.old) (state S.Store conn.new))
+        reads.items) }
+    ensures rowids { HasCleanDisk (state S.Store conn.new)
+        → OnOk result (HaveStayingRowids (tables_of (state S.Store conn.old).now.trees)) }
+    ensures same { HasCleanDisk (state S.Store conn.new)
+        → OnOk result (IsUnchanged (state S.Store conn.old) (state S.Store conn.new)) }
+    ensures unread { HasCleanDisk (state S.Store conn.new)
+        → IfErr result (IsUnrenewed (state S.Store conn.old) (state S.Store conn.new)) }
+    ensures kept { HasCleanDisk (state S.Store conn.new)
+        → IsKept (state S.Store conn.old) (state S.Store conn.new) }
+    ensures mode { conn.new.in_transaction ≡ false }
+    ensures crash { Survives (state S.Store conn.old) (state S.Store conn.new) (λ _. ⊥) }
+{
+    // its clause says that an open connection has a database
+    let _ = conn.schema();
+    match read_tables(alloc, conn, &TABLES) {
+        Ok(reads) => match check_rowids(conn, &TABLES) {
+            Ok(()) => Ok(reads),
+            Err(fault) => Err(fault),
+        },
+        Err(fault) => Err(fault),
     }
 }
 
@@ -68,7 +107,7 @@ fn renew_first<S: Alter>(alloc: Global, conn: &mut Connection<S>) -> Result<(), 
 {
     // its clause says that an open connection has a database
     let _ = conn.schema();
-    match read_tables(alloc, conn, &TABLES) {
+    match read_first(alloc, conn) {
         Ok(reads) => match check_content(alloc, &reads) {
             Ok(()) => remake(alloc, conn, &reads),
             Err(fault) => Err(fault),

@@ -1,6 +1,7 @@
 pub mod Progress
 pub mod RowLemmas
 pub mod WriteLemmas
+mod ReportLemmas
 pub mod ListLemmas
 pub mod DaysLemmas
 pub mod OutcomeLemmas

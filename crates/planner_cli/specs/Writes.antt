@@ -1,5 +1,5 @@
 -- What a call that answers an item does to a store and a writer.
-use Rattle.std.specs.Prelude.{◌≡◌, ◌⊎◌, ℕ, ◌≤◌, Bool, Err, IfErr, IfOk, List, Ok, OnErr, OnOk, Option, Result}
+use Rattle.std.specs.Prelude.{◌≡◌, ◌⊎◌, ◌++◌, ℕ, ◌≤◌, Bool, Err, IfErr, IfOk, List, Ok, OnErr, OnOk, Option, Result}
 use Rattle.std.specs.Io.KnownBytes.{Appends, Keeps}
 use Rattle.plan_store.specs.declared.stores.PlanStore.{Ghosts}
 use Rattle.plan_store.specs.declared.stores.StoreFault.{StoreFault}
@@ -49,3 +49,7 @@ abbrev pub IsUnwritten : Result Printed StoreFault → Option (List ℕ) → Opt
 IsUnwritten (Ok printed) old new cause =
     (cause ≡ Device Writer) × ((front : List ℕ) × IsFrontOf front printed.text.items × Appends old new front)
 IsUnwritten (Err fault) old new cause = (cause ≡ store_cause fault) × Keeps old new
+
+-- what was written since then ends with these bytes
+abbrev pub EndsWith : Option (List ℕ) → Option (List ℕ) → List ℕ → Type 0
+EndsWith old new bytes = (front : List ℕ) × Appends old new (front ++ bytes)

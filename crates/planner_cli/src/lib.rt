@@ -32,5 +32,5 @@ mod writing;
 pub use faults::{Part, RunFault};
 pub use laws::{fresh_plans, reruns};
 pub use over_lists::run_lists;
-pub use stream::{exit_status, run};
+pub use stream::{exit_status, run, run_reported};
 pub use tally::Tally;

@@ -1,5 +1,5 @@
 //! A run over a whole stream.
-ghost use Rattle.std.specs.Prelude.{◌≡◌, ◌≤◌, ℕ, [], length, take, IfOk, IfErr, OnOk, Some};
+ghost use Rattle.std.specs.Prelude.{◌≡◌, ◌<◌, ◌≤◌, ℕ, [], false, length, take, IfOk, IfErr, IsTrue, OnOk, Some};
 ghost use Rattle.std.specs.Io.KnownBytes.{Appends};
 ghost use Rattle.planner_machine.specs.Content.{Content};
 ghost use Rattle.planner_machine.specs.Sound.{IsSound};
@@ -11,7 +11,7 @@ ghost use Rattle.planner_cli.specs.Plans.{RunsPlan};
 ghost use Rattle.planner_cli.specs.Runs.{Crashed, Ran, Stopped, StoppedSomehow, ends_of};
 ghost use Rattle.planner_cli.specs.Steps.{Step};
 ghost use Rattle.planner_cli.specs.Stores.{IsBlamed, LeavesOwn};
-ghost use Rattle.planner_cli.specs.Writes.{AnswersItem};
+ghost use Rattle.planner_cli.specs.Writes.{AnswersItem, EndsWith};
 ghost use Rattle.planner_cli.specs.declared.faults.Cause.TheVariants.{Device};
 ghost use Rattle.planner_cli.specs.declared.faults.Part.TheVariants.{Store};
 
@@ -23,7 +23,7 @@ use crate::lists::answer_list;
 use crate::steps::{answer_change, answer_define, answer_with_data};
 use crate::tally::Tally;
 use crate::trials::{answer_daily_trial, answer_plan_trial};
-use crate::writing::{write_answer, write_out};
+use crate::writing::{write_answer, write_bytes};
 use app_occurrences::CalendarIndexes;
 use plan_store::PlanStore;
 use planner_machine::streams;
@@ -55,12 +55,39 @@ pub fn run<S: PlanStore, R: BufRead, W: Write>(
           remaining = R.remaining reader.old;
         }) result }
 {
+    run_reported(alloc, store, reader, writer).0
+}
+
+/// The same, and whether all that ends the run was written: after a fault its whole line. It is not
+/// where the writer took no more.
+pub fn run_reported<S: PlanStore, R: BufRead, W: Write>(
+    alloc: Global,
+    store: &mut S,
+    reader: &mut R,
+    writer: &mut W,
+) -> (Result<Tally, RunFault>, bool)
+    requires { S.is_honest store.old → IsSound (S.content store.old) }
+    ensures plan { RunsPlan S.is_honest S.failures S.may_leave S.is_clean S.is_whole store.old store.new
+        (record {
+          before = S.content store.old;
+          after = S.content store.new;
+          written_before = W.contents writer.old;
+          written_after = W.contents writer.new;
+          remaining = R.remaining reader.old;
+        }) result.0 }
+    ensures line { S.is_honest store.old → S.is_clean store.new → IsTrue result.1
+        → IfErr result.0 (λ fault. EndsWith (W.contents writer.old) (W.contents writer.new)
+        (fault_line (cause_of fault))) }
+    ensures unwritten { result.1 ≡ false
+        → IfErr result.0 (λ fault. 0 < length (fault_line (cause_of fault))) }
+    ensures ended { OnOk result.0 (IsTrue result.1) }
+{
     streams();
     match answer_all(alloc, store, reader, writer) {
-        Ok(tally) => Ok(tally),
+        Ok(tally) => (Ok(tally), true),
         Err(fault) => {
-            write_fault(writer, fault.cause());
-            Err(fault)
+            let is_written = write_fault(writer, fault.cause());
+            (Err(fault), is_written)
         }
     }
 }
@@ -213,12 +240,22 @@ fn answer_statement<S: PlanStore, W: Write>(
     }
 }
 
-/// Writes the line of a fault, as far as the writer takes it.
-fn write_fault<W: Write>(writer: &mut W, cause: Cause)
-    ensures { (n : ℕ) × (n ≤ length (fault_line cause))
+/// Writes the line of a fault, as far as the writer takes it. Answers whether it took the whole line.
+fn write_fault<W: Write>(writer: &mut W, cause: Cause) -> bool
+    ensures front { (n : ℕ) × (n ≤ length (fault_line cause))
+        × Appends (W.contents writer.old) (W.contents writer.new) (take n (fault_line cause)) }
+    ensures whole { IsTrue result
+        → Appends (W.contents writer.old) (W.contents writer.new) (fault_line cause) }
+    ensures short { result ≡ false → (n : ℕ) × (n < length (fault_line cause))
         × Appends (W.contents writer.old) (W.contents writer.new) (take n (fault_line cause)) }
 {
-    let _ = write_out(writer, line_of_fault(cause));
+    match write_bytes(writer, line_of_fault(cause)) {
+        Ok(()) => {
+            let _ = writer.flush();
+            true
+        }
+        Err(_) => false,
+    }
 }
 
 /// The line of a fault; empty where the writer failed.

@@ -1,5 +1,5 @@
 //! Replies on their way to the writer.
-ghost use Rattle.std.specs.Prelude.{◌≡◌, ℕ, ◌≤◌, length, take, OnOk, IfErr, IfOk};
+ghost use Rattle.std.specs.Prelude.{◌≡◌, ℕ, ◌<◌, ◌≤◌, length, take, OnErr, OnOk, IfErr, IfOk};
 ghost use Rattle.std.specs.Io.KnownBytes.{Appends};
 ghost use Rattle.planner_cli.specs.declared.faults.Cause.TheVariants.{Device};
 ghost use Rattle.planner_cli.specs.Writes.{IsUnwritten, IsWritten};
@@ -17,6 +17,8 @@ pub fn write_bytes<W: Write>(writer: &mut W, bytes: &[u8]) -> Result<(), Cause>
     ensures err { IfErr result (λ cause. cause ≡ Device Writer) }
     ensures front { (n : ℕ) × (n ≤ length bytes.now)
         × Appends (W.contents writer.old) (W.contents writer.new) (take n bytes.now) }
+    ensures short { OnErr result ((n : ℕ) × (n < length bytes.now)
+        × Appends (W.contents writer.old) (W.contents writer.new) (take n bytes.now)) }
 {
     let mut written = 0;
     while written < bytes.len() {

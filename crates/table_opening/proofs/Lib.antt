@@ -15,4 +15,5 @@ pub mod ForeignLemmas
 pub mod FileLemmas
 pub mod TermLemmas
 pub mod SoundLemmas
+pub mod MemoryLemmas
 pub mod IndexLemmas

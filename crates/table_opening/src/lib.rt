@@ -21,6 +21,8 @@ pub use faults::{OpenFault, fault_for, open_fault_number};
 pub use files::{open_connection, open_connection_from, open_connection_with};
 pub use opening::{is_known, open_content};
 pub use own_indexes::has_own_indexes;
+pub use rowid_texts::rowid_text;
+pub use rowids::are_rowids;
 pub use schemas::has_meta;
 pub use standing::{can_make, stand_among};
 pub use version_texts::version_text;

@@ -1,8 +1,10 @@
 // Indexes of the tables of a plan.
 
-ghost use Rattle.std.specs.Prelude.{◌≡◌, ◌↔◌, IfOk, IsTrue};
+ghost use Rattle.std.specs.Prelude.{◌≡◌, ◌↔◌, IfErr, IfOk, IsTrue};
 ghost use Rattle.std.specs.List.{All};
 ghost use Rattle.sqlite.specs.Held.{state};
+ghost use Rattle.sqlite.specs.declared.error.Error.TheVariants.{SqliteFailure};
+ghost use Rattle.sqlite.specs.declared.error.ErrorCode.TheVariants.{OutOfMemory};
 ghost use Rattle.table_schema.specs.Schema.{HasOwnIndexes, HasTables};
 ghost use Rattle.table_opening.specs.Indexes.{AreOwn, IsOfKey, IsOwn, IsOwnOf};
 
@@ -48,10 +50,11 @@ fn are_own(indexes: &[Index], tables: &[Table], made: &[Table]) -> bool
 }
 
 /// Whether the tables of the plan have no indexes but those of their keys, in a database that has these tables: one that
-/// someone made beside may refuse a row.
+/// someone made beside may refuse a row. Its only error is want of memory.
 pub fn has_own_indexes<S: Alter>(alloc: Global, conn: &Connection<S>) -> Result<bool, Error>
-    ensures { IfOk result (λ own. HasTables (state S.Store conn.now).now.schema
+    ensures own { IfOk result (λ own. HasTables (state S.Store conn.now).now.schema
         → (IsTrue own ↔ HasOwnIndexes (state S.Store conn.now).now.schema)) }
+    ensures refused { IfErr result (λ error. error ≡ SqliteFailure OutOfMemory) }
 {
     let mut made = Connection::open_in_memory(alloc)?;
     make_tables(&mut made)?;

@@ -6,7 +6,7 @@ ghost use Rattle.table_opening.specs.Rowids.{rowid_sql};
 use table_schema::Table;
 
 /// The text that shows the rowids of the table.
-pub(crate) fn rowid_text(table: Table) -> &'static str
+pub fn rowid_text(table: Table) -> &'static str
     ensures { result.now ≡ rowid_sql table }
 {
     match table {

@@ -1,8 +1,8 @@
 // Rowids: integers, and none twice.
 
-ghost use Rattle.std.specs.Prelude.{◌≡◌, ◌↔◌, false, is_ok, map, None, IfErr, IfOk, IfSome, IsTrue};
+ghost use Rattle.std.specs.Prelude.{◌≡◌, ◌↔◌, false, is_ok, map, List, None, IfErr, IfOk, IfSome, IsTrue};
 ghost use Rattle.std.specs.List.Sorted.{IsNonDecreasingBy, IsPermutation};
-ghost use Rattle.sqlite.specs.Order.{column};
+ghost use Rattle.sqlite.specs.Order.{Row as Values, column};
 ghost use Rattle.sqlite.specs.View.{is_int};
 ghost use Rattle.sqlite.specs.State.{HasCleanDisk};
 ghost use Rattle.sqlite.specs.Held.{state};
@@ -98,6 +98,15 @@ fn sort_rowids(rows: &mut Vec<Cells>)
     rows.sort_unstable_by_key(|cells| first_place(cells));
 }
 
+/// Whether rows that show the rowids of a table show integers, none of them twice. It puts them in their order.
+pub fn are_rowids(shown: &mut Vec<Cells>) -> bool
+    ensures { (rows : List Values) → IsPermutation (map rowid_shown rows) shown.old.items
+        → (IsTrue result ↔ HaveRowids rows) }
+{
+    sort_rowids(shown);
+    are_rising(shown)
+}
+
 /// Whether each row of the table has an integer as its rowid, and no two the same.
 pub(crate) fn has_rowids<S: Alter>(conn: &mut Connection<S>, table: Table) -> Result<bool, Error>
     ensures told { HasCleanDisk (state S.Store conn.new) → HasPlan (state S.Store conn.old)
@@ -109,8 +118,7 @@ pub(crate) fn has_rowids<S: Alter>(conn: &mut Connection<S>, table: Table) -> Re
     ensures mode { conn.old.in_transaction ≡ false → conn.new.in_transaction ≡ false }
 {
     let mut rows = select_rowids(conn, table)?;
-    sort_rowids(&mut rows);
-    Ok(are_rising(&rows))
+    Ok(are_rowids(&mut rows))
 }
 
 /// The rowids of the table at the place.

@@ -1,12 +1,12 @@
--- What is left without the tables of schema 1.
+-- What is left without the tables of schema 1 that change.
 use Rattle.std.proofs.Common.{◌≡◌, ℕ, not, List, [], ◌∷◌, filter, refl}
 use Rattle.std.specs.List.{list_any}
 use Rattle.sqlite.specs.Schema.{Schema}
 use Rattle.table_schema.proofs.FoundLemmas.{named_there}
 use Rattle.table_schema.specs.Named.{first_named}
-use Rattle.table_schema.specs.Schema.{all_tables, name}
+use Rattle.table_schema.specs.Schema.{name}
 use Rattle.table_schema.specs.declared.tables.Table.{Table}
-use Rattle.table_remaking.specs.FirstSchema.{HasFirstTables, first_schema, first_table_at, is_among, without}
+use Rattle.table_remaking.specs.FirstSchema.{HasFirstTables, changed, changed_schema, first_table_at, is_among, without}
 use Rattle.table_remaking.specs.Leaving.{is_in, is_of, left_by}
 
 module _ (schema : Schema) (has : HasFirstTables schema) where
@@ -16,10 +16,10 @@ module _ (schema : Schema) (has : HasFirstTables schema) where
   of_them (t ∷ ts) n =
       rw (named_there schema (first_table_at (has.trees t) t) (has.at t) (has.stands t), of_them ts n) refl
 
-  among : (n : ℕ) → is_of schema.tables first_schema.tables n ≡ is_among has.trees all_tables n
-  among n = of_them all_tables n
+  among : (n : ℕ) → is_of schema.tables changed_schema.tables n ≡ is_among has.trees changed n
+  among n = of_them changed n
 
-  pub left_is : left_by schema first_schema.tables ≡ without has.trees all_tables schema
+  pub left_is : left_by schema changed_schema.tables ≡ without has.trees changed schema
   left_is = λ i. record schema {
     tables = filter (λ d. not (among d.tree i)) schema.tables;
     indexes = filter (λ x. not (among x.table i)) schema.indexes;

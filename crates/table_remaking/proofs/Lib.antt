@@ -9,3 +9,9 @@ pub mod TurnLemmas
 pub mod WithoutLemmas
 pub mod LeavingLemmas
 pub mod FillLemmas
+pub mod ChangingLemmas
+pub mod AgainLemmas
+pub mod MetaLemmas
+pub mod RefillLemmas
+pub mod ShowAgain
+pub mod RemakingLemmas

@@ -10,17 +10,15 @@ use Rattle.std.proofs.lemmas.Bool.Decides.{nat_tests}
 use Rattle.std.proofs.lemmas.List.Elements.{All-cons, All-head, All-nil, All-tail}
 use Rattle.std.proofs.lemmas.List.Sorted.{IsPermutation-append_right, IsPermutation-cons, IsPermutation-map, IsPermutation-middle}
 use Rattle.std.proofs.lemmas.List.Sorted.{IsPermutation-refl, IsPermutation-sym, IsPermutation-trans}
-use Rattle.sqlite.specs.Effect.{Database}
 use Rattle.sqlite.specs.Order.{Row}
 use Rattle.sqlite.specs.Rowids.TheVariants.{Chosen}
-use Rattle.sqlite.specs.State.{State}
 use Rattle.sqlite.specs.Tree.{rowid}
 use Rattle.sqlite_rules.specs.Edit.{with_rowid}
 use Rattle.sqlite_value.specs.Order.{value_cmp}
-use Rattle.table_schema.specs.Rows.{Tables, no_rows, placed, shown, stored, tables_of, with_cells, with_rows}
+use Rattle.table_schema.specs.Rows.{Tables, no_rows, placed, shown, stored, with_cells, with_rows}
 use Rattle.table_schema.specs.Schema.{place}
 use Rattle.table_schema.specs.declared.tables.Table.{Table}
-use Rattle.table_remaking.specs.Remaking.{AreAllFirst, AreRemade, AreWhole, IsRemadeInside, RemakesTo, remade_row}
+use Rattle.table_remaking.specs.Remaking.{AreAllFirst, AreRemade, AreWhole, remade_row}
 use Rattle.table_remaking.specs.Remaking.{tables_in, with_all_put, with_rows_put}
 use Rattle.table_remaking.specs.Types.{AreFirst, HasTypes, first_types}
 use Rattle.table_remaking.specs.declared.rows.FirstRows.{FirstRows}
@@ -51,7 +49,7 @@ at_other : (t u : Table) (rows : List Row) (all : Tables) → (place u == place 
 at_other t u rows all apart = rw apart refl
 
 -- other tables stay
-others_stay : (t u : Table) → (place u == place t) ≡ false → (rows : List Row) (all : Tables) → with_rows_put t rows all u ≡ all u
+pub others_stay : (t u : Table) → (place u == place t) ≡ false → (rows : List Row) (all : Tables) → with_rows_put t rows all u ≡ all u
 others_stay t u apart [] all = refl
 others_stay t u apart (row ∷ rows) all =
     others_stay t u apart rows (with_cells t (remade_row t row) all) ∙ at_other t u _ all apart
@@ -84,21 +82,21 @@ rows_shown t (row ∷ rows) all are =
     (rows_shown t rows next (All-tail (HasTypes (first_types t)) row rows are))
 
 -- of one of them
-abbrev IsFirstRead : FirstRows → Type 0
+abbrev pub IsFirstRead : FirstRows → Type 0
 IsFirstRead read = AreFirst read.table read.rows.items
 
-abbrev Shows : Tables → FirstRows → Type 0
+abbrev pub Shows : Tables → FirstRows → Type 0
 Shows all read = IsPermutation (map (remade_row read.table) read.rows.items) (map (shown read.table) (all read.table))
 
 -- no table comes twice
-abbrev is_apart : Table → Table → Bool
+abbrev pub is_apart : Table → Table → Bool
 is_apart t u = not (place u == place t)
 
-abbrev are_apart : List Table → Bool
+abbrev pub are_apart : List Table → Bool
 are_apart [] = true
 are_apart (t ∷ ts) = list_all (is_apart t) ts && are_apart ts
 
-abbrev AreEmpty : List FirstRows → Tables → Type 0
+abbrev pub AreEmpty : List FirstRows → Tables → Type 0
 AreEmpty [] all = ⊤
 AreEmpty (read ∷ reads) all = (all read.table ≡ []) × AreEmpty reads all
 
@@ -112,7 +110,7 @@ still_empty t rows (read ∷ reads) all apart none =
     )
 
 -- what is put into tables after it leaves the table as it is
-left_alone : (t : Table) (reads : List FirstRows) (all : Tables) → list_all (is_apart t) (tables_in reads) ≡ true
+pub left_alone : (t : Table) (reads : List FirstRows) (all : Tables) → list_all (is_apart t) (tables_in reads) ≡ true
     → with_all_put reads all t ≡ all t
 left_alone t [] all apart = refl
 left_alone t (read ∷ reads) all apart =
@@ -127,7 +125,7 @@ left_alone t (read ∷ reads) all apart =
         go false h = refl
         go true h = absurd (let k : ⊥ = grind (arith, nat_tests, e, h) in k)
 
-all_shown : (reads : List FirstRows) (all : Tables) → are_apart (tables_in reads) ≡ true → AreAllFirst reads
+pub all_shown : (reads : List FirstRows) (all : Tables) → are_apart (tables_in reads) ≡ true → AreAllFirst reads
     → AreEmpty reads all → AreRemade reads (with_all_put reads all)
 all_shown [] all apart are none = All-nil (Shows all)
 all_shown (read ∷ reads) all apart are none =
@@ -151,15 +149,3 @@ pub remade_all : (reads : List FirstRows) (all : Tables) → AreWhole reads → 
     → all ≡ with_all_put reads no_rows → AreRemade reads all
 remade_all reads all whole are is = subst (AreRemade reads) (sym is)
     (all_shown reads no_rows (ap are_apart whole) are (empty_at_first reads))
-
--- and so does the database that is committed
-pub remakes_to : (reads : List FirstRows) (base : Database) (s : State) → AreWhole reads → AreAllFirst reads
-    → IsRemadeInside reads base s → RemakesTo reads base s.now.trees
-remakes_to reads base s whole are made = record {
-  schema = s.now.schema;
-  remade = made.remade;
-  obeys = made.obeys;
-  plan = made.plan.schema;
-  rowids = made.plan.rowids;
-  rows = remade_all reads (tables_of s.now.trees) whole are made.rows_are;
-}

@@ -1,6 +1,6 @@
 -- What the statements make of the schema.
-use Rattle.std.proofs.Common.{◌≡◌, ◌∙◌, ◌==◌, ℕ, List, [], ◌∷◌, length, true, not, map, Some, Ok, Err, refl, sym, ap, subst}
-use Rattle.std.specs.List.{AllByRecursion}
+use Rattle.std.proofs.Common.{◌≡◌, ◌∙◌, ◌==◌, ℕ, List, [], ◌∷◌, length, true, false, not, map, Some, None, Ok, Err, refl, sym, ap, subst}
+use Rattle.std.specs.List.{AllByRecursion, list_any}
 use Rattle.std.specs.List.Sorted.{IsPermutation}
 use Rattle.sqlite_keyed.proofs.ListLemmas.{all_of, filter_all}
 use Rattle.sqlite.specs.Change.{KeepsRows, without_table}
@@ -14,7 +14,7 @@ use Rattle.sqlite.specs.State.{State, ExecutesInside, IsLive, Shown}
 use Rattle.sqlite.specs.Table.{Table as Described}
 use Rattle.sqlite.specs.declared.error.Error.{Error}
 use Rattle.sqlite.proofs.Callers.{statement_of}
-use Rattle.sqlite_schema.specs.Names.{table_named}
+use Rattle.sqlite_schema.specs.Names.{same_name, table_named, view_named}
 use Rattle.sqlite_trees.specs.Objects.{catalog_tree}
 use Rattle.table_schema.proofs.MeaningLemmas.{IsWhole, Means}
 use Rattle.table_schema.proofs.NamedLemmas.{tree_is}
@@ -23,12 +23,12 @@ use Rattle.table_schema.proofs.Steps.{creates}
 use Rattle.table_schema.proofs.StopLemmas.{IsOrdinary, IsStopped, stopped}
 use Rattle.table_schema.proofs.TextMeanings.{insert_means}
 use Rattle.table_schema.specs.Cells.{column_names, insert_terms, width}
-use Rattle.table_schema.specs.Made.{later}
 use Rattle.table_schema.specs.Places.{TableStandsAt}
 use Rattle.table_schema.specs.Rows.{IsPlan, tables_of}
 use Rattle.table_schema.specs.Texts.{insert_sql}
 use Rattle.table_schema.specs.Schema.{checks, key, name, orders, primary, references, uniques}
 use Rattle.table_schema.specs.declared.tables.Table.{Table}
+use Rattle.table_schema.specs.declared.tables.Table.TheVariants.{RunCycle}
 use Rattle.table_remaking.specs.FirstSchema.{HasFirstTables, first_after, first_before, first_columns, first_names}
 use Rattle.table_remaking.specs.FirstSchema.{first_shown, first_table_at, first_terms, without}
 use Rattle.table_remaking.specs.FirstTexts.{drop_sql, first_create_sql, first_select_sql}
@@ -38,7 +38,7 @@ use Rattle.table_remaking.specs.Turns.{IsInside, IsLosing}
 use Rattle.table_remaking.proofs.CauseLemmas.{caused_by, refused_as}
 use Rattle.table_remaking.proofs.DropSteps.{drops}
 use Rattle.table_remaking.proofs.Meanings.{create_defines, create_means, drop_means, made, selects, uncounted, unused}
-use Rattle.table_remaking.proofs.WithoutLemmas.{all_left, one_more_gone, still_there, unacted, unviewed}
+use Rattle.table_remaking.proofs.WithoutLemmas.{all_left, one_more_gone, still_there, unacted}
 
 pub both_all : {X : Type 0} (P Q R : X → Type 0) → ((x : X) → P x → Q x → R x) → (xs : List X) → AllByRecursion P xs
     → AllByRecursion Q xs → AllByRecursion R xs
@@ -72,56 +72,61 @@ make_fails t base old new e has h =
     (stopped (first_before t) (first_create_sql t) [] CreateTable is.0.whole is.0.plain is.0.is ordinary_create old new e
     has.0 h)))
 
-module _ (t : Table) (base : Database) (old new : State) (has : IsLosing (later t) base old) where
-  abbrev trees : Table → ℕ
-  trees = has.can.has.trees
+-- one table more is taken away, of another name than those before it, which is none of the run cycles and of no view
+module _ (t : Table) (gone : List Table) (apart : list_any (λ u. same_name (name u) (name t)) gone ≡ false)
+    (other : same_name (name t) (name RunCycle) ≡ false) (base : Database) (old new : State)
+    (has : IsLosing gone base old) (unviewed : view_named (without has.can.has.trees gone base.schema) (name t) ≡ None)
+  where
+    abbrev trees : Table → ℕ
+    trees = has.can.has.trees
 
-  abbrev before : Schema
-  before = without trees (later t) base.schema
+    abbrev before : Schema
+    before = without trees gone base.schema
 
-  here : (k : ℕ) × TableStandsAt before (first_table_at (trees t) t) k
-  here = still_there base.schema has.can.has t
+    here : (k : ℕ) × TableStandsAt before (first_table_at (trees t) t) k
+    here = still_there base.schema has.can.has t gone apart
 
-  drop_is : Means before (drop_sql t) (DropTable here.0) 0
-  drop_is = drop_means before t here.0 (unviewed base.schema has.can (later t) t) here.1.named
+    drop_is : Means before (drop_sql t) (DropTable here.0) 0
+    drop_is = drop_means before t here.0 unviewed here.1.named
 
-  pub loses : (count : ℕ) → ExecutesInside 0 (drop_sql t) [] old new (Ok count) → IsLosing (t ∷ later t) base new
-  loses count h =
-      let step = drops before here.0 (name t) (trees t) (first_columns t) (key t) (primary t) (uniques t) (orders t)
-      (checks t) (references t) (drop_sql t) drop_is.is drop_is.plain here.1.got (unacted base.schema has.can.has t) old
-      new count has.schema h.0 in
-      let left = without_table before (trees t) in
-      let were = all_left (λ (d : Described). old.now.trees d.tree ≡ base.trees d.tree) (λ d. not (d.tree == trees t))
-      before.tables (subst (λ (s : Schema). KeepsRows s.tables base.trees old.now.trees) has.schema has.others) in
-      record {
-        can = has.can;
-        schema = step.0 ∙ one_more_gone base.schema trees t (later t);
-        others = subst (λ (s : Schema). KeepsRows s.tables base.trees new.now.trees) (sym step.0)
-            (both_all (λ (d : Described). new.now.trees d.tree ≡ old.now.trees d.tree) (λ d. old.now.trees d.tree
-            ≡ base.trees d.tree) (λ d. new.now.trees d.tree ≡ base.trees d.tree) (λ d same was. same ∙ was) left.tables
-            step.1 were);
-        mode = h.1.mode;
-      }
+    pub loses : (count : ℕ) → ExecutesInside 0 (drop_sql t) [] old new (Ok count) → IsLosing (t ∷ gone) base new
+    loses count h =
+        let step = drops before here.0 (name t) (trees t) (first_columns t) (key t) (primary t) (uniques t) (orders t)
+        (checks t) (references t) (drop_sql t) drop_is.is drop_is.plain here.1.got (unacted base.schema has.can.has t gone other) old
+        new count has.schema h.0 in
+        let left = without_table before (trees t) in
+        let were = all_left (λ (d : Described). old.now.trees d.tree ≡ base.trees d.tree) (λ d. not (d.tree == trees t))
+        before.tables (subst (λ (s : Schema). KeepsRows s.tables base.trees old.now.trees) has.schema has.others) in
+        record {
+          can = has.can;
+          schema = step.0 ∙ one_more_gone base.schema trees t gone;
+          others = subst (λ (s : Schema). KeepsRows s.tables base.trees new.now.trees) (sym step.0)
+              (both_all (λ (d : Described). new.now.trees d.tree ≡ old.now.trees d.tree) (λ d. old.now.trees d.tree
+              ≡ base.trees d.tree) (λ d. new.now.trees d.tree ≡ base.trees d.tree) (λ d same was. same ∙ was) left.tables
+              step.1 were);
+          mode = h.1.mode;
+        }
 
-  pub drop_fails : (e : Error) → ExecutesInside 0 (drop_sql t) [] old new (Err e)
-      → FailsFor (RefusesToLose old.step_limit base) old new e
-  drop_fails e h =
-      let text = statement_of (drop_sql t) (understood before (drop_sql t)) in
-      refused_as (IsRefused old.step_limit [] old.now text (DropTable here.0)) (RefusesToLose old.step_limit base) old new e
-      (λ refused. record {
-        can = has.can;
-        db = old.now;
-        table = t;
-        schema = has.schema;
-        others = has.others;
-        refused = (
-          here.0,
-          subst (λ (s : Schema). table_named s (name t) ≡ Some here.0) (sym has.schema) here.1.named,
-          refused,
-        );
-      })
-      (caused_by old new [] text (DropTable here.0) e (stopped before (drop_sql t) [] (DropTable here.0) drop_is.whole
-      drop_is.plain drop_is.is (ordinary_drop here.0) old new e has.schema h))
+    pub drop_fails : (e : Error) → ExecutesInside 0 (drop_sql t) [] old new (Err e)
+        → FailsFor (RefusesToLose old.step_limit base) old new e
+    drop_fails e h =
+        let text = statement_of (drop_sql t) (understood before (drop_sql t)) in
+        refused_as (IsRefused old.step_limit [] old.now text (DropTable here.0)) (RefusesToLose old.step_limit base) old new e
+        (λ refused. record {
+          can = has.can;
+          db = old.now;
+          table = t;
+          gone = gone;
+          schema = has.schema;
+          others = has.others;
+          refused = (
+            here.0,
+            subst (λ (s : Schema). table_named s (name t) ≡ Some here.0) (sym has.schema) here.1.named,
+            refused,
+          );
+        })
+        (caused_by old new [] text (DropTable here.0) e (stopped before (drop_sql t) [] (DropTable here.0) drop_is.whole
+        drop_is.plain drop_is.is (ordinary_drop here.0) old new e has.schema h))
 
 pub insert_fails : (t : Table) (cells : Row) (old new : State) (e : Error) → IsPlan old
     → length cells ≡ length (column_names t) → ExecutesInside 0 (insert_sql t) cells old new (Err e)

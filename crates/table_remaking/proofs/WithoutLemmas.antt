@@ -1,8 +1,9 @@
 -- Where tables of schema 1 are taken away, the others stand still, each perhaps at another place.
 use Rattle.std.proofs.Common.{◌≡◌, ◌≢◌, ◌⊎◌, ◌||◌, ◌==◌, ◌∙◌, ◌+◌, ℕ, zero, suc, Bool, true, false, not, inl, inr}
-use Rattle.std.proofs.Common.{List, [], ◌∷◌, filter, find, Option, Some, None, slice_get, refl, sym, ap, subst, arith, true≢false}
+use Rattle.std.proofs.Common.{List, [], ◌∷◌, filter, find, Option, Some, None, slice_get, refl, sym, ap, arith, true≢false}
 use Rattle.std.specs.List.{AllByRecursion, list_any, position_from}
-use Rattle.std.proofs.lemmas.Bool.{and_left, cases_Bool, eq-eqb, ne_eqb, or_parts}
+use Rattle.std.proofs.lemmas.Bool.{and_left, cases_Bool, ne_eqb, or_parts}
+use Rattle.std.proofs.lemmas.List.Elements.{recursion_from_All}
 use Rattle.sqlite.specs.Does.{is_acted_on}
 use Rattle.sqlite.specs.Schema.{Schema}
 use Rattle.sqlite.specs.Table.{Table as Described}
@@ -14,15 +15,13 @@ use Rattle.sqlite_rules.specs.Lists.{Has}
 use Rattle.sqlite_schema.specs.Names.{same_name, view_named}
 use Rattle.sqlite_schema.specs.declared.schema.Keys.TheVariants.{Enforced}
 use Rattle.sqlite_schema.specs.declared.schema.Reference.{Reference}
-use Rattle.table_schema.specs.Made.{later}
 use Rattle.table_schema.specs.Places.{TableStandsAt}
-use Rattle.table_schema.specs.Schema.{IsAside, all_tables, name, table, table_at, to_run_cycle}
+use Rattle.table_schema.specs.Schema.{IsAside, name, table_at, to_run_cycle}
 use Rattle.table_schema.specs.declared.tables.Table.{Table}
-use Rattle.table_schema.specs.declared.tables.Table.TheVariants.{Meta}
-use Rattle.table_schema.specs.declared.tables.Table.TheVariants.{RunCycle, Offset}
-use Rattle.table_schema.proofs.EachLemmas.{each}
+use Rattle.table_schema.specs.declared.tables.Table.TheVariants.{LinkInForce, Offset, Predecessor, RunCycle}
 use Rattle.table_schema.proofs.StopLemmas.{some_same}
-use Rattle.table_remaking.specs.FirstSchema.{CanRemake, HasFirstTables, first_table_at, is_among, without}
+use Rattle.table_remaking.specs.FirstSchema.{CanRemake, HasFirstTables, changed, changed_schema, first_table_at, is_among}
+use Rattle.table_remaking.specs.FirstSchema.{without}
 
 -- ---- of a list
 
@@ -56,7 +55,7 @@ kept_at p q (y ∷ ys) x from (suc at) placed got is kept = elim (cases_Bool (p 
     same_of e = cc
 
 -- what is left of a list was there, and passes
-has_left : {X : Type 0} (q : X → Bool) (xs : List X) (x : X) → Has (filter q xs) x → Has xs x × (q x ≡ true)
+pub has_left : {X : Type 0} (q : X → Bool) (xs : List X) (x : X) → Has (filter q xs) x → Has xs x × (q x ≡ true)
 has_left q [] x has = absurd has
 has_left q (y ∷ ys) x has = elim (cases_Bool (q y)) [
   | inl stays ↦ elim (rw stays at has) [
@@ -107,7 +106,7 @@ not_so : (b : Bool) → not b ≡ false → b ≡ true
 not_so true h = refl
 not_so false h = absurd (cc)
 
-stands_left : (schema : Schema) (trees : Table → ℕ) (gone : List Table) (table : Described) (at : ℕ)
+pub stands_left : (schema : Schema) (trees : Table → ℕ) (gone : List Table) (table : Described) (at : ℕ)
     → TableStandsAt schema table at → is_among trees gone table.tree ≡ false
     → (k : ℕ) × TableStandsAt (without trees gone schema) table k
 stands_left schema trees gone table at it other =
@@ -128,17 +127,6 @@ stands_left schema trees gone table at it other =
 
 -- ---- of schema 1
 
-names_after : (t : Table) → list_any (λ u. same_name (name u) (name t)) (later t) ≡ false
-unfolding same_name
-names_after Meta = refl
-names_after t = refl
-
--- the run cycles alone are referred to
-refers_to : (t : Table) → (same_name (name t) (name RunCycle) ≡ false) ⊎ (t ≡ RunCycle)
-unfolding same_name
-refers_to RunCycle = inr refl
-refers_to t = inl refl
-
 module _ (schema : Schema) (has : HasFirstTables schema) where
   -- two tables have two trees
   trees_differ : (t u : Table) → same_name (name u) (name t) ≡ false → has.trees t ≢ has.trees u
@@ -147,44 +135,44 @@ module _ (schema : Schema) (has : HasFirstTables schema) where
       ∙ ap (λ n. find (λ (d : Described). d.tree == n) schema.tables) same ∙ (has.stands u).found) in
       true≢false (sym (same_itself (name t)) ∙ ap (λ (d : Described). same_name d.name (name t)) one ∙ other)
 
-  not_among : (t : Table) (us : List Table) → list_any (λ u. same_name (name u) (name t)) us ≡ false
+  pub not_among : (t : Table) (us : List Table) → list_any (λ u. same_name (name u) (name t)) us ≡ false
       → is_among has.trees us (has.trees t) ≡ false
   not_among t [] none = refl
   not_among t (u ∷ us) none =
       let both = or_parts (same_name (name u) (name t)) (list_any (λ u. same_name (name u) (name t)) us) none in
       rw (ne_eqb (has.trees t) (has.trees u) (trees_differ t u both.0)) (not_among t us both.1)
 
-  -- it still stands where those after it are taken away
-  pub still_there : (t : Table)
-      → (k : ℕ) × TableStandsAt (without has.trees (later t) schema) (first_table_at (has.trees t) t) k
-  still_there t = stands_left schema has.trees (later t) (first_table_at (has.trees t) t) (has.at t) (has.stands t)
-      (not_among t (later t) (names_after t))
+  module _ (t : Table) (gone : List Table) where
+    -- it still stands where others are taken away
+    pub still_there : list_any (λ u. same_name (name u) (name t)) gone ≡ false
+        → (k : ℕ) × TableStandsAt (without has.trees gone schema) (first_table_at (has.trees t) t) k
+    still_there apart = stands_left schema has.trees gone (first_table_at (has.trees t) t) (has.at t) (has.stands t)
+        (not_among t gone apart)
 
-  -- and then no table refers to it
-  pub unacted : (t : Table)
-      → is_acted_on (without has.trees (later t) schema) Enforced (first_table_at (has.trees t) t) ≡ false
-  unacted t = none_of _ (without has.trees (later t) schema).tables (all_from _ (without has.trees (later t)
-      schema).tables (λ d there.
-      let was = has_left (λ (d : Described). not (is_among has.trees (later t) d.tree)) schema.tables d there in
-      none_of _ d.references (all_from _ d.references (λ ref here. and_left _ _ (go d ref (refers_to t) was.1
-      (all_has _ d.references ref (all_has _ schema.tables d has.refer was.0) here))))))
-    where
-      go : (d : Described) (ref : Reference) → (same_name (name t) (name RunCycle) ≡ false) ⊎ (t ≡ RunCycle)
-          → not (is_among has.trees (later t) d.tree) ≡ true
-          → IsAside ref ⊎ ((d ≡ table_at (has.trees Offset) Offset) × (ref ≡ to_run_cycle))
-          → same_name (name t) ref.parent ≡ false
-      go d ref to left (inl aside) = aside t
-      go d ref (inl other) left (inr (is, own)) =
-          ap (λ (r : Reference). same_name (name t) r.parent) own ∙ other
-      go d ref (inr cycle) left (inr (is, own)) =
-          let gone : is_among has.trees (later RunCycle) (has.trees Offset) ≡ true =
-          rw (eq-eqb (has.trees Offset) (has.trees Offset) refl) refl in
-          absurd (true≢false (sym left ∙ ap not (subst (λ u. is_among has.trees (later u) d.tree ≡ true) (sym cycle)
-          (ap (λ (d : Described). is_among has.trees (later RunCycle) d.tree) is ∙ gone))))
+    -- and no table refers to it, unless it has the run cycles
+    pub unacted : same_name (name t) (name RunCycle) ≡ false
+        → is_acted_on (without has.trees gone schema) Enforced (first_table_at (has.trees t) t) ≡ false
+    unacted other = none_of _ (without has.trees gone schema).tables (all_from _ (without has.trees gone schema).tables
+        (λ d there.
+        let was = has_left (λ (d : Described). not (is_among has.trees gone d.tree)) schema.tables d there in
+        none_of _ d.references (all_from _ d.references (λ ref here. and_left _ _ (go d ref
+        (all_has _ d.references ref (all_has _ schema.tables d has.refer was.0) here))))))
+      where
+        go : (d : Described) (ref : Reference) → IsAside ref ⊎ ((d ≡ table_at (has.trees Offset) Offset) × (ref ≡ to_run_cycle))
+            → same_name (name t) ref.parent ≡ false
+        go d ref (inl aside) = aside t
+        go d ref (inr (is, own)) = ap (λ (r : Reference). same_name (name t) r.parent) own ∙ other
 
--- no view has its name
-pub unviewed : (schema : Schema) (can : CanRemake schema) (gone : List Table) (t : Table)
-    → view_named (without can.has.trees gone schema) (name t) ≡ None
-unviewed schema can gone t =
-    let left = without can.has.trees all_tables schema in
-    no_view left (name t) (each table (λ (d : Described). is_used left d.name ≡ false) can.free.unused.tables t)
+-- no view has their names
+module _ (schema : Schema) (can : CanRemake schema) (gone : List Table) where
+  abbrev left : Schema
+  left = without can.has.trees changed schema
+
+  unused : AllByRecursion (λ (d : Described). is_used left d.name ≡ false) changed_schema.tables
+  unused = recursion_from_All (λ (d : Described). is_used left d.name ≡ false) changed_schema.tables can.free.unused.tables
+
+  pub unviewed_predecessors : view_named (without can.has.trees gone schema) (name Predecessor) ≡ None
+  unviewed_predecessors = no_view left (name Predecessor) unused.0
+
+  pub unviewed_links : view_named (without can.has.trees gone schema) (name LinkInForce) ≡ None
+  unviewed_links = no_view left (name LinkInForce) unused.1.0

@@ -1,5 +1,5 @@
 -- The tables of schema 1, whose lists of predecessors have no limits.
-use Rattle.std.specs.Prelude.{ℕ, ◌==◌, Bool, not, List, [], ◌∷◌, filter, take}
+use Rattle.std.specs.Prelude.{ℕ, ◌==◌, Bool, true, false, not, List, [], ◌∷◌, filter, take}
 use Rattle.std.specs.List.{list_any}
 use Rattle.sqlite.specs.Change.{created}
 use Rattle.sqlite.specs.Order.{Row}
@@ -10,7 +10,7 @@ use Rattle.sqlite_schema.specs.declared.schema.Column.{Column}
 use Rattle.sqlite_trees.specs.Tree.{IsAscending}
 use Rattle.table_schema.specs.Form.{Form, columns_of, names, select_terms_of}
 use Rattle.table_schema.specs.Forms.{form}
-use Rattle.table_schema.specs.Free.{IsFree}
+use Rattle.table_schema.specs.Free.{CanMake, with_tables}
 use Rattle.table_schema.specs.Made.{earlier, up_to}
 use Rattle.table_schema.specs.Places.{TableStandsAt, TreesDiffer}
 use Rattle.table_schema.specs.Schema.{RefersAside, all_tables, checks, key, name, no_schema, orders}
@@ -82,7 +82,24 @@ without trees gone schema = record schema {
   indexes = filter (λ i. not (is_among trees gone i.table)) schema.indexes;
 }
 
--- the tables of schema 1 stand there, and once they are taken away, nothing is in the way of those of a plan
+-- the tables that schema 2 describes otherwise
+abbrev pub changed : List Table
+changed = Predecessor ∷ LinkInForce ∷ []
+
+abbrev pub is_changed : Table → Bool
+is_changed Predecessor = true
+is_changed LinkInForce = true
+is_changed _ = false
+
+-- those of schema 2, and nothing else
+abbrev pub changed_schema : Schema
+changed_schema = with_tables no_schema changed
+
+-- the tables of schema 1 stand there, and once those that change are taken away, nothing is in the way of the new ones
 pub record CanRemake (schema : Schema) : Type 0 where
   pub has : HasFirstTables schema
-  pub free : IsFree (without has.trees all_tables schema)
+  pub free : CanMake (without has.trees changed schema) changed_schema
+
+-- those of schema 2 stand in place of the two, behind the others
+abbrev pub remade_schema : (Table → ℕ) → Schema → Schema
+remade_schema trees schema = with_tables (without trees changed schema) changed

@@ -13,7 +13,6 @@ use Rattle.sqlite.specs.declared.error.ErrorCode.TheVariants.{TooBig}
 use Rattle.sqlite.specs.declared.run.Mode.{Mode}
 use Rattle.sqlite_schema.specs.Names.{table_named}
 use Rattle.sqlite_schema.specs.declared.schema.Keys.TheVariants.{Enforced}
-use Rattle.table_schema.specs.Made.{later}
 use Rattle.table_schema.specs.Rows.{MayFail}
 use Rattle.table_schema.specs.Schema.{name}
 use Rattle.table_schema.specs.declared.tables.Table.{Table}
@@ -50,11 +49,12 @@ pub record RefusesToBegin (limit : Option ℕ) (base : Database) (e : Error) : T
   pub schema : db.schema ≡ first_before table
   pub refused : RefusesToMake limit db table e
 
--- of the tables of schema 1 one can't go, once those after it are gone and the others stand as they stood
+-- of the two tables that change one can't go, once these are gone and the others stand as they stood
 pub record RefusesToLose (limit : Option ℕ) (base : Database) (e : Error) : Type 0 where
   pub can : CanRemake base.schema
   pub db : Database
   pub table : Table
-  pub schema : db.schema ≡ without can.has.trees (later table) base.schema
+  pub gone : List Table
+  pub schema : db.schema ≡ without can.has.trees gone base.schema
   pub others : KeepsRows db.schema.tables base.trees db.trees
   pub refused : RefusesToDrop limit db table e

@@ -1,5 +1,6 @@
 -- The rows of the tables of schema 1, as those of schema 2 take them.
-use Rattle.std.specs.Prelude.{◌≡◌, ◌⊎◌, ℕ, List, [], ◌∷◌, ◌++◌, map, fold, pos, Option, Some, Result, IfErr, OnOk, IsTrue}
+use Rattle.std.specs.Prelude.{◌≡◌, ◌⊎◌, ℕ, false, List, [], ◌∷◌, ◌++◌, drop, map, fold, pos, take, Option, Some, Result, IfErr}
+use Rattle.std.specs.Prelude.{OnOk, IsTrue}
 use Rattle.std.specs.List.{All}
 use Rattle.std.specs.List.Sorted.{IsPermutation}
 use Rattle.sqlite.specs.Change.{KeepsRows}
@@ -18,13 +19,14 @@ use Rattle.sqlite_schema.specs.Names.{table_named}
 use Rattle.table_schema.specs.Cells.{insert_terms, width}
 use Rattle.table_schema.specs.Free.{with_plan}
 use Rattle.table_schema.specs.Made.{IsReady}
-use Rattle.table_schema.specs.Rows.{HaveRowids, IsPlan, Tables, no_rows, shown, tables_of, with_cells}
+use Rattle.table_schema.specs.Rows.{HaveRowids, IsPlan, KeepsBeside, MayFail, Tables, no_rows, shown, tables_of, with_cells}
+use Rattle.table_schema.specs.Rows.{with_rows, without_key}
 use Rattle.table_schema.specs.Writes.{seen}
 use Rattle.table_schema.specs.Schema.{HasTables, all_tables, name}
 use Rattle.table_schema.specs.declared.tables.Table.{Table}
 use Rattle.table_schema.specs.declared.tables.Table.TheVariants.{Meta, Predecessor, LinkInForce}
 use Rattle.table_schema.specs.declared.tables.TheConstants.{SCHEMA_VERSION}
-use Rattle.table_remaking.specs.FirstSchema.{CanRemake, without}
+use Rattle.table_remaking.specs.FirstSchema.{CanRemake, first_shown, is_changed, remade_schema, without}
 use Rattle.table_remaking.specs.Refusals.{FailsFor, IsRefused, RefusesToLose}
 use Rattle.table_remaking.specs.Types.{AreFirst}
 use Rattle.table_remaking.specs.declared.rows.FirstRows.{FirstRows}
@@ -66,20 +68,37 @@ abbrev pub AreRemade : List FirstRows → Tables → Type 0
 AreRemade reads all = All (λ (read : FirstRows).
     IsPermutation (map (remade_row read.table) read.rows.items) (map (shown read.table) (all read.table))) reads
 
--- a transaction begins over a database in which the tables of schema 1 can be remade, of these rows
+-- each table of schema 1 showed these rows of it, each as often, and no others
+abbrev pub AreRowsOf : Tables → List FirstRows → Type 0
+AreRowsOf all reads = All (λ (read : FirstRows).
+    IsPermutation (map (first_shown read.table) (all read.table)) read.rows.items) reads
+
+-- each table that doesn't change has an integer as the rowid of each row, and no two the same
+abbrev pub HaveStayingRowids : Tables → Type 0
+HaveStayingRowids all = (t : Table) → is_changed t ≡ false → HaveRowids (all t)
+
+-- the tables of schema 1 can be remade in a database that keeps its rules, with the rows that they have
+pub record CanRemakeOf (reads : List FirstRows) (old : Database) : Type 0 where
+  pub can : CanRemake old.schema
+  pub obeys : IsDatabase old
+  pub rowids : HaveStayingRowids (tables_of old.trees)
+  pub rows : AreRowsOf (tables_of old.trees) reads
+
+-- a transaction begins over it
 pub record CanRemakeInside (reads : List FirstRows) (base : Database) (s : State) : Type 0 where
-  pub can : CanRemake base.schema
+  pub from : CanRemakeOf reads base
   pub is : s.now ≡ base
   pub typed : AreAllFirst reads
   pub mode : IsTrue s.in_transaction
 
--- the tables of a plan stand in place of those of schema 1, behind the others, which keep their rows
+-- the two tables of schema 2 stand in place of those of schema 1, behind the others; those that are none of the plan keep
+-- their rows
 pub record IsRemadeOf (old new : Database) : Type 0 where
   pub can : CanRemake old.schema
-  pub schema : new.schema ≡ with_plan (without can.has.trees all_tables old.schema)
+  pub schema : new.schema ≡ remade_schema can.has.trees old.schema
   pub others : KeepsRows (without can.has.trees all_tables old.schema).tables old.trees new.trees
 
--- they stand there so in a database that keeps its rules, and show the rows
+-- they stand there so in a database that keeps its rules, and all show the rows
 pub record RemakesTo (reads : List FirstRows) (old : Database) (db : Trees) : Type 0 where
   pub schema : Schema
   pub remade : IsRemadeOf old (record { schema = schema; trees = db })
@@ -106,10 +125,29 @@ pub record RefusesToFill (limit : Option ℕ) (schema : Schema) (goal : Tables) 
   pub next : with_all_put reads (with_rows_put table (row ∷ rows) (tables_of db.trees)) ≡ goal
   pub refused : RefusesRow limit db table (remade_row table row) e
 
--- of the tables of schema 1 one can't go, or a row can't be put into those that stand in their place
+-- the two tables are made anew, without rows
+abbrev pub emptied : Tables → Tables
+emptied all = with_rows Predecessor [] (with_rows LinkInForce [] all)
+
+-- the row of `plan_meta`
+abbrev pub meta_key : Row
+meta_key = Int (pos 1) ∷ []
+
+-- what was read of `plan_meta`, and of the two tables that change
+abbrev pub of_meta : List FirstRows → List FirstRows
+of_meta reads = take 1 reads
+
+abbrev pub of_changed : List FirstRows → List FirstRows
+of_changed reads = take 2 (drop 6 reads)
+
+-- the row of `plan_meta` is replaced, and the rows of the two tables are put into them
+abbrev pub refilled : List FirstRows → Tables → Tables
+refilled reads all = with_all_put (of_changed reads) (with_all_put (of_meta reads) (without_key Meta meta_key all))
+
+-- one of the two tables can't go, or a row can't be put into `plan_meta` or into those that stand in their place
 abbrev pub RefusesToRemake : Option ℕ → List FirstRows → Database → Error → Type 0
 RefusesToRemake limit reads base e = RefusesToLose limit base e ⊎ ((can : CanRemake base.schema)
-    × RefusesToFill limit (with_plan (without can.has.trees all_tables base.schema)) (with_all_put reads no_rows) e)
+    × RefusesToFill limit (remade_schema can.has.trees base.schema) (refilled reads (emptied (tables_of base.trees))) e)
 
 -- ---- inside a transaction
 
@@ -117,9 +155,30 @@ RefusesToRemake limit reads base e = RefusesToLose limit base e ⊎ ((can : CanR
 pub record IsRemadeInside (reads : List FirstRows) (base : Database) (s : State) : Type 0 where
   pub remade : IsRemadeOf base s.now
   pub plan : IsPlan s
-  pub rows_are : tables_of s.now.trees ≡ with_all_put reads no_rows
+  pub rows_are : tables_of s.now.trees ≡ refilled reads (emptied (tables_of base.trees))
   pub obeys : IsDatabase s.now
   pub mode : IsTrue s.in_transaction
+
+-- a transaction goes on over the tables of a plan
+pub record CanRefill (reads : List FirstRows) (base : Database) (s : State) : Type 0 where
+  pub plan : IsPlan s
+  pub obeys : IsDatabase s.now
+  pub is : s.now ≡ base
+  pub typed : AreAllFirst reads
+  pub mode : IsTrue s.in_transaction
+
+-- they have the rows; the tables beside them have those that they had
+pub record IsRefilled (reads : List FirstRows) (base : Database) (s : State) : Type 0 where
+  pub plan : IsPlan s
+  pub schema : s.now.schema ≡ base.schema
+  pub rows_are : tables_of s.now.trees ≡ refilled reads (tables_of base.trees)
+  pub others : KeepsBeside base s.now
+  pub obeys : IsDatabase s.now
+  pub mode : IsTrue s.in_transaction
+
+-- a row can't be put in
+abbrev pub RefusesToRefill : List FirstRows → Option ℕ → Database → Error → Type 0
+RefusesToRefill reads limit base = RefusesToFill limit base.schema (refilled reads (tables_of base.trees))
 
 -- over the tables of a plan it fails for a common cause or since this is refused; an Ok leaves the connection open
 pub record PutsWhere {S T : Type 0} (Fit : Type 0) (Refused : Option ℕ → Database → Error → Type 0) (g : Ghosts S)
@@ -129,6 +188,14 @@ pub record PutsWhere {S T : Type 0} (Fit : Type 0) (Refused : Option ℕ → Dat
       → IfErr result (FailsFor (Refused (seen g old).step_limit (seen g old).now) (seen g old) (seen g new))
   pub stays_open : HasCleanDisk (seen g new) → IsPlan (seen g old) → IsTrue (seen g old).in_transaction
       → IsTrue (seen g old).is_open → Fit → OnOk result (IsTrue (seen g new).is_open)
+
+-- in a plan that keeps its rules the row of `plan_meta` goes for nothing that stands in them, and an Ok leaves the
+-- connection open
+pub record TakesMeta {S T : Type 0} (g : Ghosts S) (old new : Transaction S) (result : Result T Error) : Type 0 where
+  pub fails : HasCleanDisk (seen g new) → IsPlan (seen g old) → IsTrue (seen g old).in_transaction
+      → IsDatabase (seen g old).now → IfErr result (MayFail (seen g old) (seen g new))
+  pub stays_open : HasCleanDisk (seen g new) → IsTrue (seen g old).in_transaction
+      → OnOk result (IsTrue (seen g new).is_open)
 
 -- a transaction begins over a database in which the tables of a plan can be made, and these rows are of schema 1
 abbrev pub CanFill : List FirstRows → Database → State → Type 0
@@ -151,7 +218,7 @@ RefusesToFillAll reads limit base = RefusesToFill limit (with_plan base.schema) 
 abbrev pub IsFilledOnce : List FirstRows → State → State → Type 0
 IsFilledOnce reads old new = IsPlan new × AreRemade reads (tables_of new.now.trees)
 
--- they stand in place of those of schema 1, in a database that keeps its rules
+-- they stand so in a database that keeps its rules
 pub record IsRemadeOnce (reads : List FirstRows) (old new : State) : Type 0 where
   pub plan : IsPlan new
   pub remade : IsRemadeOf old.now new.now

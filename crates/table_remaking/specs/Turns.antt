@@ -1,7 +1,9 @@
 -- What statements on a transaction make of tables of schema 1.
-use Rattle.std.specs.Prelude.{◌≡◌, ◌⊎◌, ℕ, Bool, true, false, List, Option, Result, IsTrue}
-use Rattle.sqlite.specs.Change.{KeepsRows}
-use Rattle.sqlite.specs.Effect.{Database}
+use Rattle.std.specs.Prelude.{◌≡◌, ◌⊎◌, ◌+◌, ◌≤◌, ℕ, Bool, true, false, List, [], ◌∷◌, length, map, Option, Result, IsTrue}
+use Rattle.std.specs.List.{AllByRecursion}
+use Rattle.sqlite.specs.Change.{KeepsRows, created, next_tree}
+use Rattle.sqlite.specs.Does.{lacks_sequence}
+use Rattle.sqlite.specs.Effect.{Database, IsDatabase}
 use Rattle.sqlite.specs.Schema.{Schema}
 use Rattle.sqlite.specs.State.{State}
 use Rattle.sqlite.specs.Store.{Ghosts}
@@ -9,10 +11,15 @@ use Rattle.sqlite.specs.declared.error.Error.{Error}
 use Rattle.sqlite.specs.declared.error.Error.TheVariants.{SqliteFailure}
 use Rattle.sqlite.specs.declared.error.ErrorCode.TheVariants.{Closed, DatabaseCorrupt, DiskFull, SystemIoFailure}
 use Rattle.sqlite.specs.declared.transaction.Transaction.{Transaction}
+use Rattle.sqlite_catalog.specs.Change.{automatics, is_used}
 use Rattle.sqlite_disk.specs.Disk.{MoreFaults}
+use Rattle.sqlite_schema.specs.declared.schema.Index.{Index}
+use Rattle.table_schema.specs.Free.{CanMake, with_tables}
+use Rattle.table_schema.specs.Made.{AllMade}
+use Rattle.table_schema.specs.Schema.{name, table_at, uniques}
 use Rattle.table_schema.specs.Writes.{Turns}
 use Rattle.table_schema.specs.declared.tables.Table.{Table}
-use Rattle.table_remaking.specs.FirstSchema.{CanRemake, without}
+use Rattle.table_remaking.specs.FirstSchema.{CanRemake, changed, changed_schema, without}
 use Rattle.table_remaking.specs.Refusals.{FailsFor}
 
 -- the error tells of the device, or that the connection is shut
@@ -31,6 +38,8 @@ DeviceHasCause old new e = IsTrue (is_of_device e) → MoreFaults old.faults new
 abbrev pub IsInside : Schema → Database → State → Type 0
 IsInside schema base s = (s.now.schema ≡ schema) × IsTrue s.in_transaction
 
+-- ---- tables go
+
 -- in a transaction over a database in which the tables of schema 1 can be remade these were taken away; the others
 -- stand as they stood, with their rows
 pub record IsLosing (gone : List Table) (base : Database) (s : State) : Type 0 where
@@ -38,6 +47,44 @@ pub record IsLosing (gone : List Table) (base : Database) (s : State) : Type 0 w
   pub schema : s.now.schema ≡ without can.has.trees gone base.schema
   pub others : KeepsRows s.now.schema.tables base.trees s.now.trees
   pub mode : IsTrue s.in_transaction
+
+-- ---- tables of schema 2 are made
+
+-- the name of the table, and those of the indexes of its keys
+abbrev pub names_of : Table → List (List ℕ)
+names_of t = name t ∷ map (λ (i : Index). i.name) (automatics (table_at 0 t) 0 0 (uniques t))
+
+-- a transaction begins over a database in which nothing is in the way of the table
+pub record CanMakeOne (t : Table) (base : Database) (s : State) : Type 0 where
+  pub free : AllByRecursion (λ n. is_used base.schema n ≡ false) (names_of t)
+  pub room : next_tree base.schema + 1 + length (uniques t) ≤ 65536
+  pub uncounted : lacks_sequence base.schema ≡ false
+  pub is : s.now ≡ base
+  pub mode : IsTrue s.in_transaction
+
+-- it is made, without rows; the others stand as they stood, with their rows
+pub record IsOneMade (t : Table) (base : Database) (s : State) : Type 0 where
+  pub schema : s.now.schema ≡ created base.schema (table_at 0 t)
+  pub empty : s.now.trees (next_tree base.schema) ≡ []
+  pub others : KeepsRows base.schema.tables base.trees s.now.trees
+  pub obeys : IsDatabase s.now
+  pub mode : IsTrue s.in_transaction
+
+-- a transaction begins over a database in which nothing is in the way of the two
+pub record CanMakeChanged (base : Database) (s : State) : Type 0 where
+  pub can : CanMake base.schema changed_schema
+  pub is : s.now ≡ base
+  pub mode : IsTrue s.in_transaction
+
+-- they are made, without rows; the others stand as they stood, with their rows
+pub record AreChangedMade (base : Database) (s : State) : Type 0 where
+  pub schema : s.now.schema ≡ with_tables base.schema changed
+  pub empty : AllMade (λ t. s.now.trees t.tree ≡ []) base.schema changed
+  pub others : KeepsRows base.schema.tables base.trees s.now.trees
+  pub obeys : IsDatabase s.now
+  pub mode : IsTrue s.in_transaction
+
+-- ---- in turn
 
 -- such statements fail for a common cause or since this is refused
 abbrev pub TurnsUnless : {S T : Type 0} → Ghosts S → (old new : Transaction S) → Result T Error

@@ -1,31 +1,35 @@
-// The tables of schema 1 are taken away, the last one first.
+// The tables of schema 1 that change are taken away.
 
 ghost use Rattle.std.specs.Prelude.{[], ◌∷◌};
-ghost use Rattle.table_schema.specs.Made.{later};
-ghost use Rattle.table_schema.specs.Schema.{all_tables};
+ghost use Rattle.table_schema.specs.declared.tables.Table.TheVariants.{LinkInForce};
+ghost use Rattle.table_remaking.specs.FirstSchema.{changed};
 ghost use Rattle.table_remaking.specs.Refusals.{RefusesToLose};
 ghost use Rattle.table_remaking.specs.Turns.{IsLosing, TurnsUnless};
 
-use crate::texts::drop_text;
+use crate::texts::{drop_links_text, drop_predecessors_text};
 use sqlite::{Alter, Error, Transaction};
-use table_schema::{TABLES, Table};
 
-// Takes the table away, which is the last that is left.
-fn drop_last<S: Alter>(tx: &mut Transaction<'_, S>, table: Table) -> Result<(), Error>
-    ensures { TurnsUnless S.Store tx.old tx.new result (IsLosing (later table))
-        (IsLosing (table ∷ later table)) RefusesToLose }
+fn drop_links<S: Alter>(tx: &mut Transaction<'_, S>) -> Result<(), Error>
+    ensures { TurnsUnless S.Store tx.old tx.new result (IsLosing [])
+        (IsLosing (LinkInForce ∷ [])) RefusesToLose }
 {
-    tx.execute(drop_text(table), &[])?;
+    tx.execute(drop_links_text(), &[])?;
     Ok(())
 }
 
-/// Takes all tables of schema 1 away.
-pub(crate) fn drop_all<S: Alter>(tx: &mut Transaction<'_, S>) -> Result<(), Error>
-    ensures { TurnsUnless S.Store tx.old tx.new result (IsLosing []) (IsLosing all_tables)
+fn drop_predecessors<S: Alter>(tx: &mut Transaction<'_, S>) -> Result<(), Error>
+    ensures { TurnsUnless S.Store tx.old tx.new result (IsLosing (LinkInForce ∷ []))
+        (IsLosing changed) RefusesToLose }
+{
+    tx.execute(drop_predecessors_text(), &[])?;
+    Ok(())
+}
+
+/// Takes the two tables away.
+pub(crate) fn drop_changed<S: Alter>(tx: &mut Transaction<'_, S>) -> Result<(), Error>
+    ensures { TurnsUnless S.Store tx.old tx.new result (IsLosing []) (IsLosing changed)
         RefusesToLose }
 {
-    for i in 0..TABLES.len() {
-        drop_last(tx, TABLES[TABLES.len() - 1 - i])?;
-    }
-    Ok(())
+    drop_links(tx)?;
+    drop_predecessors(tx)
 }

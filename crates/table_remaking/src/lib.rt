@@ -1,16 +1,19 @@
-//! The tables of schema 1 are made anew as those of schema 2, with their rows, in one transaction.
+//! The two tables of schema 1 that change are made anew as those of schema 2, with their rows, in one transaction.
 #![tactic(auto)]
 
+mod changing;
 mod dropping;
 mod filling;
 mod leaving;
 mod making;
 mod putting;
+mod refilling;
 mod remaking;
 mod rows;
 mod texts;
 mod types;
 
+pub use changing::make_changed_tables;
 pub use filling::plan_in_memory;
 pub use leaving::left_without;
 pub use making::make_first_tables;

@@ -1,6 +1,8 @@
 // The texts of the statements.
 
 ghost use Rattle.std.specs.Prelude.{◌≡◌};
+ghost use Rattle.table_schema.specs.Texts.{delete_sql};
+ghost use Rattle.table_schema.specs.declared.tables.Table.TheVariants.{LinkInForce, Meta, Predecessor};
 ghost use Rattle.table_remaking.specs.FirstTexts.{drop_sql, first_create_sql, first_select_sql};
 
 use table_schema::{Table, create_text, select_text};
@@ -31,24 +33,23 @@ pub fn first_select_text(table: Table) -> &'static str
     }
 }
 
-/// The text that takes the table away.
-pub(crate) fn drop_text(table: Table) -> &'static str
-    ensures { result.now ≡ drop_sql table }
+/// The text that takes the lists of predecessors away.
+pub(crate) fn drop_predecessors_text() -> &'static str
+    ensures { result.now ≡ drop_sql Predecessor }
 {
-    match table {
-        Table::Meta => "DROP TABLE plan_meta",
-        Table::CalendarEntry => "DROP TABLE calendar_entry",
-        Table::Period => "DROP TABLE plan_period",
-        Table::Application => "DROP TABLE application",
-        Table::RunCycle => "DROP TABLE run_cycle",
-        Table::Offset => "DROP TABLE run_cycle_offset",
-        Table::Predecessor => "DROP TABLE predecessor",
-        Table::LinkInForce => "DROP TABLE link_in_force",
-        Table::LongTerm => "DROP TABLE ltp_row",
-        Table::Current => "DROP TABLE cp_row",
-        Table::History => "DROP TABLE history_row",
-        Table::Deletion => "DROP TABLE deletion_row",
-        Table::Dependency => "DROP TABLE dependency",
-        Table::Job => "DROP TABLE job",
-    }
+    "DROP TABLE predecessor"
+}
+
+/// The text that takes the lists in force away.
+pub(crate) fn drop_links_text() -> &'static str
+    ensures { result.now ≡ drop_sql LinkInForce }
+{
+    "DROP TABLE link_in_force"
+}
+
+/// The text that takes the row of `plan_meta` out.
+pub(crate) fn delete_meta_text() -> &'static str
+    ensures { result.now ≡ delete_sql Meta }
+{
+    "DELETE FROM plan_meta WHERE id = ?1"
 }

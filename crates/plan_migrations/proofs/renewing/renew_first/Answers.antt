@@ -4,10 +4,10 @@ use Rattle.sqlite.specs.Effect.{Database}
 use Rattle.sqlite.specs.Held.{state}
 use Rattle.sqlite.specs.State.{HasCleanDisk}
 use Rattle.sqlite.proofs.StateLemmas.{survives_then}
-use Rattle.table_remaking.specs.FirstSchema.{CanRemake}
-use Rattle.table_remaking.specs.Remaking.{AreAllFirst, AreWhole, RemakesTo}
+use Rattle.table_remaking.specs.Remaking.{AreAllFirst, AreWhole, CanRemakeOf, RemakesTo}
 use Rattle.plan_migrations.specs.Migrating.{AreShown, HaveSound, MayRenew}
-use Rattle.plan_migrations.proofs.ReadLemmas.{are_read, failed_hold, failed_read, kept_by, renewed_by, renews, unrenewed_by}
+use Rattle.plan_migrations.proofs.ReadLemmas.{are_read, can_remake_of, failed_hold, kept_by, renewed_by, renews}
+use Rattle.plan_migrations.proofs.ReadLemmas.{unrenewed_by}
 use Rattle.plan_migrations.proofs.renewing.renew_first.Goals as goal
 
 pub check_content-requires-clause-whole : goal.check_content-requires-clause-whole
@@ -25,7 +25,7 @@ remake-requires-clause-typed g c = subst AreAllFirst (sym c.deref-in-Ok-check_co
 pub returns-in-Ok-check_content : goal.returns-in-Ok-check_content
 returns-in-Ok-check_content g c =
     let old = state g.S.Store c.args.conn.now in
-    let mid = state g.S.Store c.read_tables.new.conn in
+    let mid = state g.S.Store c.read_first.new.conn in
     let new = state g.S.Store c.remake.new.conn in
     let reads = c.deref-in-Ok-check_content.result.now in
     let own = sym c.deref-in-Ok-check_content.ensures.value in
@@ -34,32 +34,33 @@ returns-in-Ok-check_content g c =
     let sound : HaveSound reads = subst HaveSound (c.deref.ensures.value ∙ own) c.in-Ok-check_content.ensures.sound in
     let live = c.schema.ensures.live in
     let calm : HasCleanDisk new → HasCleanDisk mid = λ clean. omega (arith, c.remake.ensures.crash.clean, clean) in
-    let first = λ (clean : HasCleanDisk new). c.requires.told (omega (arith, c.read_tables.ensures.crash.clean, calm clean)) in
+    let first = λ (clean : HasCleanDisk new). c.requires.told (omega (arith, c.read_first.ensures.crash.clean, calm clean)) in
     let told : HasCleanDisk new → All (AreShown old mid) reads = λ clean.
     subst (All (AreShown old mid)) own (c.in-Ok.ensures.shown (calm clean)) in
-    let still : HasCleanDisk new → CanRemake mid.now.schema = λ clean.
-    subst (λ (d : Database). CanRemake d.schema) (sym (c.in-Ok.ensures.same (calm clean)).0.now_is) c.requires.first in
+    let still : HasCleanDisk new → CanRemakeOf reads mid.now = λ clean.
+    can_remake_of old mid reads (c.in-Ok.ensures.same (calm clean)) live c.requires.first (told clean)
+    (c.in-Ok.ensures.rowids (calm clean)) in
     record {
       renewed = λ clean. renewed_by old mid new reads (c.in-Ok.ensures.same (calm clean)) live whole c.remake.result
           (told clean) (first clean) sound (c.remake.ensures.remade clean (still clean));
       unrenewed = λ clean. unrenewed_by old mid new reads (c.in-Ok.ensures.same (calm clean))
-          c.read_tables.ensures.crash.counts c.read_tables.ensures.crash.limit
+          c.read_first.ensures.crash.counts c.read_first.ensures.crash.limit
           (are_read old mid reads live whole (told clean) c.requires.first typed) sound c.remake.result
           (c.remake.ensures.failed clean (still clean));
       kept = λ clean. kept_by old mid new (c.in-Ok.ensures.same (calm clean)) c.remake.result
           (c.remake.ensures.kept clean (still clean));
       mode = c.remake.ensures.mode;
-      crash = survives_then old mid new (λ _. ⊥) (λ db. CanRemake mid.now.schema → RemakesTo reads mid.now db)
+      crash = survives_then old mid new (λ _. ⊥) (λ db. CanRemakeOf reads mid.now → RemakesTo reads mid.now db)
           (MayRenew old) (λ _ db none. absurd none)
           (λ clean db h. renews old mid reads live whole (told clean) db
           (subst (λ (d : Database). RemakesTo reads d db) (c.in-Ok.ensures.same (calm clean)).0.now_is (h (still clean)))
-          (first clean) sound) c.read_tables.ensures.crash c.remake.ensures.crash;
+          (first clean) sound) c.read_first.ensures.crash c.remake.ensures.crash;
     }
 
 pub returns-in-Ok-clause-unrenewed : goal.returns-in-Ok-clause-unrenewed
 returns-in-Ok-clause-unrenewed g c clean =
     let old = state g.S.Store c.args.conn.now in
-    let mid = state g.S.Store c.read_tables.new.conn in
+    let mid = state g.S.Store c.read_first.new.conn in
     let reads = c.deref.result.now in
     let own = sym c.deref.ensures.value in
     let whole : AreWhole reads = subst AreWhole own c.in-Ok.ensures.whole in
@@ -70,6 +71,4 @@ returns-in-Ok-clause-unrenewed g c clean =
     c.in-Err-check_content.ensures.refused
 
 pub returns-clause-unrenewed : goal.returns-clause-unrenewed
-returns-clause-unrenewed g c clean =
-    failed_read (state g.S.Store c.args.conn.now) (state g.S.Store c.read_tables.new.conn) c.in-Err.fault
-    (c.in-Err.ensures.unread clean)
+returns-clause-unrenewed g c clean = c.in-Err.ensures.unread clean

@@ -4,11 +4,12 @@ use Rattle.sqlite.specs.Schema.{Schema}
 use Rattle.table_schema.specs.Free.{IsFree}
 use Rattle.table_schema.proofs.MadeLemmas.{nothing_is_free}
 use Rattle.table_opening.proofs.IndexLemmas.{own_told}
+use Rattle.table_opening.proofs.MemoryLemmas.{only_memory, told_error}
 use Rattle.table_opening.proofs.StandingLemmas.{made_alone}
 use Rattle.table_opening.proofs.own_indexes.has_own_indexes.Goals as goal
 
-pub returns : goal.returns
-returns g c has =
+pub returns-clause-own : goal.returns-clause-own
+returns-clause-own g c has =
     let empty = c.in_ok-made.ensures.empty.2 in
     let beside = c.in_ok-make_tables.ensures.done (memory_is_clean c.make_tables.new.conn) (subst IsFree (sym empty)
     nothing_is_free) in
@@ -16,3 +17,11 @@ returns g c has =
     own_told c.schema-schema.result.now _ (c.as_slice.ensures) (c.as_slice-2.ensures)
     (c.as_slice-3.ensures ∙ ap (λ (s : Schema). s.tables) alone) c.schema-schema.ensures.value has c.are_own.result
     c.are_own.ensures
+
+pub returns-in_err-make_tables-clause-refused : goal.returns-in_err-make_tables-clause-refused
+returns-in_err-make_tables-clause-refused g c =
+    let empty = c.in_ok-made.ensures.empty in
+    told_error c.from_residual-in_err-make_tables.result c.in_err-make_tables.field-0.0
+    c.from_residual-in_err-make_tables.ensures.1 (only_memory _ c.make_tables.new.conn _ empty c.in_ok-made.ensures.fresh
+    (c.in_err-make_tables.ensures.fails (memory_is_clean c.make_tables.new.conn)
+    (subst IsFree (sym empty.2) nothing_is_free)))

@@ -1,9 +1,13 @@
 use Rattle.table_schema.proofs.InTurn.{turns_fail}
-use Rattle.table_remaking.proofs.TurnLemmas.{loses_all, then_fills}
+use Rattle.table_remaking.proofs.RemakingLemmas.{loses_both, made_stops, then_made, then_refills}
 use Rattle.table_remaking.proofs.remaking.remake.Goals as goal
 
-pub returns-in_err-drop_all : goal.returns-in_err-drop_all
-returns-in_err-drop_all g c = turns_fail (loses_all c.in_err-drop_all.ensures) c.from_residual.ensures.1
+pub returns-in_err-drop_changed : goal.returns-in_err-drop_changed
+returns-in_err-drop_changed g c = turns_fail (loses_both c.in_err-drop_changed.ensures) c.from_residual.ensures.1
+
+pub returns-in_err-make_changed : goal.returns-in_err-make_changed
+returns-in_err-make_changed g c = made_stops (then_made c.in_ok-drop_changed.ensures c.in_err-make_changed.ensures)
+    c.from_residual-in_err-make_changed.ensures.1
 
 pub returns : goal.returns
-returns g c = then_fills c.in_ok-drop_all.ensures c.fill.ensures
+returns g c = then_refills (then_made c.in_ok-drop_changed.ensures c.in_ok-make_changed.ensures) c.refill.ensures

@@ -2,7 +2,7 @@ use Rattle.std.proofs.Common.{◌∙◌, ap, not, rules}
 use Rattle.sqlite.specs.Held.{state}
 use Rattle.table_schema.proofs.OnceLemmas.{ended_in, undone_in, unended_in}
 use Rattle.table_remaking.proofs.CauseLemmas.{remake_cause}
-use Rattle.table_remaking.proofs.TurnLemmas.{remade_once}
+use Rattle.table_remaking.proofs.RemakingLemmas.{remade_once}
 use Rattle.table_remaking.proofs.remaking.remake_tables.Goals as goal
 
 pub returns-in_err-remake-clause-commits : goal.returns-in_err-remake-clause-commits

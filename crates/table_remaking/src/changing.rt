@@ -1,0 +1,41 @@
+// The two tables that change are made as those of schema 2.
+
+ghost use Rattle.std.specs.Prelude.{◌≡◌, false, OnOk};
+ghost use Rattle.sqlite.specs.State.{HasCleanDisk};
+ghost use Rattle.sqlite.specs.Held.{state};
+ghost use Rattle.table_schema.specs.Schema.{no_schema};
+ghost use Rattle.table_schema.specs.Writes.{Makes};
+ghost use Rattle.table_remaking.specs.FirstSchema.{changed_schema};
+ghost use Rattle.table_remaking.specs.Turns.{AreChangedMade, CanMakeChanged, CanMakeOne, IsOneMade};
+
+use sqlite::{Alter, Connection, Error, Transaction};
+use table_schema::{Table, create_text};
+
+fn make<S: Alter>(tx: &mut Transaction<'_, S>, table: Table) -> Result<(), Error>
+    ensures { Makes S.Store tx.old tx.new result (CanMakeOne table) (IsOneMade table) }
+{
+    tx.execute(create_text(table), &[])?;
+    Ok(())
+}
+
+/// Makes the two tables behind those of the database, inside a transaction, where nothing stands in their way. It fails
+/// for want of memory, for a failure of the device, for a connection that was shut, or for a limit on steps.
+pub(crate) fn make_changed<S: Alter>(tx: &mut Transaction<'_, S>) -> Result<(), Error>
+    ensures { Makes S.Store tx.old tx.new result CanMakeChanged AreChangedMade }
+{
+    make(tx, Table::Predecessor)?;
+    make(tx, Table::LinkInForce)
+}
+
+/// Makes the two tables that schema 2 describes otherwise, as it has them, in an empty database.
+pub fn make_changed_tables<S: Alter>(conn: &mut Connection<S>) -> Result<(), Error>
+    requires { conn.old.in_transaction ≡ false }
+    ensures { HasCleanDisk (state S.Store conn.new)
+        → (state S.Store conn.old).now.schema ≡ no_schema
+        → OnOk result ((state S.Store conn.new).now.schema ≡ changed_schema) }
+{
+    let mut tx = conn.transaction();
+    make_changed(&mut tx)?;
+    tx.commit()?;
+    Ok(())
+}
