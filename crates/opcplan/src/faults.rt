@@ -27,6 +27,7 @@ pub fn report_reason<R: Print + Eprint>(
 ) -> u8 {
     let _ = println!(rt; "fault {number}");
     let _ = match path {
+        Some("") => eprintln!(rt; "opcplan: fault {number}: \"\": {reason}"),
         Some(path) => eprintln!(rt; "opcplan: fault {number}: {path}: {reason}"),
         None => eprintln!(rt; "opcplan: fault {number}: {reason}"),
     };

@@ -33,7 +33,7 @@ impl Opening for Greeting<'_> {
                 "the file held no plan, so a new one was made in it. If it should have had one, check the name",
             ),
             Begun::Migrated => Some(
-                "the plan was migrated from schema 1 to schema 2. Indexes that you had made on its tables are gone",
+                "the plan was migrated from schema 1 to schema 2. An index that you had made on predecessor or link_in_force is gone",
             ),
         };
         if let Some(message) = message {

@@ -145,10 +145,19 @@ fn print_answer<R: Print + Eprint>(rt: &R, error: &Error, words: &[String]) -> A
 
 /// Suggests `--db FILE` to who names the file alone. No memory is taken.
 fn suggest_db(rt: &impl Eprint, words: &[String]) {
-    if let Some(path) = words.get(1) {
-        if !path.starts_with('-') {
-            let _ = eprintln!(rt; "opcplan: is a plan in a file meant? opcplan --db {path}");
+    let mut named = None;
+    let mut is_first = true;
+    for word in words {
+        if word.starts_with("--db") {
+            return;
         }
+        if !is_first && named.is_none() && !word.starts_with('-') {
+            named = Some(word);
+        }
+        is_first = false;
+    }
+    if let Some(path) = named {
+        let _ = eprintln!(rt; "opcplan: is a plan in a file meant? opcplan --db {path}");
     }
 }
 
