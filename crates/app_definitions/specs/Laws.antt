@@ -20,7 +20,8 @@ ReadsOrIsFaulty = (kind : Kind) (text : List ℕ) (b : Block) (number : ℕ) →
 abbrev pub IsFaultyOnce : Type 0
 IsFaultyOnce = (kind : Kind) (text : List ℕ) (m n : ℕ) → IsFaultyAt kind text m → IsFaultyAt kind text n → m ≡ n
 
--- once a block is merged, what stood under its names can be put back, and then the definitions are those before
+-- once a block is merged, what its names had before can be restored, and then the definitions are those before the
+-- merge
 abbrev pub MergeIsTakenBack : Type 0
 MergeIsTakenBack = (all : Definitions) (block : Block) → CanPutBack (replaced_by all block) (merged all block)
     × (put_back (replaced_by all block) (merged all block) ≡ all)

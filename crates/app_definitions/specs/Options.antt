@@ -23,8 +23,8 @@ abbrev pub GivesCalendar : Option Data → List ℕ → Type 0
 GivesCalendar None name = name ≡ codes "DEFAULT"
 GivesCalendar (Some d) name = (d ≡ string name) × IsName name
 
--- the hours that their key gives: a whole number of at least 1 and at most the greatest, which stands where the key
--- is missing
+-- the hours that their key gives: a whole number of at least 1 and at most the greatest, which is the value where the
+-- key is missing
 abbrev pub GivesHours : Option Data → ℕ → Type 0
 GivesHours None hours = hours ≡ MAX_EXTENSION_HOURS
 GivesHours (Some d) hours = (d ≡ integer (pos hours)) × (1 ≤ hours) × (hours ≤ MAX_EXTENSION_HOURS)
@@ -52,7 +52,7 @@ pub record IsFaultyOptions (text : List ℕ) (number : ℕ) : Type 0 where
   pub first : number ≡ 1
   pub no_options : (o : Options) → ¬ (AreOptionsOf o text)
 
--- a fault tells that no options are given, or want of memory
+-- a fault says that no options are given, or is lack of memory
 abbrev pub IsOptionsFault : List ℕ → BlockFault → Type 0
 IsOptionsFault text (Faulty number) = IsFaultyOptions text number
 IsOptionsFault text Memory = Unit {0}

@@ -1,4 +1,4 @@
--- What stands under the names of a block, and the definitions with that put back.
+-- What the names of a block have, and the definitions with that restored.
 use Rattle.std.specs.Prelude.{⊤}
 use Rattle.definition_records.specs.ByName.{AllStand, replaced, restored}
 use Rattle.app_definitions.specs.declared.definitions.Definitions.{Definitions}
@@ -7,7 +7,7 @@ use Rattle.app_definitions.specs.declared.kinds.Block.TheVariants as block
 use Rattle.app_definitions.specs.declared.replacing.Replaced.{Replaced}
 use Rattle.app_definitions.specs.declared.replacing.Replaced.TheVariants as was
 
--- of the kind of the block what stands under each of its names, a definition or none; the options under options
+-- what each name of the block has of its kind, a definition or none; the options under options
 abbrev pub replaced_by : Definitions → Block → Replaced
 replaced_by all (block.Applications more) = was.Applications (replaced all.applications more)
 replaced_by all (block.Calendars more) = was.Calendars (replaced all.calendars more)

@@ -74,8 +74,8 @@ impl Definitions {
         })
     }
 
-    /// Takes a block's definitions in, each in place of the one of its name, and answers how many names the block
-    /// gave. A merge that is refused for memory changes nothing.
+    /// Merges a block: each of its definitions replaces the one of its name. Returns how many names the block gave. If
+    /// memory is refused, nothing changes.
     pub fn merge(&mut self, block: Block) -> Result<usize, AllocError>
         ensures ok { OnOk result (self.new ≡ merged self.old block) }
         ensures counted { IfOk result (λ n. n ≡ names_given block) }
@@ -94,7 +94,7 @@ impl Definitions {
         }
     }
 
-    /// Takes the definition of one name and kind away, and answers whether there was one. Options have no name.
+    /// Removes the definition of one name and kind, and returns whether there was one. Options have no name.
     pub fn remove(&mut self, kind: Kind, name: &Name) -> bool
         ensures found { IsTrue result ↔ IsDefined self.old kind name.now }
         ensures removed { self.new ≡ without self.old kind name.now }

@@ -17,7 +17,8 @@ pub fn is_faulty_once()
     ensures { IsFaultyOnce }
 {}
 
-/// Once a block is merged, what stood under its names can be put back, and then the definitions are those before.
+/// Once a block is merged, what its names had before can be restored, and then the definitions are those before the
+/// merge.
 pub fn merge_is_taken_back()
     ensures { MergeIsTakenBack }
 {}

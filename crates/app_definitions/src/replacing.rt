@@ -1,4 +1,4 @@
-// What a block takes the place of, and how that is put back.
+// What a block replaces, and how that is restored.
 
 ghost use Rattle.std.specs.Prelude.{◌≡◌, IfOk};
 ghost use Rattle.app_definitions.specs.Replacing.{CanPutBack, put_back, replaced_by};
@@ -10,7 +10,7 @@ use definition_records::{Application, ByName, DefinedPeriod, Predecessors, RunCy
 use std::alloc::AllocError;
 use work_calendars::Calendar;
 
-/// What stood under the names of a block: the definition of each, or none where it had none.
+/// What the names of a block had before: the definition of each, or none where it had none.
 #[derive(Drop)]
 pub enum Replaced {
     /// Applications by name.
@@ -28,7 +28,7 @@ pub enum Replaced {
 }
 
 impl Definitions {
-    /// A copy of what stands under the names of the block.
+    /// A copy of what the names of the block have now.
     pub fn replaced_by(&self, block: &Block) -> Result<Replaced, AllocError>
         ensures { IfOk result (λ was. was ≡ replaced_by self.now block.now) }
     {
@@ -46,7 +46,7 @@ impl Definitions {
         }
     }
 
-    /// Puts back what stood under the names of a block that was merged. It takes no memory.
+    /// Restores what the names of a block had before it was merged. Allocates no memory.
     pub fn put_back(&mut self, was: Replaced)
         requires { CanPutBack was self.old }
         ensures { self.new ≡ put_back was self.old }

@@ -1,4 +1,4 @@
--- The index of work days of one calendar, beside what that calendar lists.
+-- The index of work days of one calendar, with what that calendar lists.
 use Rattle.std.specs.Prelude.{◌≡◌, ℕ, Bool, List, Option}
 use Rattle.std.specs.FinMap as map
 use Rattle.work_calendars.specs.Calendar.{CalendarEntries, is_work_day}

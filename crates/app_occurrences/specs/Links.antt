@@ -4,7 +4,7 @@ use Rattle.std.specs.FinMap as map
 use Rattle.app_definitions.specs.declared.definitions.Definitions.{Definitions}
 use Rattle.definition_records.specs.declared.predecessors.Predecessor.{Predecessor}
 
--- the predecessor stands in the list that is defined for the application, with its limit
+-- the predecessor is in the list that is defined for the application, with its limit
 abbrev pub IsDefinedLink : Definitions → List ℕ → Predecessor → Type 0
 IsDefinedLink all app predecessor = (listed : List Predecessor) × (map.get all.predecessors app ≡ Some listed)
     × Contains listed predecessor

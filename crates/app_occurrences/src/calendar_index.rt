@@ -1,4 +1,4 @@
-// The index of work days of one calendar, beside what that calendar lists.
+// The index of work days of one calendar, with what that calendar lists.
 
 ghost use Rattle.std.specs.Prelude.{◌≡◌, ℕ, IfOk, IfSome, IsTrue, length};
 ghost use Rattle.std.specs.FinMap as map;
@@ -12,8 +12,8 @@ use std::alloc::{AllocError, Global};
 use std::marker::Model;
 use work_calendars::{Calendar, Day, DayStatus, Name, Weekday, WorkIndex};
 
-/// The index of the work days of one calendar, beside what that calendar lists, so that it serves as long as the same
-/// is listed. Contracts see the statuses of the days.
+/// The index of the work days of one calendar, with what that calendar lists: it is valid as long as the calendar
+/// lists the same. Contracts see the statuses of the days.
 #[derive(Drop)]
 pub struct CalendarIndex {
     // what is listed for each weekday from Monday on
@@ -53,22 +53,21 @@ impl CalendarIndex {
 /// How many indexes are kept at most.
 pub const MOST_KEPT_INDEXES: usize = 8;
 
-/// Indexes of calendars that were asked for lately, for the questions that come. One is taken out while it serves.
+/// A cache of indexes that were used lately. An index is out of the cache while it is in use.
 #[derive(Drop)]
 pub struct CalendarIndexes {
     kept: Vec<CalendarIndex>,
 }
 
 impl CalendarIndexes {
-    /// Of no calendar.
+    /// An empty cache.
     pub fn new(alloc: Global) -> CalendarIndexes {
         CalendarIndexes {
             kept: Vec::new(alloc),
         }
     }
 
-    /// The index of the calendar of that name: one that was kept, where the calendar lists what that one's did, or one
-    /// that is built.
+    /// The index of the calendar of that name: a cached one if the calendar still lists the same, else a new one.
     pub fn of(
         &mut self,
         alloc: Global,
@@ -83,7 +82,7 @@ impl CalendarIndexes {
         }
     }
 
-    /// Keeps the index; the one that was kept longest goes where there are too many.
+    /// Puts the index into the cache. If that has too many then, the oldest one is dropped.
     pub fn keep(&mut self, index: CalendarIndex) -> Result<(), AllocError> {
         if self.kept.len() >= MOST_KEPT_INDEXES {
             drop(self.kept.remove(0));
@@ -92,7 +91,7 @@ impl CalendarIndexes {
         Ok(())
     }
 
-    // The kept index of a calendar that lists the same, or one that is built.
+    // The cached index of a calendar that lists the same, or a new one.
     fn of_calendar(
         &mut self,
         alloc: Global,
@@ -113,7 +112,7 @@ impl CalendarIndexes {
         })
     }
 
-    // Takes out the index whose calendar listed these weekdays and dates, if one is kept.
+    // Takes the index of the calendar with these weekdays and dates out of the cache, if it is there.
     fn take(
         &mut self,
         weekdays: &[Option<DayStatus>; 7],

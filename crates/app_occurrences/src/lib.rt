@@ -1,7 +1,7 @@
 //! What the applications of definitions are, lack and are named on: which are active, their calendars, run cycles and
 //! predecessors, the least that lacks a definition, and the occurrences that run cycles name.
 //!
-//! Each call asks something of the definitions, and changes nothing:
+//! Each call reads the definitions, and changes nothing:
 //!
 //! ```text
 //! let mut all = Definitions::new(alloc);

@@ -25,8 +25,8 @@ fn periods_of(alloc: Global, all: &Definitions, cycles: &[RunCycle]) -> Result<P
     Ok(periods)
 }
 
-/// The occurrences that an application's run cycles name from `from` to `to`, both counted, by day and time, no two
-/// of one day and time. The index of its work days is one of those held, or joins them.
+/// The occurrences that an application's run cycles name from `from` to `to`, both counted, by day and time, no two of
+/// one day and time. The index of its work days is one of those held, or is added to them.
 pub fn named_occurrences(
     alloc: Global,
     all: &Definitions,

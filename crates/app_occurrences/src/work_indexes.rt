@@ -42,7 +42,7 @@ pub fn work_index(alloc: Global, all: &Definitions, name: &Name) -> Result<WorkI
 }
 
 impl WorkIndexes {
-    /// No indexes, and none that is wrong of any definitions.
+    /// No indexes, which agrees with any definitions.
     pub fn new(alloc: Global) -> WorkIndexes
         ensures empty { result ≡ map.empty }
         ensures indexes { (all : DefinitionsValue) → AreIndexesOf all result }

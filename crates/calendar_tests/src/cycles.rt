@@ -44,7 +44,7 @@ fn index_of(rt: &impl Abort, alloc: Global, dates: &str) -> Result<WorkIndex, Al
     WorkIndex::build(alloc, &calendar)
 }
 
-// Offsets parted by commas.
+// Offsets separated by commas.
 fn offsets_of(rt: &impl Abort, alloc: Global, text: &str) -> Result<Offsets, AllocError> {
     let mut items = Vec::new(alloc);
     for offset in text.split(',') {
@@ -107,7 +107,7 @@ fn cycle_of(rt: &impl Abort, alloc: Global, text: &str) -> Result<RunCycle, Allo
     })
 }
 
-// Intervals by origin and end, `-` for none, parted by `;`.
+// Intervals by origin and end, `-` for none, separated by `;`.
 fn origins_of(
     rt: &impl Abort,
     alloc: Global,

@@ -19,7 +19,7 @@ fn are_same_links(kept: &Links, wanted: &Links) -> bool {
         && kept.as_slice().iter().all(|link| wanted.contains(link))
 }
 
-/// The first part of the content beside the definitions that is otherwise than it should be.
+/// The first part of the content, apart from the definitions, that is not as it should be.
 fn unlike_plans(kept: &Content, wanted: &Content) -> Option<&'static str> {
     let parts = [
         ("bounds", kept.bounds == wanted.bounds),

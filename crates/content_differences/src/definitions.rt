@@ -125,7 +125,7 @@ fn are_same_options(a: &Options, b: &Options) -> bool {
     a.default_calendar == b.default_calendar && a.max_extension_hours == b.max_extension_hours
 }
 
-/// The first kind of the definitions in which they are otherwise than they should be.
+/// The first kind of definitions in which they are not as they should be.
 pub fn unlike_definitions(
     alloc: Global,
     kept: &Definitions,

@@ -1,4 +1,4 @@
-//! What the content of a store has otherwise than a run of a stream over lists leaves: what trials of other stores ask.
+//! How the content of a store differs from what a run of a stream over lists leaves, for trials of other stores.
 #![tactic(auto)]
 
 mod contents;

@@ -21,24 +21,24 @@ use Rattle.plan_pairs.specs.RowPairs.{IsRowPair}
 use Rattle.plan_store.specs.declared.changes.Change.{Change}
 use Rattle.plan_store.specs.declared.changes.DefinitionChange.TheVariants.{AsBefore}
 
--- the occurrence of the serial lives
+-- the occurrence of the serial is live
 abbrev pub LivesAt : Sets → ℕ → Type 0
 LivesAt s serial = (p : PlacedRow) × StandsAt s serial p × IsLive p.place
 
 -- the predecessor that forbids the action on the occurrence of the serial: the least that isn't complete, which only a
--- start asks for; or that there is none
+-- start reads; or that there is none
 abbrev pub WaitsFor : Content → Action → ℕ → Option ℕ → Type 0
 WaitsFor c action serial (Some n) = (action ≡ Start) × IsLeastUncompleted c serial n
 WaitsFor c action serial None = action ≡ Start → (n : ℕ) → IsUncompleted c serial n → ⊥
 
--- the row stands in the current plan, is live, and takes that status by the action
+-- the row is in the current plan, is live, and gets that status by the action
 pub record IsActedOn (c : Content) (action : Action) (changed : CurrentRow) : Type 0 where
   pub was : Status
   pub stands : c.sets.cp changed.row.serial ≡ Some (record { row = changed.row; status = was })
   pub live : was ≢ D
   pub allowed : changed_status was action ≡ Some changed.status
 
--- the row stands in the current plan, and is live
+-- the row is in the current plan, and is live
 abbrev pub IsLiveCurrent : Sets → Row → Type 0
 IsLiveCurrent s row =
     (status : Status) × (s.cp row.serial ≡ Some (record { row = row; status = status })) × (status ≢ D)

@@ -31,12 +31,12 @@ IsEndBy c n count (Some t) = (b : Bounds) × (c.sets.bounds ≡ Some b) × IsNew
 IsEndBy c n count None = (b : Bounds) → c.sets.bounds ≡ Some b → (t : ℕ)
     → ¬ (IsNewEnd c.definitions b.plan_end n count t)
 
--- a row of the current plan that a daily plan takes from it
+-- a row that a daily plan removes from the current plan
 abbrev pub is_finished : CurrentRow → Bool
 is_finished current = not (is_uncompleted current.status)
 
 -- the content admits the change, the change makes a daily plan to t of it, with its reply, and of the pairs it changes
--- only those that are others then
+-- only those that are others afterwards
 abbrev pub DoesDaily : ℕ → Content → Change → Reply → Type 0
 DoesDaily t c change reply =
     Fits change c × ChangesPlans (ExtendsDaily t) PutsNone c reply (after change c) × LeadsOn c.pairs change.pairs

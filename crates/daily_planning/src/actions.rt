@@ -16,9 +16,9 @@ use plan_store::{Change, Need, Verdict, View};
 use std::alloc::{AllocError, Global};
 
 /// `cp-start`, `cp-complete`, `cp-fail`, `cp-reset`, `cp-delete`: the occurrence of the current plan that has the key
-/// and isn't deleted takes the status that the action leads to. Refused where there is no plan (20), where there is no
-/// such occurrence (28), where its status forbids the action (29), and a start where a predecessor isn't complete: the
-/// least of those is told (30).
+/// and isn't deleted gets the status that the action leads to. Refused where there is no plan (20), where there is no
+/// such occurrence (28), where its status forbids the action (29), and a start where a predecessor isn't complete:
+/// with the least of those (30).
 pub fn cp_action(
     alloc: Global,
     view: &View<'_>,
@@ -69,7 +69,7 @@ fn act(
     ))
 }
 
-// The predecessor that forbids the action on a row of the current plan, which waits where it is to start.
+// The predecessor that forbids the action on a row of the current plan, which waits if it is to be started.
 fn waited_for(view: &View<'_>, action: Action, current: &CurrentRow) -> Option<Serial>
     ensures { Behind (Need.Key current.now.row.key) view.now (λ c.
         c.sets.cp current.now.row.serial ≡ Some current.now
@@ -94,7 +94,7 @@ fn is_start(action: Action) -> bool
     action == Action::Start
 }
 
-// Whether the predecessor of a pair that is shown is complete. It lives, so it stands in a plan or in history.
+// Whether the predecessor of a pair that is shown is complete. It is live, so it is in a plan or in history.
 fn is_complete(view: &View<'_>, pair: &Pair) -> bool
     requires { Contains (shown view.now).pairs pair.now }
     ensures { BehindPairs view.now (λ c. LivesAt c.sets pair.now.predecessor

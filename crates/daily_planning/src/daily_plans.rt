@@ -90,7 +90,7 @@ fn without_end(view: &View<'_>) -> Refusal
     }
 }
 
-/// `dp-replan`: a daily plan to the plan end as it is, which takes nothing from the long-term plan. It is refused
+/// `dp-replan`: a daily plan to the plan end as it is, which moves nothing out of the long-term plan. It is refused
 /// where nothing is planned (20).
 pub fn replan(alloc: Global, view: &View<'_>) -> Result<Verdict, AllocError>
     ensures { IfOk result (λ verdict. (c : Content)
@@ -148,7 +148,7 @@ fn daily_plan(
     Ok((change, reply))
 }
 
-// The rows of the current plan that a daily plan takes from it: those that are complete or deleted.
+// The rows that a daily plan removes from the current plan: those that are complete or deleted.
 fn finished_rows(alloc: Global, rows: &[CurrentRow]) -> Result<Vec<CurrentRow>, AllocError>
     ensures { IfOk result (λ found. found.items ≡ filter is_finished rows.now) }
 {

@@ -1,6 +1,6 @@
-//! What the statements on the current plan decide: a daily plan hands a day on to the next, an action changes the
-//! status of an occurrence, and an addition makes one. A decision sees the content through a window, and changes
-//! nothing.
+//! What the statements on the current plan decide: a daily plan carries unfinished work into the next day's plan, an
+//! action changes the status of an occurrence, and an addition makes one. A decision sees the content through a
+//! window, and changes nothing.
 //!
 //! ```text
 //! let view = store.read_window(Need::Daily(to))?;

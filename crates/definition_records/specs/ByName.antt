@@ -47,7 +47,7 @@ pub record Begins {D : Type 0} (FitsName : Records → Record → Type 0) (IsMad
   pub fits : IsSome begun ↔ FitsName [] row
   pub made : IfSome begun (λ d. IsMadeOf d (row ∷ []))
 
--- a record joins those before it: it is taken where it is good after them, and `new` is then made of them and of it
+-- a record joins those before it: it is accepted if it is good after them, and `new` is then made of them and of it
 pub record Joins {D : Type 0} (Fits : Records → Record → Type 0) (IsMadeOf : D → Records → Type 0)
     (before : Records) (row : Record) (new : D) (taken : Bool) : Type 0 where
   pub fits : IsTrue taken ↔ Fits before row
@@ -68,7 +68,7 @@ abbrev pub overlaid : {D : Type 0} → map.FinMap (slice_cmp nat_cmp) D → map.
     → map.FinMap (slice_cmp nat_cmp) D
 overlaid old more = map.from_entries (map.entries more ++ map.entries old)
 
--- what stands in `old` under each name of `more`: its definition, or that there is none
+-- what `old` has under each name of `more`: a definition, or none
 abbrev pub replaced : {D : Type 0} → map.FinMap (slice_cmp nat_cmp) D → map.FinMap (slice_cmp nat_cmp) D
     → map.FinMap (slice_cmp nat_cmp) (Option D)
 replaced old more = map.from_entries (list_map (λ e. (e.0, map.get old e.0)) (map.entries more))

@@ -54,7 +54,7 @@ IsOffsetText text = IsDistanceText (offset_digits text)
 abbrev pub pieces_of : List ℕ → List (List ℕ)
 pieces_of text = slice_split (λ b. b == byte " ") text
 
--- the text spells 1 to 64 offsets, parted by one blank each
+-- the text spells 1 to 64 offsets, separated by one blank each
 pub record SpellsOffsets (text : List ℕ) (offsets : List ℤ) : Type 0 where
   pub each : All IsOffsetText (pieces_of text)
   pub few : length (pieces_of text) ≤ MAX_OFFSETS

@@ -1,4 +1,4 @@
--- What the records of a block have to be, and which one is told where they aren't.
+-- What the records of a block have to be, and which one a fault names if they aren't.
 use Rattle.std.specs.Prelude.{ℕ, ◌+◌, ◌-◌, ◌<◌, ◌≤◌, List, [], length, take, get_or}
 use Rattle.csv.specs.Reading.{records, default_config, strip_bom}
 use Rattle.csv.specs.declared.error.ErrorKind.{ErrorKind}
@@ -33,7 +33,7 @@ pub record FirstFaulty (Fits : Records → Record → Type 0) (rows : Records) (
   pub faulty : ¬ (IsGoodAt Fits rows (number - 1))
   pub before : (k : ℕ) → k + 1 < number → IsGoodAt Fits rows k
 
--- a fault tells the first faulty record, or want of memory
+-- a fault names the first faulty record, or is lack of memory
 abbrev pub IsFirstFaulty : (Records → Record → Type 0) → Records → BlockFault → Type 0
 IsFirstFaulty Fits rows (Faulty number) = FirstFaulty Fits rows number
 IsFirstFaulty Fits rows Memory = Unit {0}

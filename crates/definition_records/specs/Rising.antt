@@ -1,4 +1,4 @@
--- What stands in byte order of its names, each name once.
+-- Lists in byte order of their names, each name once.
 use Rattle.std.specs.Prelude.{◌≡◌, ℕ, ◌≤◌, List, length, AllPairs}
 use Rattle.std.specs.List.{AllWithin}
 use Rattle.std.specs.Cmp.Lexicographic.{slice_cmp}
@@ -13,7 +13,7 @@ IsBelow a b = slice_cmp nat_cmp a b ≡ Less
 abbrev pub AreRising : {X : Type 0} → (X → List ℕ) → List X → Type 0
 AreRising name_of xs = AllPairs (λ x y. IsBelow (name_of x) (name_of y)) xs
 
--- the place at which something of that name would stand: between those of lesser and those of greater names
+-- the place at which something of that name would be inserted: between those of lesser and those of greater names
 pub record IsPlaceFor {X : Type 0} (name_of : X → List ℕ) (xs : List X) (name : List ℕ) (place : ℕ) : Type 0 where
   pub within : place ≤ length xs
   pub before : AllWithin (λ x. IsBelow (name_of x) name) xs 0 place

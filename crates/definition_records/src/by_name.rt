@@ -44,7 +44,7 @@ pub trait Definition: Drop {
     fn copy(&self) -> Result<Self, AllocError>
         ensures copied { IfOk result (λ d. d ≡ self.now) };
 
-    /// Takes a further record about the name, or answers that it is faulty.
+    /// Adds a further record about the name, or returns that it is faulty.
     fn join(&mut self, row: &ByteRecord) -> Result<bool, AllocError>
         requires { HasFields (length (fields_of row.now)) }
         ensures { (before : Records) → before ≢ [] → IsMadeOf self.old before
@@ -151,7 +151,7 @@ impl<D> ByName<D> {
         self.by_name.len()
     }
 
-    /// Takes all definitions of another map in, in place of those of the same names, and answers how many they are.
+    /// Merges another map: its definitions replace those of the same names. Returns how many it has.
     pub fn append(&mut self, mut more: ByName<D>) -> Result<usize, AllocError>
     where
         D: Drop,
@@ -164,7 +164,7 @@ impl<D> ByName<D> {
         Ok(count)
     }
 
-    /// Takes the definition of this name away, and answers whether there was one.
+    /// Removes the definition of this name, and returns whether there was one.
     pub fn remove(&mut self, name: &Name) -> bool
     where
         D: Drop,
@@ -188,7 +188,7 @@ impl<D: Definition> Clone for ByName<D> {
 }
 
 impl<D: Definition> ByName<D> {
-    /// What stands here under the names of these definitions: a copy, or none where a name has no definition.
+    /// For each name of these definitions, a copy of what this map has under it, or none if it has nothing.
     pub fn replaced_by(&self, more: &ByName<D>) -> Result<ByName<Option<D>>, AllocError>
         ensures { IfOk result (λ was. was ≡ replaced self.now more.now) }
     {
@@ -209,7 +209,7 @@ impl<D: Definition> ByName<D> {
         }
     }
 
-    /// Puts back what was noted of names that have a definition: that of each, or none. It takes no memory.
+    /// Restores what was noted of names that have a definition: the definition of each, or none. Allocates no memory.
     pub fn put_back(&mut self, was: ByName<Option<D>>)
         requires { AllStand was self.old }
         ensures { self.new ≡ restored was self.old }
@@ -236,7 +236,7 @@ impl<D: Definition> ByName<D> {
         }
     }
 
-    /// Takes the next record of a block in, which is as long as the first one, or answers that it is faulty.
+    /// Adds the next record of a block, which is as long as the first one, or returns that it is faulty.
     pub(crate) fn gather(&mut self, alloc: Global, row: &ByteRecord) -> Result<bool, AllocError>
         ensures { (before : Records) → AreGivenBy D.IsMadeOf self.old before
             → IsAsLong before (fields_of row.now) → IfOk result

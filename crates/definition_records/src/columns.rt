@@ -43,7 +43,7 @@ pub const CYCLE_TYPE: usize = 2;
 pub const CYCLE_PERIOD: usize = 3;
 /// `E` or `1` to `4`.
 pub const CYCLE_RULE: usize = 4;
-/// Offsets, parted by one blank each.
+/// Offsets, separated by one blank each.
 pub const CYCLE_OFFSETS: usize = 5;
 /// A day.
 pub const CYCLE_IN_EFFECT: usize = 6;

@@ -119,7 +119,7 @@ fn cut(alloc: Global, bytes: &[u8]) -> Result<Vec<&[u8]>, AllocError>
     bytes.split(|byte| *byte == b' ').collect(alloc)
 }
 
-// The offsets that these bytes spell, parted by one blank each.
+// The offsets that these bytes spell, separated by one blank each.
 fn offsets_of(alloc: Global, bytes: &[u8]) -> Result<Option<Offsets>, AllocError>
     ensures valid { IfOk result (λ o. IsSome o ↔ ((ks : List ℤ) × SpellsOffsets bytes.now ks)) }
     ensures value { IfOk result (λ o. IfSome o (SpellsOffsets bytes.now)) }
@@ -227,7 +227,7 @@ fn is_rising(cycles: &[RunCycle]) -> bool
     true
 }
 
-// Where the run cycle of this name stands, or else the place where one of this name would stand.
+// The place of the run cycle of this name, or else the place where one of this name would be inserted.
 fn place_of(cycles: &[RunCycle], name: &Short) -> Result<usize, usize>
     requires { AreRising (λ cycle. cycle.name) cycles.now }
     ensures found { IfOk result (λ k. (k < length cycles.now)

@@ -1,7 +1,7 @@
 //! The records of data blocks, and definitions by name as they give them: applications, calendars, periods, lists of
 //! predecessors and run cycles.
 //!
-//! The records of a block are gathered one after the other, up to the first faulty one:
+//! The records of a block are collected one after the other, up to the first faulty one:
 //!
 //! ```text
 //! let mut calendars: ByName<Calendar> = ByName::new(alloc);

@@ -186,7 +186,7 @@ fn is_later(entries: &[(Day, Option<Day>)], entry: &(Day, Option<Day>)) -> bool
     entries[entries.len() - 1].0.number() < entry.0.number()
 }
 
-// Puts the entry behind the others, unless its origin isn't later than theirs.
+// Appends the entry, unless its origin isn't later than those of the others.
 fn push_later(origins: &mut Origins, entry: (Day, Option<Day>)) -> Result<bool, AllocError>
     ensures later { IfOk result (λ taken. IsTrue taken ↔ IsLater origins.old entry) }
     ensures pushed { IfOk result (λ taken. IsTrue taken → origins.new ≡ origins.old ++ entry ∷ []) }

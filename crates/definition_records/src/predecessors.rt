@@ -97,7 +97,7 @@ fn is_rising(listed: &[Predecessor]) -> bool
     true
 }
 
-// Where this name stands, or else the place where it would stand.
+// The place of this name, or else the place where it would be inserted.
 fn place_of(listed: &[Predecessor], name: &Name) -> Result<usize, usize>
     requires { AreRising (λ p. p.name) listed.now }
     ensures found { IfOk result (λ k. (k < length listed.now)

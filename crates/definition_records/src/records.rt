@@ -26,8 +26,8 @@ pub enum BlockFault {
     Memory,
 }
 
-// What an error of the reader tells of the record with this number: a text in memory is always read, so that what is
-// left beside a record of another length is want of memory.
+// The fault that an error of the reader stands for, at the record of this number. A text in memory can always be read,
+// so an error that isn't a record of another length is lack of memory.
 fn fault_of(error: &Error, number: usize) -> BlockFault
     ensures { result ≡ fault_of_kind (error_kind error.now) number }
 {

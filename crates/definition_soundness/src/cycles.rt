@@ -15,14 +15,14 @@ use run_cycles::{CycleType, Deadline, MAX_DEADLINE_DAYS, Offsets, RunCycle};
 use std::alloc::{AllocError, Global};
 use work_calendars::Name;
 
-// Whether the deadline lies no more days behind than it may.
+// Whether the deadline lies no more days later than it may.
 fn is_deadline(deadline: &Deadline) -> bool
     ensures { IsTrue result ↔ IsDeadlineValue deadline.now }
 {
     deadline.days <= MAX_DEADLINE_DAYS && is_minute(deadline.time)
 }
 
-// Whether the deadline of the type is such, where it has one.
+// Whether so it is of the deadline of the type, if it has one.
 fn has_deadline(kind: &CycleType) -> bool
     ensures { IsTrue result ↔ HasDeadline kind.now }
 {

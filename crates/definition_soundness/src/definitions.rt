@@ -10,7 +10,7 @@ use std::alloc::{AllocError, Global};
 
 /// Whether the definitions are such as data blocks give, one name at a time: each calendar lists something, the names
 /// of periods are short, no list of predecessors or run cycles is empty, and no deadline lies more than
-/// `MAX_DEADLINE_DAYS` behind its input arrival. All else that a block demands holds by the types. Looks at each
+/// `MAX_DEADLINE_DAYS` after its input arrival. The types ensure all else that a block requires. Looks at each
 /// definition once.
 pub fn are_definitions(alloc: Global, definitions: &Definitions) -> Result<bool, AllocError>
     ensures { IfOk result (λ b. IsTrue b ↔ AreDefinitions definitions.now) }

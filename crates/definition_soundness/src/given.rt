@@ -18,7 +18,7 @@ pub(crate) trait Given: Drop {
         ensures { IfOk result (λ b. IsTrue b ↔ IsGiven name.now self.now) };
 }
 
-// Whether it is given what is defined by the name, where there is such a definition.
+// Whether some good records make what is defined by the name, if anything is.
 fn name_is_given<D: Given>(
     alloc: Global,
     definitions: &ByName<D>,
@@ -51,7 +51,7 @@ fn names_are_given<D: Given>(
     Ok(true)
 }
 
-/// Whether all are given.
+/// Whether some good records make each of them.
 pub(crate) fn all_given<D: Given>(
     alloc: Global,
     definitions: &ByName<D>,

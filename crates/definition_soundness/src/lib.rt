@@ -1,4 +1,4 @@
-//! Whether definitions are such as data blocks give, where they were read from a place that anyone may have written to.
+//! Whether definitions are such as data blocks give, where anyone may have written what they were read from.
 #![tactic(auto)]
 
 mod applications;

@@ -43,7 +43,7 @@ fn push_list(rt: &impl Abort, links: &mut Vec<Link>, text: &str) {
     }
 }
 
-// The lists of a text, parted by `;`.
+// The lists of a text, separated by `;`.
 fn lists(rt: &impl Abort, alloc: Global, text: &str) -> Links {
     let mut links = Vec::new(alloc);
     for list in text.split(';') {
@@ -204,7 +204,7 @@ fn row(text: &str) -> Option<PlacedRow> {
     })
 }
 
-// The rows of a text, parted by `;`.
+// The rows of a text, separated by `;`.
 fn rows(rt: &impl Abort, alloc: Global, text: &str) -> Rows {
     let mut rows = Vec::new(alloc);
     for part in text.split(';') {

@@ -9,8 +9,8 @@ pub record Leads (old new : List Pair) (change : PairChange) : Type 0 where
   pub removed : (pair : Pair) → Contains change.removed pair ↔ (Contains old pair × (Contains new pair → ⊥))
   pub added : (pair : Pair) → Contains change.added pair ↔ (Contains new pair × (Contains old pair → ⊥))
 
--- the change is exactly the difference between the old pairs and the new: it removes what stood and is a pair no more,
--- and adds what is a pair and did not stand; and of each pair it can be told whether it is one of these
+-- the change is exactly the difference between the old pairs and the new: it removes each old pair that is not a new
+-- one, adds each new pair that was not an old one, and for each pair it is decidable whether it is one of these
 pub record LeadsExactly (old : List Pair) (IsNew : Pair → Type 0) (change : PairChange) : Type 0 where
   pub removed : (pair : Pair) → Contains change.removed pair ↔ (Contains old pair × (IsNew pair → ⊥))
   pub added : (pair : Pair) → Contains change.added pair ↔ (IsNew pair × (Contains old pair → ⊥))

@@ -59,13 +59,13 @@ NoRowPrecedesItself =
     (rows : List PlacedRow) (links : List Link) → SerialsDiffer rows → (serial : ℕ)
     → PairEdge rows links serial serial → ⊥
 
--- a comparison is the order that a relation tells, in which only equal values tie, and tests agree with it
+-- a comparison is the order of a relation, in which only equal values tie, and tests agree with it
 pub record IsOrderBy {X : Type 0} (cmp : X → X → Ordering) (Before : X → X → Type 0) : Type 0 where
   pub strict : IsStrictOrder Before
   pub total : IsTotalOrder cmp
   pub ranks : Ranks cmp Before
 
--- links compare by their names: an order that a relation tells, in which links of the same names tie, and no others
+-- links compare by their names: the order of a relation, in which links of the same names tie, and no others
 pub record IsOrderOfNames : Type 0 where
   pub strict : IsStrictOrder LinkBefore
   pub total : IsTotalOrder link_cmp

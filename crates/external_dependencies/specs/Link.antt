@@ -27,11 +27,11 @@ pub record KeepsNames (links kept : List Link) : Type 0 where
   pub only : (link : Link) → Contains kept link → Contains links link
   pub all : (link : Link) → Contains links link → (stays : Link) × Contains kept stays × HaveSameNames link stays
 
--- the predecessor stands in the list of the application, with that limit in hours, or with none
+-- the predecessor is in the list of the application, with that limit in hours, or with none
 abbrev pub ListsWithin : List Link → List ℕ → List ℕ → Option ℕ → Type 0
 ListsWithin links app predecessor within =
     Contains links (record { app = app; predecessor = predecessor; within = within })
 
--- the predecessor stands in the list of the application
+-- the predecessor is in the list of the application
 abbrev pub Lists : List Link → List ℕ → List ℕ → Type 0
 Lists links app predecessor = (within : Option ℕ) × ListsWithin links app predecessor within

@@ -15,15 +15,15 @@ pub record IsRing {V : Type 0} (Edge : V → V → Type 0) (ring : List V) : Typ
   pub next : (k : ℕ) (d : V) → k + 1 < length ring → Edge (slice_index_or ring k d) (slice_index_or ring (k + 1) d)
   pub closes : (d : V) → Edge (slice_index_or ring (length ring - 1) d) (slice_index_or ring 0 d)
 
--- the node stands on a ring
+-- the node is on a ring
 abbrev pub OnRing : {V : Type 0} → (V → V → Type 0) → V → Type 0
 OnRing {V} Edge node = (ring : List V) × IsRing Edge ring × Contains ring node
 
--- the application stands on a loop of lists: a ring of different applications, each in the list of the one before
+-- the application is on a loop of lists: a ring of different applications, each in the list of the one before
 abbrev pub OnLoop : List Link → List ℕ → Type 0
 OnLoop links app = OnRing (Lists links) app
 
--- the least application on a loop, or none where no application stands on one
+-- the least application on a loop, or none if no application is on one
 abbrev pub IsLeastOnLoop : List Link → Option (List ℕ) → Type 0
 IsLeastOnLoop links None = (app : List ℕ) → OnLoop links app → ⊥
 IsLeastOnLoop links (Some least) =

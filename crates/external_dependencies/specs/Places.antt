@@ -1,10 +1,10 @@
--- Words of private contracts alone: applications by their places in a list of names.
+-- For private contracts only: applications by their places in a list of names.
 use Rattle.std.specs.Prelude.{◌≡◌, ℕ, ◌<◌, ◌↔◌, List, [], length, slice_index_or, Contains}
 use Rattle.external_dependencies.specs.declared.links.Link.{Link}
 use Rattle.external_dependencies.specs.Link.{Lists}
 use Rattle.external_dependencies.specs.Walk.{Edge}
 
--- the places of the names that stand as predecessors in the links
+-- the places of the names that are predecessors in the links
 abbrev pub ArePlaces : List (List ℕ) → List Link → List ℕ → Type 0
 ArePlaces names list found =
     (place : ℕ) → Contains found place

@@ -1,4 +1,4 @@
--- Words of private contracts alone: what a change may reach, in order.
+-- For private contracts only: what a change may reach, in order.
 use Rattle.std.specs.Prelude.{◌≡◌, ◌↔◌, ℕ, List, Contains}
 use Rattle.std.specs.Cmp.Lexicographic.{slice_cmp}
 use Rattle.std.specs.Ordering.{nat_cmp}

@@ -12,6 +12,6 @@ IsRising cmp xs = AllPairs (λ x y. cmp x y ≡ Less) xs
 abbrev pub HaveSame : {X : Type 0} → List X → List X → Type 0
 HaveSame {X} xs ys = (x : X) → Contains xs x ↔ Contains ys x
 
--- a list in rising order is told by its elements alone
+-- a list in rising order is determined by its elements alone
 abbrev pub RisingIsUnique : {X : Type 0} → (X → X → Ordering) → Type 0
 RisingIsUnique {X} cmp = (xs ys : List X) → IsRising cmp xs → IsRising cmp ys → HaveSame xs ys → xs ≡ ys

@@ -1,4 +1,4 @@
--- Words of private contracts alone: what a search through a graph has seen.
+-- For private contracts only: what a search through a graph has seen.
 use Rattle.std.specs.Prelude.{◌≡◌, ◌≢◌, ℕ, ◌+◌, ◌<◌, ◌≤◌, ◌⊎◌, Bool, true, false, not, List, Contains}
 use Rattle.std.specs.Prelude.{count_by, length, slice_index, slice_index_or}
 

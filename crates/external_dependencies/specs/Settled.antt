@@ -6,7 +6,7 @@ use Rattle.external_dependencies.specs.declared.pairs.Pair.{Pair}
 use Rattle.external_dependencies.specs.declared.rows.PlacedRow.{PlacedRow}
 use Rattle.external_dependencies.specs.Pair.{IsPairOf}
 
--- each serial stands once
+-- no serial appears twice
 abbrev pub IsOnce : List PlacedRow → Type 0
 IsOnce rows = (p q : PlacedRow) → Contains rows p → Contains rows q → p.row.serial ≡ q.row.serial → p ≡ q
 

@@ -1,7 +1,7 @@
 use std::alloc::{AllocError, Global};
 
-// A search for the strongly connected components of a graph, by Tarjan's way, with a stack of its own. What it finds
-// is a proposal: no contract says what it is, and whoever takes it checks it.
+// Tarjan's search for the strongly connected components of a graph, with a stack of its own. No contract says what it
+// finds: its caller checks the result before using it.
 #[derive(Drop)]
 struct Search {
     // By node: when it was reached, counted from 1; 0 before, and the greatest number once its component is closed.
@@ -12,11 +12,11 @@ struct Search {
     followed: Vec<usize>,
     // By node: the number of its component.
     component: Vec<usize>,
-    // The nodes that lead from the first one to where the search stands.
+    // The path from the first node to the current one.
     path: Vec<usize>,
     // The nodes that were reached and whose components are not closed yet.
     open: Vec<usize>,
-    // How many nodes were reached, and how many stand in closed components.
+    // How many nodes were reached, and how many are in closed components.
     nodes_reached: usize,
     nodes_closed: usize,
 }
@@ -64,7 +64,7 @@ impl Search {
         }
     }
 
-    // Goes one step on; false where the path has come to its end.
+    // Does one step; false if the path has come to its end.
     fn step(&mut self, targets: &[Vec<usize>]) -> Result<bool, AllocError> {
         let Some(node) = self.path.last().copied() else {
             return Ok(false);

@@ -78,8 +78,8 @@ impl Graph {
         Ok(None)
     }
 
-    // How many nodes from the first on surely don't return to themselves: where the numbers fall along the edges, a
-    // node that returns shares its number. 0 where they don't.
+    // How many nodes, from the first on, certainly don't lead back to themselves. If the numbers fall along the edges,
+    // a node that leads back to itself shares its number with another. 0 if they don't fall.
     fn settled(&self, alloc: Global, numbers: &[usize]) -> Result<usize, AllocError>
         ensures { IfOk result (λ count. (node : ℕ) → node < count → node < length self.now →
             ReturnsTo self.now node → ⊥) }
@@ -122,7 +122,7 @@ fn places(alloc: Global, names: &[App], list: &[Link]) -> Result<Vec<usize>, All
     Ok(found)
 }
 
-// Notes the targets of a node that were not reached before, and tells whether one of them is the start.
+// Notes the targets of a node that were not reached before, and returns whether one of them is the start.
 fn visit(
     targets: &[usize],
     node: usize,

@@ -34,7 +34,7 @@ pub fn pairs_have_no_loop()
     ensures itself { NoRowPrecedesItself }
 {}
 
-/// Pairs, links and arrivals in rising order are told by their elements alone.
+/// Pairs, links and arrivals in rising order are determined by their elements alone.
 pub fn rising_is_unique()
     ensures pairs { RisingIsUnique pair_cmp }
     ensures links { RisingIsUnique link_cmp }

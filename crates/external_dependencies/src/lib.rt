@@ -1,8 +1,7 @@
 //! The nearest predecessors of occurrences, the pairs that they make, and loops in predecessor lists.
 //!
-//! [`Links`] are the lists of predecessors in force, and [`Rows`] the occurrences. [`find_loop`] tells whether the
-//! lists have a loop, and [`resolve_all`] gives the [`Pairs`] of each open occurrence with its [`nearest`]
-//! predecessors:
+//! [`Links`] are the lists of predecessors in force, and [`Rows`] the occurrences. [`find_loop`] checks the lists for
+//! a loop, and [`resolve_all`] gives the [`Pairs`] of each open occurrence with its [`nearest`] predecessors:
 //!
 //! ```text
 //! let links = Links::from_vec(vec![in alloc; Link { app: a, predecessor: b, within: None }]?);

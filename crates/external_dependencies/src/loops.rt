@@ -8,8 +8,8 @@ use crate::rising::into_rising;
 use std::alloc::{AllocError, Global};
 use work_calendars::App;
 
-/// The least application, in byte order, that stands on a loop of two or more different applications, each in the
-/// list of the one before; `None` if there is no loop. An application that names itself alone makes none.
+/// The least application, in byte order, on a loop of two or more different applications, each in the list of the one
+/// before; `None` if there is no loop. An application that names itself alone makes none.
 pub fn find_loop(alloc: Global, links: &Links) -> Result<Option<App>, AllocError>
     ensures { IfOk result (λ found. IsLeastOnLoop links.now found) }
 {

@@ -21,7 +21,7 @@ use std::alloc::{AllocError, Global};
 
 /// What leads from the pairs before a change to those after it: exactly the difference. `touch` names all that the
 /// change touches, `links` are the lists in force after it, and `rows` and `pairs` hold what it reaches; they may hold
-/// more. Other rows and pairs are not asked for.
+/// more. Other rows and pairs are not needed.
 pub fn resolve_touched(
     alloc: Global,
     rows: &Rows,

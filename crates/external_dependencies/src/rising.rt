@@ -3,7 +3,7 @@ ghost use Rattle.std.specs.declared.cmp.Ordering.TheVariants.{Equal};
 ghost use Rattle.std.specs.FinMap.{IsAntisymmetric};
 ghost use Rattle.external_dependencies.specs.Rising.{IsRising};
 
-// The items in rising order, of those that tie one.
+// The items in rising order; of those that compare as equal, one.
 pub(crate) fn into_ordered<T: Ord + Copy>(mut items: Vec<T>) -> Vec<T>
     ensures rising { IsRising T.cmp result.items }
     ensures only { (x : T) → Contains result.items x → Contains items.items x }

@@ -4,16 +4,16 @@ use occurrences::{Place, Row};
 use std::alloc::Global;
 use std::marker::Model;
 
-/// An occurrence, and where it stands.
+/// An occurrence, and the place that it is in.
 #[derive(Clone, Copy, Debug, PartialEq, Eq, Hash)]
 pub struct PlacedRow {
     /// The occurrence.
     pub row: Row,
-    /// Where it stands.
+    /// The place that it is in.
     pub place: Place,
 }
 
-/// Occurrences and where they stand, in any order. Contracts see them as a list.
+/// Occurrences with their places, in any order. Contracts see them as a list.
 #[derive(Drop)]
 pub struct Rows {
     rows: Vec<PlacedRow>,

@@ -1,4 +1,4 @@
--- What was found is brought into lists.
+-- What was fetched is loaded into lists.
 use Rattle.std.specs.Prelude.{◌≡◌, ◌+◌, ℕ, Bool, true, false, not, nat_lt, List, Contains, Option, Result, None, Some}
 use Rattle.std.specs.Prelude.{IfErr, OnErr, OnOk}
 use Rattle.occurrences.specs.declared.place.Deletion.{Deletion}
@@ -18,13 +18,13 @@ pub record Brings (after was now : Content) (result : Result (Unit {0}) LookupFa
   pub err : OnErr result (now ≡ was)
   pub memory : IfErr result (λ fault. fault ≡ Memory)
 
--- the deletions stand there
+-- the deletions are there
 abbrev pub Stand : Rest → List Deletion → Type 0
 Stand rest deletions = (deletion : Deletion) → Contains deletions deletion
     → rest.deletions deletion.row.serial ≡ Some deletion
 
--- what the lists had they have; where the deletions stand in the rest, of which the lists had a part, they have a part
--- of it still, and once all are brought they have each; else memory was refused
+-- they still have what they had; if the rest, of which the lists had a part, has the deletions, they still have a part
+-- of it, and once all are loaded they have each; else memory was refused
 pub record BringsEach (deletions : List Deletion) (was now : Content) (result : Result (Unit {0}) LookupFault) : Type 0
   where
     pub grows : Grows was now
@@ -44,11 +44,11 @@ abbrev pub ends_by : Option Bounds → ℕ → Bool
 ends_by None moment = false
 ends_by (Some b) moment = not (nat_lt moment b.plan_end)
 
--- the last row is there that is asked for
+-- the last row that is read is there
 abbrev pub IsAnswered : Ask → Rest → Content → Type 0
 IsAnswered ask rest c = HasLast rest.history c.sets.history ask.app (ask.moment + 1)
 
--- they know what stands in history and among the deletions under these serials
+-- they know what is in history and among the deletions under these serials
 pub record KnowsAll (completed deleted : List ℕ) (rest : Rest) (c : Content) : Type 0 where
   pub history : (serial : ℕ) → Contains completed serial → Knows rest c serial
   pub deletions : (serial : ℕ) → Contains deleted serial → KnowsDeletion rest c serial

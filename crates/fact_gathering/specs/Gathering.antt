@@ -1,4 +1,4 @@
--- What lists lack of history and of the deletions is found out in the tables and brought into them.
+-- What lists lack of history and of the deletions is fetched from the tables and loaded into them.
 use Rattle.std.specs.Prelude.{◌≡◌, ◌≢◌, false, IsTrue, Result, IfErr, OnOk}
 use Rattle.sqlite.specs.Held.{Held, state}
 use Rattle.sqlite.specs.State.{HasCleanDisk, IsUnchanged, State, Survives}
@@ -15,7 +15,7 @@ use Rattle.fact_lookups.specs.Finding.{StopsFor}
 use Rattle.fact_lookups.specs.declared.faults.LookupFault.{LookupFault}
 use Rattle.fact_lookups.specs.declared.faults.LookupFault.TheVariants.{Untold}
 
--- what the tables tell beside lists
+-- what the tables encode apart from the lists
 abbrev pub told_rest : Tables → Rest
 told_rest all = record { history = told_history all; deletions = told_deletions all; jobs = told_jobs all }
 
@@ -23,12 +23,12 @@ told_rest all = record { history = told_history all; deletions = told_deletions 
 abbrev pub rest_in : State → Rest
 rest_in s = told_rest (tables_of s.now.trees)
 
--- the content of the lists, with the rest as the tables tell it
+-- the content of the lists, with the rest as the tables encode it
 abbrev pub told_with : Tables → Content → Content
 told_with all lists = with_rest (told_rest all) lists
 
--- the connection is over tables that have the content of the lists with the rest as they tell it, which is sound, and
--- of the rest the lists have a part
+-- the connection is over tables that have the content of the lists with the rest as they encode it, which is sound,
+-- and of the rest the lists have a part
 pub record AreOfTables (s : State) (lists : Content) : Type 0 where
   pub schema : HasTables s.now.schema
   pub content : IsContentOf (tables_of s.now.trees) (told_with (tables_of s.now.trees) lists)
@@ -40,11 +40,11 @@ pub record Grows (was now : Content) : Type 0 where
   pub more : (rest : Rest) → HasMore rest was now
   pub jobs : now.jobs ≡ was.jobs
 
--- A call that brings more into lists. What they had they have, and all else of them stays. Over the tables of the lists
--- an Ok has what was sought, of the rest they have a part still, and each row told its fact. Over the tables of a plan
--- an Ok sees what was seen. Where the connection was open, nothing is changed by an Ok, it fails for want of memory,
--- for a row that tells no fact or for one of the common causes, and no more is undone than was not committed. A crash
--- finds what it found before.
+-- A call that loads more into lists. They keep what they had, and all else of them stays. Over the tables of the lists
+-- an Ok has what was sought, the lists still have a part of the rest, and no row was malformed. Over the tables of a
+-- plan an Ok sees what was seen. If the connection was open, an Ok changes nothing, it fails for lack of memory, for a
+-- malformed row or for one of the four general errors, and at most what was not committed is undone. A crash finds
+-- what it found before.
 pub record Gathers {S T : Type 0} (g : Ghosts S) (old new : Held S) (was now : Content) (result : Result T LookupFault)
     (IsReady : Rest → Content → Type 0) : Type 0 where
   pub ready : HasCleanDisk (state g new) → ∥ AreOfTables (state g old) was ∥₁

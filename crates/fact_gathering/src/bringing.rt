@@ -1,4 +1,4 @@
-// What was found is brought into lists.
+// What was fetched is loaded into lists.
 
 ghost use Rattle.plan_store.specs.Contents.{content_of};
 ghost use Rattle.plan_store.specs.Parts.{with_completed, with_deleted};
@@ -9,7 +9,7 @@ use occurrences::{Deletion, Row};
 use plan_store::Content;
 use std::alloc::{AllocError, Global};
 
-/// Brings a row of history into the lists, unless one of its serial stands there.
+/// Loads a row of history into the lists, unless they have one of its serial.
 pub(crate) fn bring_row(alloc: Global, lists: &mut Content, row: Row) -> Result<(), LookupFault>
     ensures { Brings (with_completed row (content_of lists.old)) (content_of lists.old)
         (content_of lists.new) result }
@@ -20,7 +20,7 @@ pub(crate) fn bring_row(alloc: Global, lists: &mut Content, row: Row) -> Result<
     }
 }
 
-/// Brings a deletion into the lists, unless one of its serial stands there.
+/// Loads a deletion into the lists, unless they have one of its serial.
 pub(crate) fn bring_deletion(
     alloc: Global,
     lists: &mut Content,
@@ -35,7 +35,7 @@ pub(crate) fn bring_deletion(
     }
 }
 
-/// Brings deletions into the lists, each unless one of its serial stands there.
+/// Loads deletions into the lists, each unless they have one of its serial.
 pub(crate) fn bring_deletions(
     alloc: Global,
     lists: &mut Content,

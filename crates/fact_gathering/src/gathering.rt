@@ -1,4 +1,4 @@
-// What stands in the tables under serials, and from a moment on, is brought into lists.
+// What the tables have under serials, and from a moment on, is loaded into lists.
 
 ghost use Rattle.std.specs.Prelude.{ℕ, Contains};
 ghost use Rattle.plan_store.specs.Contents.{content_of};
@@ -14,7 +14,7 @@ use sqlite::{Alter, Connection};
 use std::alloc::Global;
 use work_calendars::Moment;
 
-// Finds out what stands in history under the serial.
+// Loads what history has under the serial.
 fn find_completed<S: Alter>(
     alloc: Global,
     conn: &mut Connection<S>,
@@ -31,7 +31,7 @@ fn find_completed<S: Alter>(
     }
 }
 
-// Finds out which deletion has the serial.
+// Loads the deletion that has the serial.
 fn find_deleted<S: Alter>(
     alloc: Global,
     conn: &mut Connection<S>,
@@ -48,7 +48,7 @@ fn find_deleted<S: Alter>(
     }
 }
 
-/// Finds out what stands in history under each of the serials.
+/// Loads what history has under each of the serials.
 pub(crate) fn find_each_completed<S: Alter>(
     alloc: Global,
     conn: &mut Connection<S>,
@@ -67,7 +67,7 @@ pub(crate) fn find_each_completed<S: Alter>(
     Ok(())
 }
 
-/// Finds out which deletion has each of the serials.
+/// Loads the deletion that has each of the serials.
 pub(crate) fn find_each_deleted<S: Alter>(
     alloc: Global,
     conn: &mut Connection<S>,
@@ -87,7 +87,7 @@ pub(crate) fn find_each_deleted<S: Alter>(
     Ok(())
 }
 
-/// Finds out the deletions by the operator that arrive at the moment or after it.
+/// Loads the deletions by the operator that arrive at the moment or after it.
 pub(crate) fn find_barring<S: Alter>(
     alloc: Global,
     conn: &mut Connection<S>,

@@ -1,4 +1,4 @@
-// What is asked of history by an application and a moment is brought into lists.
+// The rows of history that are read by an application and a moment are loaded into lists.
 
 ghost use Rattle.std.specs.Prelude.{Contains};
 ghost use Rattle.plan_parts.specs.declared.asks.Ask.{Ask as AskValue};
@@ -15,7 +15,7 @@ use plan_store::{Content, Need};
 use sqlite::{Alter, Connection};
 use std::alloc::{AllocError, Global};
 
-// Finds out the last row of the application at the moment or before it.
+// Loads the last row of the application at the moment or before it.
 fn find_last<S: Alter>(
     alloc: Global,
     conn: &mut Connection<S>,
@@ -32,7 +32,7 @@ fn find_last<S: Alter>(
     }
 }
 
-// Finds out each of the last rows that are asked for.
+// Loads each of the last rows that are read.
 fn find_lasts<S: Alter>(
     alloc: Global,
     conn: &mut Connection<S>,
@@ -52,7 +52,7 @@ fn find_lasts<S: Alter>(
     Ok(())
 }
 
-/// Finds out the last rows that a window for the need asks for.
+/// Loads the last rows that a window for the need reads.
 pub(crate) fn find_asked<S: Alter>(
     alloc: Global,
     conn: &mut Connection<S>,

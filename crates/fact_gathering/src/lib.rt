@@ -1,5 +1,5 @@
-//! What lists lack of history and of the deletions is looked up in the tables of a plan and brought into them: before
-//! a window is lent, and before a change is made.
+//! What lists lack of history and of the deletions is fetched from the tables of a plan and loaded into them: before a
+//! window is lent, and before a change is made.
 #![tactic(auto)]
 
 mod bringing;

@@ -1,4 +1,4 @@
-// What a window for a need lacks, or a change, is brought into lists.
+// What a window for a need lacks, or a change, is loaded into lists.
 
 ghost use Rattle.std.specs.Prelude.{◌≡◌, Some};
 ghost use Rattle.plan_store.specs.Asked.{AsksKey};
@@ -20,7 +20,7 @@ use sqlite::{Alter, Connection};
 use std::alloc::{AllocError, Global};
 use work_calendars::Moment;
 
-/// Brings into the lists what a window for the need asks of history. The deletions that it shows they have.
+/// Loads into the lists what a window for the need reads of history. They have the deletions that it shows.
 pub fn gather<S: Alter>(
     alloc: Global,
     conn: &mut Connection<S>,
@@ -38,7 +38,7 @@ pub fn gather<S: Alter>(
     }
 }
 
-// What a statement on the key asks.
+// What a statement on the key reads.
 fn gather_for_key<S: Alter>(
     alloc: Global,
     conn: &mut Connection<S>,
@@ -54,8 +54,8 @@ fn gather_for_key<S: Alter>(
     }
 }
 
-// Finds out the predecessors of the key's live row, where that stands in history and the lists have the last rows that
-// a statement on the key asks for.
+// Loads the predecessors of the key's live row, if that is in history and the lists have the last rows that a
+// statement on the key reads.
 fn find_live<S: Alter>(
     alloc: Global,
     conn: &mut Connection<S>,
@@ -72,7 +72,7 @@ fn find_live<S: Alter>(
     }
 }
 
-// What a statement on the long-term plan asks.
+// What a statement on the long-term plan reads.
 fn gather_for_plan<S: Alter>(
     alloc: Global,
     conn: &mut Connection<S>,
@@ -84,7 +84,7 @@ fn gather_for_plan<S: Alter>(
     find_asked(alloc, conn, lists, &Need::LongTerm)
 }
 
-/// Brings into the lists what the change names of history and of the deletions.
+/// Loads into the lists what the change names of history and of the deletions.
 pub fn gather_for_change<S: Alter>(
     alloc: Global,
     conn: &mut Connection<S>,
@@ -100,7 +100,7 @@ pub fn gather_for_change<S: Alter>(
     }
 }
 
-// Finds out the deletions that the change needs for its plan end, and what stands under the serials.
+// Loads the deletions that the change needs for its plan end, and what is under the serials.
 fn find_named<S: Alter>(
     alloc: Global,
     conn: &mut Connection<S>,
@@ -118,7 +118,7 @@ fn find_named<S: Alter>(
     }
 }
 
-// Finds out the deletions that keep a planning statement from making a key once these bounds are set.
+// Loads the deletions that keep a planning statement from making a key once these bounds are set.
 fn find_bars<S: Alter>(
     alloc: Global,
     conn: &mut Connection<S>,
@@ -134,7 +134,7 @@ fn find_bars<S: Alter>(
     }
 }
 
-// The same. Where the plan end isn't set back, the lists have them.
+// The same. If the plan end isn't set back, the lists have them.
 fn find_bars_from<S: Alter>(
     alloc: Global,
     conn: &mut Connection<S>,
@@ -160,7 +160,7 @@ fn ends_by(bounds: Option<Bounds>, moment: Moment) -> bool
     }
 }
 
-// Finds out what stands in history and among the deletions under the serials.
+// Loads what history and the deletions have under the serials.
 fn find_unknown<S: Alter>(
     alloc: Global,
     conn: &mut Connection<S>,

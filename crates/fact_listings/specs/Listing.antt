@@ -1,4 +1,4 @@
--- What a listing out of the tables hands out, and what it leaves.
+-- The items that a listing of the tables yields, and what it leaves.
 use Rattle.std.specs.Prelude.{◌≡◌, ◌≢◌, ℕ, false, List, ◌∷◌, ◌++◌, Result, IfErr, IfOk}
 use Rattle.sqlite.specs.Held.{Held, state}
 use Rattle.sqlite.specs.State.{HasCleanDisk, IsUnchanged, State, Survives}
@@ -13,7 +13,7 @@ use Rattle.table_facts.specs.Content.{IsContentOf}
 use Rattle.fact_listings.specs.declared.faults.ListedFault.{ListedFault}
 use Rattle.fact_listings.specs.declared.faults.ListedFault.TheVariants.{Memory, Untold, Sink, Store}
 
--- the sink took the first items and, where it is to blame, refused the next
+-- the sink accepted the first items and, if it is to blame, refused the next
 abbrev pub EndsSo : {K : Type 0} → (Takes Refuses : K → Shown → K → Type 0) → K → List Shown → List Shown → K
     → ListedFault → Type 0
 EndsSo Takes Refuses old done rest new Memory = TakesAll Takes old done new
@@ -23,7 +23,7 @@ EndsSo {K} Takes Refuses old done rest new (Sink _) =
     × (rest ≡ item ∷ later) × TakesAll Takes old done last × Refuses last item new
 EndsSo Takes Refuses old done rest new (Store e) = TakesAll Takes old done new
 
--- the sink took the first items of a listing
+-- the sink accepted the first items of a listing
 pub record HandsPart {K : Type 0} (Takes Refuses : K → Shown → K → Type 0) (IsWhole : List Shown → Type 0) (old new : K)
     (fault : ListedFault) : Type 0 where
   pub done : List Shown
@@ -31,30 +31,30 @@ pub record HandsPart {K : Type 0} (Takes Refuses : K → Shown → K → Type 0)
   pub whole : IsWhole (done ++ rest)
   pub ends : EndsSo Takes Refuses old done rest new fault
 
--- why a listing ended: memory was refused as a row was told, a row tells none, or the sink refused it, and nothing is
--- changed; or the tables could not be read, for one of the common causes
+-- why a listing ended: memory was refused as a row was decoded, a row is malformed, or the sink refused it, and
+-- nothing is changed; or the tables could not be read, for one of the four general errors
 abbrev pub StopsFor : State → State → ListedFault → Type 0
 StopsFor old new Memory = IsUnchanged old new
 StopsFor old new Untold = IsUnchanged old new
 StopsFor old new (Sink _) = IsUnchanged old new
 StopsFor old new (Store e) = MayFail old new e
 
--- the tables of the plan have the content, which is sound, and each row stands in this table once
+-- the tables of the plan have the content, which is sound, and each row is in this table once
 pub record HoldsContent (s : State) (t : Table) (c : Content) : Type 0 where
   pub schema : HasTables s.now.schema
   pub content : IsContentOf (tables_of s.now.trees) c
   pub sound : IsSound c
   pub rowids : HaveRowids (tables_of s.now.trees t)
 
--- where the disk gives back what was written, and the tables have the content, be it known as a mere fact
+-- if the disk gives back what was written, every content that the tables have, known as a mere fact, passes the test
 abbrev pub OfContent : State → State → Table → (Content → Type 0) → Type 0
 OfContent old new t Is = HasCleanDisk new → (c : Content) → ∥ HoldsContent old t c ∥₁ → Is c
 
--- Over the tables of a plan that have a sound content, with each row in this table once, each row tells its fact, an Ok
--- is the number of all items of the listing, which the sink took in its order, and an error means that it took the first
--- of them and, where it is to blame, refused the next. Whatever the tables have, nothing is changed by an Ok; it fails by
--- the sink, for want of memory, for a row that tells no fact or for one of the common causes, and no more is undone than
--- was not committed; a crash finds what it found before.
+-- Over the tables of a plan that have a sound content, with each row in this table once, no row is malformed, an Ok is
+-- the number of all items of the listing, which the sink accepted in its order, and an error means that it accepted
+-- the first of them and, if it is to blame, refused the next. Whatever the tables have, an Ok changes nothing; it
+-- fails by the sink, for lack of memory, for a malformed row or for one of the four general errors, and at most what
+-- was not committed is undone; a crash finds what it found before.
 pub record Lists {S K : Type 0} (g : Ghosts S) (old new : Held S) (t : Table) (Takes Refuses : K → Shown → K → Type 0)
     (before after : K) (IsWhole : Content → List Shown → Type 0) (result : Result ℕ ListedFault) : Type 0 where
   pub all : OfContent (state g old) (state g new) t (λ c. IfOk result (HandsAll Takes (IsWhole c) before after))

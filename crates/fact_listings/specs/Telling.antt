@@ -1,4 +1,4 @@
--- What rows tell on their way to a listing.
+-- What rows on their way to a listing encode.
 use Rattle.std.specs.Prelude.{◌≡◌, ℕ, ◌+◌, List, ◌∷◌, ◌++◌, length, map}
 use Rattle.sqlite.specs.Order.{Row as Values}
 use Rattle.occurrences.specs.declared.row.Row.{Row}
@@ -10,7 +10,7 @@ use Rattle.fact_listings.specs.declared.faults.ListedFault.TheVariants.{Memory, 
 abbrev pub marked : {X : Type 0} → (X → Row) → (X → ℕ) → X → Shown
 marked row_of letter_of x = Marked (row_of x) (letter_of x)
 
--- the sink took the fact that the row tells, and it was counted
+-- the sink accepted the fact that the row encodes, and it was counted
 pub record TakesRow {X K : Type 0} (values_of : X → Values) (row_of : X → Row) (letter_of : X → ℕ)
     (Takes : K → Shown → K → Type 0) (old : K) (before : ℕ) (row : Values) (new : K) (after : ℕ) : Type 0 where
   pub fact : X
@@ -18,7 +18,7 @@ pub record TakesRow {X K : Type 0} (values_of : X → Values) (row_of : X → Ro
   pub taken : Takes old (marked row_of letter_of fact) new
   pub counted : after ≡ before + 1
 
--- memory was refused, the row has the values of nothing that has its form, or the sink refused the fact that it tells
+-- memory was refused, the row is malformed, or the sink refused the fact that it encodes
 abbrev pub RefusesRow : {X K : Type 0} → (X → Type 0) → (X → Values) → (X → Row) → (X → ℕ) → (K → Shown → K → Type 0)
     → K → Values → K → ListedFault → Type 0
 RefusesRow Is values_of row_of letter_of Refuses old row new Memory = new ≡ old
@@ -28,7 +28,7 @@ RefusesRow {X} Is values_of row_of letter_of Refuses old row new (Sink _) =
     (fact : X) × (values_of fact ≡ row) × Refuses old (marked row_of letter_of fact) new
 RefusesRow Is values_of row_of letter_of Refuses old row new (Store e) = ⊥
 
--- the sink took the facts that all rows of an answer tell, and they were counted
+-- the sink accepted the facts that all rows of an answer encode, and they were counted
 pub record TellsAll {X K : Type 0} (values_of : X → Values) (row_of : X → Row) (letter_of : X → ℕ)
     (Takes : K → Shown → K → Type 0) (IsWhole : List Values → Type 0) (old new : K) (count : ℕ) : Type 0 where
   pub facts : List X
@@ -36,7 +36,7 @@ pub record TellsAll {X K : Type 0} (values_of : X → Values) (row_of : X → Ro
   pub taken : TakesAll Takes old (map (marked row_of letter_of) facts) new
   pub counted : count ≡ length facts
 
--- the sink took these facts, and the fault says why not the next row's
+-- the sink accepted these facts, and the fault says why not the next row's
 abbrev pub EndsTelling : {X K : Type 0} → (X → Type 0) → (X → Values) → (X → Row) → (X → ℕ)
     → (Takes Refuses : K → Shown → K → Type 0) → K → List X → List Values → K → ListedFault → Type 0
 EndsTelling Is values_of row_of letter_of Takes Refuses old done rest new Memory =
@@ -50,7 +50,7 @@ EndsTelling {X} {K} Is values_of row_of letter_of Takes Refuses old done rest ne
 EndsTelling Is values_of row_of letter_of Takes Refuses old done rest new (Store e) =
     TakesAll Takes old (map (marked row_of letter_of) done) new
 
--- the sink took the facts that the first rows of an answer tell
+-- the sink accepted the facts that the first rows of an answer encode
 pub record TellsPart {X K : Type 0} (Is : X → Type 0) (values_of : X → Values) (row_of : X → Row) (letter_of : X → ℕ)
     (Takes Refuses : K → Shown → K → Type 0) (IsWhole : List Values → Type 0) (old new : K) (fault : ListedFault)
     : Type 0 where

@@ -6,9 +6,9 @@ use sqlite::Error;
 /// Why a listing ended before its last row.
 #[derive(Clone, Copy, Debug)]
 pub enum ListedFault {
-    /// Memory was refused as a row was told.
+    /// Memory was refused as a row was decoded.
     Memory,
-    /// A row tells no fact.
+    /// A row is malformed: it encodes no fact.
     Untold,
     /// The sink refused a row.
     Sink(SinkFault),

@@ -1,5 +1,4 @@
-//! Listings of what stands in the tables of a plan: history and the deletions, each row handed out before the next is
-//! read.
+//! Listings of the tables of a plan: history and the deletions, each row yielded before the next is read.
 #![tactic(auto)]
 
 mod faults;

@@ -25,8 +25,8 @@ fn name(app: &App) -> ValueRef<'_>
     ValueRef::Text(app.as_bytes())
 }
 
-/// Hands the sink the deletions of one application or of all, in the order of a listing, each before the next is read,
-/// and answers how many.
+/// Passes the sink the deletions of one application or of all, in the order of a listing, each before the next is
+/// read, and returns how many.
 pub fn list_deletions<S: Alter, K: RowSink>(
     alloc: Global,
     conn: &mut Connection<S>,
@@ -44,8 +44,8 @@ pub fn list_deletions<S: Alter, K: RowSink>(
     }
 }
 
-/// Hands the sink the rows of history of one application or of all, in the order of a listing, each before the next is
-/// read, and answers how many.
+/// Passes the sink the rows of history of one application or of all, in the order of a listing, each before the next
+/// is read, and returns how many.
 pub fn list_history<S: Alter, K: RowSink>(
     alloc: Global,
     conn: &mut Connection<S>,

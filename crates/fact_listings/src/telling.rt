@@ -1,4 +1,4 @@
-// Each row of a question is told and handed on.
+// Each row of a query is decoded and passed on.
 
 ghost use Rattle.std.specs.Prelude.{◌≡◌, ℕ, false, IfErr, IfOk};
 ghost use Rattle.sqlite.specs.Held.{state};
@@ -25,7 +25,7 @@ use std::marker::PhantomData;
 use table_lookups::{HandFault, Look, SinkFault, ValuesSink, hand};
 use table_reading::Told;
 
-/// What a row tells, and the letter with which a listing shows it.
+/// What a row encodes, and the letter with which a listing shows it.
 pub(crate) trait Marked: Told {
     ghost row_of: { Self → RowValue };
 
@@ -66,14 +66,14 @@ impl Marked for Deletion {
     }
 }
 
-// Tells each row that it takes, and hands on what it tells.
+// Decodes each row that it accepts, and passes on what that encodes.
 #[derive(Drop)]
 struct Teller<'a, T, K> {
     alloc: Global,
     sink: &'a mut K,
-    // how many it took
+    // how many it accepted
     count: usize,
-    // why it refused a row, where it did
+    // why it refused a row, if it did
     why: ListedFault,
     told: PhantomData<T>,
 }
@@ -120,8 +120,8 @@ impl<T: Marked + Drop, K: RowSink> ValuesSink for Teller<'_, T, K> {
     }
 }
 
-/// Hands the sink what each row tells that is asked for with these values, before the next is read, and answers how
-/// many.
+/// Passes the sink what each row encodes that the query matches with these values, before the next is read, and
+/// returns how many.
 pub(crate) fn tell_rows<T: Marked + Drop, S: Alter, K: RowSink>(
     alloc: Global,
     conn: &mut Connection<S>,

@@ -1,4 +1,4 @@
--- Deletions that are asked for by a moment.
+-- Deletions that are fetched by a moment.
 use Rattle.std.specs.Prelude.{◌≡◌, ◌≢◌, ◌≤◌, ◌↔◌, ℕ, List, Some, Contains}
 use Rattle.std.specs.List.{AllPairs}
 use Rattle.occurrences.specs.declared.place.Deletion.{Deletion}
@@ -14,7 +14,7 @@ pub record IsGoneFrom (c : Content) (moment : ℕ) (deletion : Deletion) : Type 
   pub reason : deletion.reason ≡ Operator
   pub late : moment ≤ deletion.row.key.ia
 
--- exactly these; and each serial once, where each rowid stands in the table once
+-- exactly these; and each serial once, if each rowid is in the table once
 pub record AreGoneFrom (all : Tables) (moment : ℕ) (c : Content) (found : List Deletion) : Type 0 where
   pub exactly : (deletion : Deletion) → Contains found deletion ↔ IsGoneFrom c moment deletion
   pub once : HaveRowids (all table.Deletion) → AllPairs (λ (a b : Deletion). a.row.serial ≢ b.row.serial) found

@@ -1,4 +1,4 @@
--- What a look-up finds out, and what it leaves.
+-- What a look-up fetches, and what it leaves.
 use Rattle.std.specs.Prelude.{◌≡◌, ◌≢◌, false, Result, IfErr, IfOk, OnOk}
 use Rattle.sqlite.specs.Held.{Held, state}
 use Rattle.sqlite.specs.State.{HasCleanDisk, IsUnchanged, State, Survives}
@@ -11,16 +11,16 @@ use Rattle.table_facts.specs.Content.{IsContentOf}
 use Rattle.fact_lookups.specs.declared.faults.LookupFault.{LookupFault}
 use Rattle.fact_lookups.specs.declared.faults.LookupFault.TheVariants.{Memory, Untold, Store}
 
--- why a fact was not found out: memory was refused as a row was told, or a row tells none, and nothing is changed; or
--- the tables could not be asked, for one of the common causes
+-- why a fact was not fetched: memory was refused as a row was decoded, or a row is malformed, and nothing is changed;
+-- or the query failed, for one of the four general errors
 abbrev pub StopsFor : State → State → LookupFault → Type 0
 StopsFor old new Memory = IsUnchanged old new
 StopsFor old new Untold = IsUnchanged old new
 StopsFor old new (Store e) = MayFail old new e
 
--- Over the tables of a plan that have a sound content, an Ok is what this has, and each row tells its fact. Whatever
--- they have, nothing is changed by an Ok, it fails for want of memory, for a row that tells no fact or for one of the
--- common causes, and no more is undone than was not committed; a crash finds what it found before.
+-- Over the tables of a plan that have a sound content, an Ok is what this has, and no row is malformed. Whatever they
+-- have, an Ok changes nothing, it fails for lack of memory, for a malformed row or for one of the four general errors,
+-- and at most what was not committed is undone; a crash finds what it found before.
 pub record FindsFact {S T : Type 0} (g : Ghosts S) (old new : Held S) (result : Result T LookupFault)
     (IsFound : Content → T → Type 0) : Type 0 where
   pub found : HasCleanDisk (state g new) → HasTables (state g old).now.schema → (c : Content)

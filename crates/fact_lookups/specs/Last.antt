@@ -2,7 +2,7 @@
 use Rattle.std.specs.Prelude.{◌≡◌, ◌≤◌, ℕ, List, Option, Some, None}
 use Rattle.occurrences.specs.declared.row.Row.{Row}
 
--- it stands there, and no other row of the application arrives from it to the moment
+-- it is there, and no other row of the application arrives from it to the moment
 pub record IsLast (history : ℕ → Option Row) (app : List ℕ) (moment : ℕ) (found : Row) : Type 0 where
   pub has : history found.serial ≡ Some found
   pub of : found.key.app ≡ app

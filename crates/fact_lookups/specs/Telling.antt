@@ -1,4 +1,4 @@
--- What rows tell.
+-- What rows encode.
 use Rattle.std.specs.Prelude.{◌≡◌, false, List, [], Contains, Option, Some, None, Result, Ok, Err, IfErr, IfOk, OnOk}
 use Rattle.std.specs.Prelude.{Vec}
 use Rattle.std.specs.declared.alloc.Global.{Global}
@@ -13,7 +13,7 @@ use Rattle.fact_lookups.specs.Finding.{StopsFor}
 use Rattle.fact_lookups.specs.declared.faults.LookupFault.{LookupFault}
 use Rattle.fact_lookups.specs.declared.faults.LookupFault.TheVariants.{Memory, Untold, Store}
 
--- what is told by what was found in a row, or why nothing is: no fact has its values, or memory was refused
+-- what the row that was found encodes, or why nothing is decoded: no fact has its values, or memory was refused
 abbrev pub told_by : {X E : Type 0} → Result (Option X) E → Result X LookupFault
 told_by (Ok (Some x)) = Ok x
 told_by (Ok None) = Err Untold
@@ -34,22 +34,22 @@ TellsNone Is values_of row (Store e) = ⊥
 abbrev pub HasUntold : {X : Type 0} → (X → Type 0) → (X → Row) → List Row → Type 0
 HasUntold {X} Is values_of rows = (row : Row) × Contains rows row × ((x : X) → Is x → values_of x ≡ row → ⊥)
 
--- so it is; or memory was refused
+-- that is so; or memory was refused
 abbrev pub TellsNot : {X : Type 0} → (X → Type 0) → (X → Row) → List Row → LookupFault → Type 0
 TellsNot Is values_of rows Memory = Unit {0}
 TellsNot Is values_of rows Untold = HasUntold Is values_of rows
 TellsNot Is values_of rows (Store e) = ⊥
 
--- the first of the rows that were found tells it, or doesn't; or none could be found, for the same cause
+-- the first of the rows that were found encodes it, or doesn't; or none could be found, for the same cause
 abbrev pub TellsFound : {X : Type 0} → (X → Type 0) → (X → Row) → Result (Vec Row Global) Error
     → Result (Option X) LookupFault → Type 0
 TellsFound Is values_of (Ok rows) (Ok found) = TellsFirst values_of rows.items found
 TellsFound Is values_of (Ok rows) (Err fault) = TellsNot Is values_of rows.items fault
 TellsFound Is values_of (Err error) result = result ≡ Err (Store error)
 
--- Over the tables of a plan an Ok is what their rows tell, and where a row tells nothing it is one of theirs. Whatever
--- they have, nothing is changed by an Ok, it fails for want of memory, for a row that tells no fact or for one of the
--- common causes, and no more is undone than was not committed; a crash finds what it found before.
+-- Over the tables of a plan an Ok is what their rows encode, and if a row is malformed it is one of theirs. Whatever
+-- they have, an Ok changes nothing, it fails for lack of memory, for a malformed row or for one of the four general
+-- errors, and at most what was not committed is undone; a crash finds what it found before.
 pub record TellsTables {S T : Type 0} (g : Ghosts S) (old new : Held S) (result : Result T LookupFault)
     (IsTold : Tables → T → Type 0) (IsUntold : Tables → Type 0) : Type 0 where
   pub told : HasCleanDisk (state g new) → HasTables (state g old).now.schema

@@ -1,4 +1,4 @@
-// What all rows of a table tell.
+// What all rows of a table encode.
 
 ghost use Rattle.std.specs.Prelude.{◌≡◌, [], ◌∷◌, ◌++◌, map, IfErr, OnOk};
 ghost use Rattle.std.specs.List.Sorted.{IsPermutation};
@@ -13,17 +13,17 @@ use table_lookups::{HandFault, SinkFault, ValuesSink, hand_all};
 use table_reading::Told;
 use table_schema::Table;
 
-/// Keeps what each row tells that it takes.
+/// Keeps what each row encodes that it accepts.
 #[derive(Drop)]
 struct Collector<X> {
     alloc: Global,
-    // what the rows tell that it took
+    // what the rows encode that it accepted
     xs: Vec<X>,
-    // why it refused a row, where it did
+    // why it refused a row, if it did
     why: LookupFault,
 }
 
-// Puts what the row tells behind the others.
+// Appends what the row encodes.
 fn put<X: Told + Drop>(alloc: Global, xs: &mut Vec<X>, row: &Row) -> Result<(), LookupFault>
     ensures put { OnOk result (map X.values xs.new.items
         ≡ map X.values xs.old.items ++ row.now ∷ []) }
@@ -53,7 +53,7 @@ impl<X: Told + Drop> ValuesSink for Collector<X> {
     }
 }
 
-/// What all rows of the table tell, each told before the next is read, in some order.
+/// What all rows of the table encode, each decoded before the next is read, in some order.
 pub(crate) fn tell_all<X: Told + Drop, S: Alter>(
     alloc: Global,
     conn: &mut Connection<S>,

@@ -1,14 +1,14 @@
-// Why a fact was not found out.
+// Why a fact was not fetched.
 
 use sqlite::Error;
 
-/// Why a fact was not found out.
+/// Why a fact was not fetched.
 #[derive(Debug, Drop)]
 pub enum LookupFault {
-    /// Memory was refused as a row was told; the connection is as it was.
+    /// Memory was refused as a row was decoded; the connection is as it was.
     Memory,
-    /// A row tells no fact.
+    /// A row is malformed: it encodes no fact.
     Untold,
-    /// The tables could not be asked.
+    /// The query failed.
     Store(Error),
 }

@@ -1,4 +1,4 @@
-// Facts are found by a number, by a name and a moment, or all of a table.
+// Facts are fetched by a number, by a name and a moment, or all of a table.
 
 ghost use Rattle.std.specs.Prelude.{◌≡◌, ◌<◌, ◌^◌};
 ghost use Rattle.sqlite.specs.Held.{state};
@@ -43,7 +43,7 @@ pub fn kept_job<S: Alter>(
     }
 }
 
-/// The row that stands in history under the serial, if there is one.
+/// The row that history has under the serial, if there is one.
 pub fn completed_row<S: Alter>(
     alloc: Global,
     conn: &mut Connection<S>,
@@ -69,7 +69,7 @@ pub fn deleted_row<S: Alter>(
     tell_found::<Deletion>(alloc, found)
 }
 
-/// Of the application's rows of history the one that arrives last at the moment or before it, if there is one.
+/// The application's row of history that arrives last at the moment or before it, if there is one.
 pub fn last_completed<S: Alter>(
     alloc: Global,
     conn: &mut Connection<S>,

@@ -1,5 +1,5 @@
-//! Facts that are looked up in the tables of a plan: kept jobs, rows of history and deletions, by a number, by a moment,
-//! or all of a table.
+//! Facts that are fetched from the tables of a plan: kept jobs, rows of history and deletions, by a number, by a
+//! moment, or all of a table.
 #![tactic(auto)]
 
 mod collecting;

@@ -1,4 +1,4 @@
-// What the rows of an answer tell.
+// What the rows of an answer encode.
 
 ghost use Rattle.std.specs.Prelude.{◌≡◌, map, IfErr, IfOk};
 ghost use Rattle.fact_lookups.specs.Telling.{TellsFound, TellsNone, TellsNot, told_by};
@@ -8,7 +8,7 @@ use sqlite::{Error, Row};
 use std::alloc::{AllocError, Global};
 use table_reading::Told;
 
-// What was found in a row, or why nothing was.
+// What was decoded of a row, or why nothing was.
 fn told_by<X>(found: Result<Option<X>, AllocError>) -> Result<X, LookupFault>
     ensures { result ≡ told_by found }
 {
@@ -19,7 +19,7 @@ fn told_by<X>(found: Result<Option<X>, AllocError>) -> Result<X, LookupFault>
     }
 }
 
-/// What the row tells.
+/// What the row encodes.
 pub(crate) fn tell_row<X: Told>(alloc: Global, row: &Row) -> Result<X, LookupFault>
     ensures told { IfOk result (λ x. X.values x ≡ row.now) }
     ensures untold { IfErr result (TellsNone X.has_form X.values row.now) }
@@ -27,7 +27,7 @@ pub(crate) fn tell_row<X: Told>(alloc: Global, row: &Row) -> Result<X, LookupFau
     told_by(X::tell(alloc, row))
 }
 
-/// What the first of the rows tells that were found; `None` where there is none.
+/// What the first of the rows found encodes; `None` if there is none.
 pub(crate) fn tell_found<X: Told>(
     alloc: Global,
     found: Result<Vec<Row>, Error>,
@@ -47,7 +47,7 @@ pub(crate) fn tell_found<X: Told>(
     }
 }
 
-/// What the rows tell, one after another.
+/// What the rows encode, one after another.
 pub(crate) fn tell_each<X: Told + Drop>(alloc: Global, rows: &[Row]) -> Result<Vec<X>, LookupFault>
     ensures told { IfOk result (λ xs. map X.values xs.items ≡ rows.now) }
     ensures untold { IfErr result (TellsNot X.has_form X.values rows.now) }

@@ -5,11 +5,11 @@ use Rattle.std.specs.Ordering.{is_eq}
 use Rattle.std.specs.declared.cmp.Ordering.{Ordering}
 use Rattle.std.specs.declared.cmp.Ordering.TheVariants.{Less}
 
--- in rising order of keys, so that each key stands once
+-- in rising order of keys, each key once
 abbrev pub IsKeyed : {X K : Type 0} → (K → K → Ordering) → (X → K) → List X → Type 0
 IsKeyed cmp key xs = AllPairs (λ x y. cmp (key x) (key y) ≡ Less) xs
 
--- no key stands at two places
+-- no key appears twice
 abbrev pub AreApart : {X K : Type 0} → (X → K) → List X → Type 0
 AreApart key xs = AllPairs (λ x y. key x ≢ key y) xs
 

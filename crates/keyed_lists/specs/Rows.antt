@@ -12,11 +12,11 @@ use Rattle.occurrences.specs.declared.place.CurrentRow.{CurrentRow}
 abbrev pub look_up : {X : Type 0} → (X → ℕ) → List X → ℕ → Option X
 look_up number_of xs number = find (λ x. nat_eq (number_of x) number) xs
 
--- no number stands at two items
+-- no two items have one number
 abbrev pub OneEach : {X : Type 0} → (X → ℕ) → List X → Type 0
 OneEach {X} number_of xs = (x y : X) → Contains xs x → Contains xs y → number_of x ≡ number_of y → x ≡ y
 
--- no serial stands at two places of the list
+-- no serial appears twice in the list
 abbrev pub HasEachOnce : {X : Type 0} → (X → Row) → List X → Type 0
 HasEachOnce row_of xs = AllPairs (λ x y. (row_of x).serial ≡ (row_of y).serial → ⊥) xs
 

@@ -1,4 +1,4 @@
--- Serials and the keys that they stand under.
+-- Serials, and the keys of the rows that have them.
 use Rattle.std.specs.Prelude.{◌≡◌, true, List, Contains}
 use Rattle.std.specs.Cmp.Lexicographic.{slice_cmp}
 use Rattle.std.specs.FinMap.{IsAntisymmetric, nat_cmp-IsAntisymmetric, slice_cmp-IsAntisymmetric}

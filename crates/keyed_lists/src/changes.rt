@@ -22,7 +22,7 @@ fn replace_one<T: Keyed>(list: &mut Vec<T>, item: T)
     }
 }
 
-/// Writes items in the place of those that have their keys. Takes no memory.
+/// Writes items in the place of those that have their keys. Allocates no memory.
 pub fn replace_all<T: Keyed>(list: &mut Vec<T>, items: &[T])
     requires keyed { IsKeyed T.Key.cmp T.key_of list.old.items }
     requires apart { AreApart T.key_of items.now }
@@ -53,8 +53,8 @@ fn move_down<T: Copy>(list: &mut Vec<T>, from: usize, count: usize, to: usize)
     }
 }
 
-/// Takes out what has the keys of these items, which are given in the order of their keys. Each item
-/// that stays moves once, with all up to the next that goes, and none before the first that goes.
+/// Removes the items that have the keys of these, which are given in the order of their keys. Each item that stays
+/// moves at most once, together with all up to the next one that goes; those before the first that goes don't move.
 pub fn remove_all<T: Keyed>(list: &mut Vec<T>, items: &[T])
     requires keyed { IsKeyed T.Key.cmp T.key_of list.old.items }
     requires sorted { IsKeyed T.Key.cmp T.key_of items.now }
@@ -77,7 +77,7 @@ pub fn remove_all<T: Keyed>(list: &mut Vec<T>, items: &[T])
     list.truncate(kept + count);
 }
 
-// Moves items up to a place behind theirs.
+// Moves items up by so many places.
 fn move_up<T: Copy>(list: &mut Vec<T>, from: usize, count: usize, by: usize)
     requires { from + count + by ≤ vec_len list.old }
     ensures front { take from list.new.items ≡ take from list.old.items }
@@ -88,8 +88,8 @@ fn move_up<T: Copy>(list: &mut Vec<T>, from: usize, count: usize, by: usize)
     list.copy_within(from..from + count, from + by);
 }
 
-/// Puts in items of new keys, which are given in the order of their keys. There is room for them. From the
-/// last on, what stands between the places of two of them moves at once, and what stands before all stays.
+/// Inserts items of new keys, which are given in the order of their keys. There is room for them. From the last on,
+/// the items between the places of two of them move together; those before all new ones stay.
 pub fn insert_all<T: Keyed>(list: &mut Vec<T>, items: &[T])
     requires keyed { IsKeyed T.Key.cmp T.key_of list.old.items }
     requires sorted { IsKeyed T.Key.cmp T.key_of items.now }

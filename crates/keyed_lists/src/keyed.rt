@@ -13,6 +13,6 @@ pub trait Keyed: Copy {
     fn key(&self) -> Self::Key
         ensures { result ≡ key_of self.now };
 
-    // only equal keys tie
+    // only equal keys compare as equal
     ghost ties: { IsAntisymmetric Self.Key.cmp };
 }

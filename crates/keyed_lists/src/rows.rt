@@ -4,7 +4,7 @@ use crate::keyed::Keyed;
 use external_dependencies::Arrival;
 use occurrences::{CurrentRow, Deletion, Row};
 
-/// What a set of the plans holds: an occurrence, alone or with its status or the reason of its deletion. The list of a
+/// An item of a set of the plans: an occurrence, alone or with its status or the reason of its deletion. The list of a
 /// set is ordered by application, input arrival and serial.
 pub trait PlanRow: Keyed {
     ghost use Rattle.external_dependencies.specs.Arrival.{arrival_cmp};
@@ -23,7 +23,7 @@ pub trait PlanRow: Keyed {
         ≡ arrival_cmp (arrival_of (row_of x)) (arrival_of (row_of y)) };
 }
 
-// Where a row stands in the list of a set.
+// The key of a row in the list of a set.
 fn arrival(row: &Row) -> Arrival
     ensures { result ≡ arrival_of row.now }
 {

@@ -6,7 +6,7 @@ ghost use Rattle.keyed_lists.specs.Keyed.{IsKeyed, AreApart, holds_key};
 
 use crate::keyed::Keyed;
 
-/// Where the key stands in the list, or where it would stand.
+/// The place of the key in the list, or the place where it would be inserted.
 pub fn find<T: Keyed>(list: &[T], key: &T::Key) -> Result<usize, usize>
     ensures taken { IfOk result (λ i. (i < length list.now)
         × HoldsAt (λ x. T.key_of x ≡ key.now) list.now i) }
@@ -34,7 +34,7 @@ fn equal_range<T: Keyed>(list: &[T], key: &T::Key) -> (usize, usize)
     }
 }
 
-// Whether the item before a place has the key or a higher one, or all items stand before it.
+// Whether the item before a place has the key or a higher one, or all items come before it.
 fn ends_range<T: Keyed>(list: &[T], end: usize, key: &T::Key) -> bool
     requires keyed { IsKeyed T.Key.cmp T.key_of list.now }
     requires within { (1 ≤ end) × (end ≤ length list.now) }
@@ -45,7 +45,7 @@ fn ends_range<T: Keyed>(list: &[T], end: usize, key: &T::Key) -> bool
     end == list.len() || list[end - 1].key().cmp(key).is_ge()
 }
 
-// `equal_range`, looked for near the front first, and each time up to twice as far.
+// `equal_range`, searched from the front, each time up to twice as far.
 pub(crate) fn range_from_front<T: Keyed>(list: &[T], key: &T::Key) -> (usize, usize)
     requires { IsKeyed T.Key.cmp T.key_of list.now }
     ensures order { (result.0 ≤ result.1) × (result.1 ≤ length list.now) }
@@ -66,7 +66,7 @@ pub(crate) fn range_from_front<T: Keyed>(list: &[T], key: &T::Key) -> (usize, us
     equal_range(&list[..end], key)
 }
 
-// Whether the item at a place has the key or a lower one, or no item stands before it.
+// Whether the item at a place has the key or a lower one, or no item comes before it.
 fn begins_range<T: Keyed>(list: &[T], start: usize, key: &T::Key) -> bool
     requires keyed { IsKeyed T.Key.cmp T.key_of list.now }
     requires within { start < length list.now }
@@ -77,7 +77,7 @@ fn begins_range<T: Keyed>(list: &[T], start: usize, key: &T::Key) -> bool
     start == 0 || list[start].key().cmp(key).is_le()
 }
 
-// `equal_range`, looked for near the back first, and each time up to twice as far.
+// `equal_range`, searched from the back, each time up to twice as far.
 pub(crate) fn range_from_back<T: Keyed>(list: &[T], key: &T::Key) -> (usize, usize)
     requires { IsKeyed T.Key.cmp T.key_of list.now }
     ensures order { (result.0 ≤ result.1) × (result.1 ≤ length list.now) }

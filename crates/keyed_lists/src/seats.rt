@@ -65,7 +65,7 @@ fn missing_seats<T: PlanRow>(
         .collect(alloc)
 }
 
-/// Notes the seats of these rows, or where memory is refused, none.
+/// Notes the seats of these rows; if memory is refused, none of them.
 pub fn note_rows<T: PlanRow>(
     alloc: Global,
     seats: &mut Vec<Seat>,

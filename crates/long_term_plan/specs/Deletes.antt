@@ -12,7 +12,7 @@ use Rattle.plan_store.specs.declared.changes.Verdict.{Verdict}
 use Rattle.plan_store.specs.declared.changes.Verdict.TheVariants.{Done, Refused}
 use Rattle.plan_store.specs.declared.changes.DefinitionChange.TheVariants.{AsBefore}
 
--- the row goes from the long-term plan and comes to the deletions, the pairs follow, and all else stays
+-- the row is moved from the long-term plan to the deletions, the pairs follow, and all else stays
 pub record IsDeletionOf (c : Content) (row : Row) (change : Change) : Type 0 where
   pub gone : change.ltp.gone.items ≡ row ∷ []
   pub unchanged : change.ltp.changed.items ≡ []
@@ -30,7 +30,7 @@ pub record IsDeletionOf (c : Content) (row : Row) (change : Change) : Type 0 whe
   pub pairs : ArePairs c.pairs c.in_force (each (delete_move row.key) c.sets) (pairs_after change.pairs c.pairs)
   pub leads : LeadsOn c.pairs change.pairs
 
--- the statement is done so, and answers the serial
+-- the statement is done so, and its reply has the serial
 abbrev pub DeletesRow : Content → Row → Verdict → Type 0
 DeletesRow c row (Done change reply) = IsDeletionOf c row change × (reply ≡ Numbered row.serial)
 DeletesRow c row (Refused refusal) = ⊥

@@ -73,7 +73,7 @@ pub record IsNewKey (s : Sets) (key : Key) : Type 0 where
 abbrev pub IsPlannedKey : Sets → Key → Type 0
 IsPlannedKey s key = (serial : ℕ) × (row : Row) × (s.ltp serial ≡ Some row) × (row.key ≡ key)
 
--- of each draft it is said whether a row of the long-term plan has its key
+-- for each draft, whether a row of the long-term plan has its key
 abbrev pub ArePlannedKeys : Sets → List Draft → List Bool → Type 0
 ArePlannedKeys s named met = (i : ℕ) (draft : Draft) → i < length named → slice_index_or named i draft ≡ draft
     → (slice_index_or met i false ≡ true) ↔ IsPlannedKey s draft.key

@@ -1,4 +1,4 @@
--- Inner words: clauses inside the crate cite them, and no public one does.
+-- For private contracts only: no public contract cites these definitions.
 pub mod Deletes
 pub mod Drafting
 pub mod Lists

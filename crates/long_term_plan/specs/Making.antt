@@ -79,7 +79,7 @@ IsMadeOrTooMany c b links new (Done change reply) =
     (HoldTooMany (planned_sets b new c.sets) → ⊥) × MakesDrafts c b links new (Done change reply)
 IsMadeOrTooMany c b links new (Refused refusal) = HoldTooMany (planned_sets b new c.sets) × (refusal ≡ TooManyRows)
 
--- all of them are made, or would be too many
+-- all of them are made, or they would be too many
 pub record AddsDays (c : Content) (b : Bounds) (first : ℕ) (links : List Link) (verdict : Verdict) : Type 0 where
   pub new : List Draft
   pub are_new : AreDaysAdded c b first new

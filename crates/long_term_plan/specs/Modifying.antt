@@ -39,21 +39,21 @@ abbrev pub Looks : Option (List ℕ) → List ℕ → Type 0
 Looks None = IsAnyApp
 Looks (Some app) = IsThatApp app
 
--- names without doubles, which have each application of these that is active
+-- names without duplicates, among them each active one of these applications
 pub record AreAsked (all : Definitions) (only : Option (List ℕ)) (apps : List (List ℕ)) : Type 0 where
   pub apart : AllPairs (λ a b. (a ≡ b) → ⊥) apps
   pub looked : (app : List ℕ) → Contains apps app → Looks only app
   pub active : (app : List ℕ) (a : Application) → IsActive all app a → Looks only app → Contains apps app
 
--- what becomes of a row that the statement looks at, by the drafts that are named
+-- what happens to a row that the statement looks at, by the drafts that are named
 abbrev pub outcome : Option (List ℕ) → List Draft → Row → Option Row
 outcome only named = modified (looks_at (looks only)) named
 
--- so where that draft is named under its key, or none
+-- the same, if that draft is named under its key, or none
 abbrev pub outcome_with : Option (List ℕ) → Option Draft → Row → Option Row
 outcome_with only draft row = if looks_at (looks only) row then option_map (λ d. stamped d row) draft else Some row
 
--- the draft that stands there has the key, or none has it
+-- the draft at that place has the key, or no draft has it
 abbrev pub IsDraftAt : Key → List Draft → Option ℕ → Type 0
 IsDraftAt key named (Some i) = i < length named × ((d : Draft) → (slice_index_or named i d).key ≡ key)
 IsDraftAt key named None = (draft : Draft) → Contains named draft → draft.key ≢ key
@@ -62,7 +62,7 @@ IsDraftAt key named None = (draft : Draft) → Contains named draft → draft.ke
 abbrev pub HasKey : List Row → Key → Type 0
 HasKey rows key = (row : Row) × Contains rows row × (row.key ≡ key)
 
--- of each draft it is said whether one of the rows has its key
+-- for each draft, whether one of the rows has its key
 pub record AreMet (rows : List Row) (named : List Draft) (met : List Bool) : Type 0 where
   pub count : length met ≡ length named
   pub says : (i : ℕ) (draft : Draft) → i < length named → slice_index_or named i draft ≡ draft
@@ -81,7 +81,7 @@ pub record AreParted (becomes : Row → Option Row) (rows planned gone changed :
   pub go : gone ≡ filter (λ row. is_none (becomes row)) rows
   pub change : AreChanged becomes rows changed
 
--- the lists part the rows of the long-term plan
+-- the lists split the rows of the long-term plan
 pub record PartsPlan (s : Sets) (only : Option (List ℕ)) (named : List Draft) (planned gone changed : List Row) : Type
     0 where
   pub rows : List Row
@@ -109,11 +109,11 @@ pub record AreModifying (s : Sets) (only : Option (List ℕ)) (named new : List 
   pub parts : PartsPlan s only named planned gone changed
   pub come : put ≡ numbered s.issued new
 
--- of these rows the list has those of these applications
+-- the list has those of these rows that are of these applications
 abbrev pub AreOf : List (List ℕ) → List Row → List Row → Type 0
 AreOf apps rows own = (row : Row) → Contains own row ↔ (Contains rows row × Contains apps row.key.app)
 
--- the answer counts those that are made, and those that are withdrawn
+-- the reply counts those that are made, and those that are withdrawn
 abbrev pub modified_reply : Option (List ℕ) → List Draft → List Draft → Sets → Reply
 modified_reply only named new s =
     Made (length new) (size (λ serial. taken (looks_at (looks only)) named (s.ltp serial)) s.issued)

@@ -128,7 +128,7 @@ pub(crate) fn new_drafts(
     Ok(new)
 }
 
-// Whether a planning statement may make the key.
+// Whether a planning statement is allowed to make the key.
 fn is_new(view: &View<'_>, key: &Key) -> bool
     ensures { BehindAny view.now (λ c. ShowsDeleted c view.now key.now
         → IsTrue result ↔ IsNewKey c.sets key.now) }

@@ -22,8 +22,7 @@ use planner_machine::{Bounds, Draft, MOST_PLANNED_ROWS};
 use std::alloc::{AllocError, Global};
 use work_calendars::Moment;
 
-// What is decided where the plan takes these bounds and lists, and all applications are planned from a moment to its
-// last day.
+// The verdict if the plan gets these bounds and lists, and all applications are planned from a moment to its last day.
 pub(crate) fn add_days(
     alloc: Global,
     view: &View<'_>,

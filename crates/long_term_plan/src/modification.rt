@@ -86,7 +86,7 @@ pub fn modify_one(alloc: Global, view: &View<'_>, app: &App) -> Result<Verdict, 
     modify(alloc, view, &bounds, &Some(*app), links)
 }
 
-// What is decided where the statement looks at all applications, or at one, and these lists come into force.
+// The verdict if the statement looks at all applications, or at one, and these lists come into force.
 fn modify(
     alloc: Global,
     view: &View<'_>,
@@ -139,7 +139,7 @@ fn last_planned(bounds: &Bounds) -> Day
     bounds.last_day
 }
 
-// Whether the plans would hold too many rows without those that go and with the new ones, or too many serials were
+// Whether the plans would hold too many rows once rows are removed and the new ones made, or too many serials were
 // issued.
 fn are_too_many(view: &View<'_>, gone: &[Row], new: &[Draft]) -> bool
     ensures too_many { BehindAny view.now (λ c. IsSound c → (kept : ℕ)
@@ -153,8 +153,8 @@ fn are_too_many(view: &View<'_>, gone: &[Row], new: &[Draft]) -> bool
     rows > MOST_PLANNED_ROWS + gone.len() || issued > GREATEST_SERIAL as usize
 }
 
-// What leads from the pairs before the statement to those after it. What it reaches is gathered by applications where
-// they are few; what is named is let go before the pairs are found.
+// What leads from the pairs before the statement to those after it. What it reaches is collected by applications if
+// they are few; the list of what is named is dropped before the pairs are found.
 fn pairs_then(
     alloc: Global,
     view: &View<'_>,
@@ -243,7 +243,7 @@ fn asked(alloc: Global, all: &Definitions, only: &Option<App>) -> Result<Vec<App
     }
 }
 
-// Rows go and change, new ones come, the pairs follow, and all else stays.
+// The change: rows are removed and changed, new ones are made, the pairs follow, and all else stays.
 fn change_rows(
     alloc: Global,
     view: &View<'_>,

@@ -12,8 +12,8 @@ use planner_machine::Draft;
 use std::alloc::{AllocError, Global};
 use work_calendars::App;
 
-// The rows that stay where a statement looks at all applications, or at one, and these drafts are named for them; each
-// as it is then.
+// The rows that stay if a statement looks at all applications, or at one, and these drafts are named for them; each as
+// it is afterwards.
 pub(crate) fn staying_rows(
     alloc: Global,
     rows: &[Row],
@@ -32,11 +32,11 @@ pub(crate) fn staying_rows(
     Ok(kept)
 }
 
-// What becomes of rows of the long-term plan.
+// What happens to rows of the long-term plan.
 pub(crate) struct Parted {
     // those that are withdrawn
     pub(crate) gone: Vec<Row>,
-    // of those that stay those that change, as they are then
+    // of those that stay those that change, as they are afterwards
     pub(crate) changed: Vec<Row>,
     // of each draft whether one of the rows has its key
     pub(crate) met: Vec<bool>,
@@ -74,7 +74,7 @@ pub(crate) fn parted_rows(
     Ok(Parted { gone, changed, met })
 }
 
-// The draft of that key, which is met then.
+// The draft of that key, which is then marked.
 fn met_draft(key: &Key, named: &[Draft], met: &mut Vec<bool>) -> Option<Draft>
     requires { length met.old.items ≡ length named.now }
     ensures draft { DraftsRise named.now → result ≡ draft_with key.now named.now }
@@ -95,7 +95,7 @@ fn is_same(one: &Row, other: &Row) -> bool
     *one == *other
 }
 
-// What becomes of a row: a generated one of an application that the statement looks at takes what is named now under
+// What happens to a row: a generated one of an application that the statement looks at gets what is named now under
 // its key, or is withdrawn.
 fn outcome(row: &Row, only: &Option<App>, named: &[Draft]) -> Option<Row>
     ensures { DraftsRise named.now → result ≡ outcome only.now named.now row.now }
@@ -107,7 +107,7 @@ fn outcome(row: &Row, only: &Option<App>, named: &[Draft]) -> Option<Row>
     Some(stamped(row, &draft))
 }
 
-// So where that draft is named under its key, or none.
+// The same, if that draft is named under its key, or none.
 fn outcome_with(row: &Row, only: &Option<App>, draft: &Option<Draft>) -> Option<Row>
     ensures { result ≡ outcome_with only.now draft.now row.now }
 {
@@ -160,7 +160,7 @@ fn draft_with(key: &Key, named: &[Draft]) -> Option<Draft>
     Some(named[at])
 }
 
-// Where the draft of that key stands.
+// The place of the draft of that key.
 fn draft_at(key: &Key, named: &[Draft]) -> Option<usize>
     ensures within { IfSome result (λ at. at < length named.now) }
     ensures is { DraftsRise named.now → IsDraftAt key.now named.now result }

@@ -3,7 +3,7 @@ use Rattle.std.specs.Prelude.{◌≡◌}
 use Rattle.std.specs.declared.cmp.Ordering.{Ordering}
 use Rattle.std.specs.Ordering.{MatchOrdering}
 
--- what comes before what, so that nothing comes before itself and the relation carries on
+-- what comes before what: nothing comes before itself, and the relation is transitive
 pub record IsStrictOrder {K : Type 0} (Before : K → K → Type 0) : Type 0 where
   pub irreflexive : (a : K) → Before a a → ⊥
   pub transitive : (a b c : K) → Before a b → Before b c → Before a c

@@ -55,7 +55,7 @@ pub fn status_changes()
     ensures stays_deleted { (tried : List Action) → status_after Status.D tried ≡ Status.D }
 {}
 
-/// Law: what is open or complete is live, and nothing is both. What is live and neither stands in the current plan,
+/// Law: what is open or complete is live, and nothing is both. What is live and neither is in the current plan,
 /// started or ended in error.
 pub fn places()
     ensures open_is_live { (p : Place) → IsOpen p → IsLive p }

@@ -1,7 +1,7 @@
 //! Occurrences of applications: their serials, keys and rows, the places and statuses that they go through,
 //! and what a statement answers.
 //!
-//! A [`Row`] is one run of an application that the plans know of. It stands in one [`Place`] at a time, in the current
+//! A [`Row`] is one run of an application that the plans know of. It is in one [`Place`] at a time, in the current
 //! plan with a [`Status`], which changes by the table of [`next_status`] alone:
 //!
 //! ```text

@@ -4,7 +4,7 @@ ghost use Rattle.occurrences.specs.Place.{IsLive, IsOpen, IsComplete, reason_let
 use crate::row::Row;
 use crate::status::Status;
 
-/// Why an occurrence stands in the deletions.
+/// Why an occurrence is in the deletions.
 #[derive(Clone, Copy, Debug, PartialEq, Eq, PartialOrd, Ord, Hash)]
 pub enum Reason {
     /// An operator deleted it from the long-term plan.
@@ -15,7 +15,7 @@ pub enum Reason {
     Plan,
 }
 
-/// A row that stands in the current plan.
+/// A row of the current plan.
 #[derive(Clone, Copy, Debug, PartialEq, Eq, PartialOrd, Ord, Hash)]
 pub struct CurrentRow {
     /// The row.
@@ -24,16 +24,16 @@ pub struct CurrentRow {
     pub status: Status,
 }
 
-/// A row that stands in the deletions.
+/// A row of the deletions.
 #[derive(Clone, Copy, Debug, PartialEq, Eq, PartialOrd, Ord, Hash)]
 pub struct Deletion {
-    /// The row as it stood before.
+    /// The row as it was before.
     pub row: Row,
     /// Why it was deleted.
     pub reason: Reason,
 }
 
-/// Where an occurrence stands. Each stands in one place.
+/// Where an occurrence is. Each is in exactly one place.
 #[derive(Clone, Copy, Debug, PartialEq, Eq, PartialOrd, Ord, Hash)]
 pub enum Place {
     /// In the long-term plan.

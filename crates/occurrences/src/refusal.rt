@@ -4,8 +4,8 @@ ghost use Rattle.occurrences.specs.Refusal.{refusal_number};
 use thiserror::Error;
 use work_calendars::App;
 
-/// Why a statement was refused, with the detail that its line shows.
-/// Where several hold, the one of the smallest number is answered.
+/// Why a statement was refused, with the detail that its line shows. If several hold, the reply has the one of the
+/// smallest number.
 #[derive(Clone, Copy, Debug, PartialEq, Eq, Hash, Error)]
 pub enum Refusal {
     /// 10: the line is no statement.
@@ -102,7 +102,7 @@ impl Refusal {
         }
     }
 
-    /// Whether the job that asked keeps it as its reply: those of number 13 and above.
+    /// Whether the job keeps it as its reply: those of number 13 and above.
     pub fn is_kept(self) -> bool
         ensures { IsTrue result ↔ (13 ≤ refusal_number self) }
     {

@@ -19,7 +19,7 @@ ending_of Same false _ closed.Whole = left.Whole
 ending_of Same false Same closed.NoMemory = left.LogStands
 ending_of Same false _ _ = left.LogDamaged
 
--- whether what was answered stands in the files
+-- whether the files have the acknowledged statements
 abbrev pub keeps_answers : Ending → Bool
 keeps_answers left.TakenAway = false
 keeps_answers left.Replaced = false

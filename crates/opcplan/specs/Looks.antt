@@ -1,11 +1,11 @@
--- What stands at a name, and what became of it.
+-- What is at a name, and what became of it.
 use Rattle.std.specs.Prelude.{◌≡◌, ◌≢◌, ◌+◌, ◌*◌, ◌<◌, ℕ, List, slice_index}
 use Rattle.opcplan.specs.declared.looks.Fate.{Fate}
 use Rattle.opcplan.specs.declared.looks.Fate.TheVariants.{Gone, Other, Same}
 use Rattle.opcplan.specs.declared.looks.Look.{Look}
 use Rattle.opcplan.specs.declared.looks.Look.TheVariants.{File, Nothing}
 
--- what became of the file that stood at a name, by two looks at the name
+-- what became of the file that was at a name, by two looks at the name
 abbrev pub IsFate : Look → Look → Fate → Type 0
 IsFate (File _ _) Nothing fate = fate ≡ Gone
 IsFate (File old _) (File new _) fate = (old ≡ new → fate ≡ Same) × (old ≢ new → fate ≡ Other)

@@ -1,4 +1,4 @@
--- What the words of the program ask for.
+-- What the arguments of the program request.
 use Rattle.std.specs.Prelude.{◌≡◌, ◌≢◌, false, true, ℕ, List, None, Option, Some, codes, string_bytes}
 use Rattle.opcplan.specs.declared.words.Asked.{Asked}
 use Rattle.opcplan.specs.declared.words.Asked.TheVariants.{Answered, Memory, Run}

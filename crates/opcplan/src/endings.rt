@@ -16,14 +16,14 @@ pub enum Closed {
     Whole,
     /// It was not, for want of memory.
     NoMemory,
-    /// It was not, since the device failed.
+    /// It was not, because the device failed.
     Failed,
-    /// Somebody cut the log before, so what it had is copied in part, if at all.
+    /// Somebody truncated the log before, so what it had is copied in part, if at all.
     LogCut,
 }
 
 impl Closed {
-    /// How files were closed where that failed for this.
+    /// How files were closed if that failed for this reason.
     pub fn after(fault: CopyFault) -> Closed
         ensures memory { fault ≡ Memory → result ≡ NoMemory }
         ensures device { fault ≡ Device → result ≡ Failed }
@@ -34,7 +34,7 @@ impl Closed {
         }
     }
 
-    /// The same of files whose log was cut or not.
+    /// The same of files whose log was truncated or not.
     pub fn with_log(self, was_cut: bool) -> Closed
         ensures cut { was_cut ≡ true → result ≡ LogCut }
         ensures whole { was_cut ≡ false → result ≡ self }
@@ -48,15 +48,15 @@ impl Closed {
 pub enum Ending {
     /// FILE has all.
     Whole,
-    /// FILE was taken away.
+    /// FILE was removed.
     TakenAway,
-    /// Another file stands at FILE.
+    /// Another file is at FILE.
     Replaced,
-    /// Another file stands at FILE, and beside it the log of the one that was opened, which has something.
+    /// Another file is at FILE, with the log of the one that was opened next to it, which has something.
     ReplacedBesideLog,
-    /// FILE was cut.
+    /// FILE was truncated.
     Cut,
-    /// FILE has all, and another file stands at FILE-wal.
+    /// FILE has all, and another file is at FILE-wal.
     OtherLog,
     /// FILE-wal has what was written last.
     LogStands,
@@ -64,8 +64,8 @@ pub enum Ending {
     LogDamaged,
 }
 
-/// How the files of a run were left, by what became of FILE, whether it was cut, what became of FILE-wal, and how they
-/// were closed. Of several that hold, the first counts.
+/// How the files of a run were left, by what became of FILE, whether it was truncated, what became of FILE-wal, and
+/// how they were closed. Of several that hold, the first counts.
 pub fn ending_by(file: Fate, is_cut: bool, log: Fate, closed: Closed) -> Ending
     ensures ending { result ≡ ending_of file is_cut log closed }
     ensures all { closed ≡ LogCut → has_all result ≡ false }
@@ -80,7 +80,7 @@ pub fn ending_by(file: Fate, is_cut: bool, log: Fate, closed: Closed) -> Ending
     }
 }
 
-/// The same of files of which FILE stands as it should.
+/// The same of files of which FILE is as it should be.
 fn ending_of_log(log: Fate, closed: Closed) -> Ending
     ensures ending { result ≡ ending_of Same false log closed }
     ensures all { closed ≡ LogCut → has_all result ≡ false }
@@ -94,7 +94,7 @@ fn ending_of_log(log: Fate, closed: Closed) -> Ending
 }
 
 impl Ending {
-    /// Whether the files have what was answered, as far as the looks show.
+    /// Whether the files have the acknowledged statements, as far as the looks show.
     pub fn keeps_answers(self) -> bool
         ensures { result ≡ keeps_answers self }
     {

@@ -2,13 +2,13 @@
 
 use planner_cli::{Part, RunFault, Tally};
 
-/// The exit status after a fault, and after words that are wrong.
+/// The exit status after a fault, and after wrong arguments.
 pub const FAILED: u8 = 8;
 
 /// The fault of memory.
 pub const MEMORY: u8 = 40;
 
-/// Reports a fault before the run, for which no memory is taken, and returns the exit status.
+/// Reports a fault before the run, without allocating memory, and returns the exit status.
 pub fn report<R: Print + Eprint>(rt: &R, number: u8) -> u8 {
     report_reason(rt, number, None, meaning_before_run(number))
 }
@@ -34,8 +34,8 @@ pub fn report_reason<R: Print + Eprint>(
     FAILED
 }
 
-/// Says on standard error what ended a run, if a fault did. Of a store that is not known to be whole it says that the next
-/// statement may be done too. No memory is taken.
+/// Says on standard error what ended a run, if a fault did. Of a store that is not known to be whole it says that the
+/// next statement may be done too. No memory is allocated.
 pub fn explain(rt: &impl Eprint, outcome: &Result<Tally, RunFault>, is_whole: bool) {
     if let Err(fault) = outcome {
         let _ = rt.eprintln(if is_whole {

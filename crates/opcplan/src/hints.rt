@@ -2,14 +2,14 @@
 
 use std::io::{self, Write};
 
-/// The answer to a line that is no statement.
+/// The reply to a line that is no statement.
 const NO_STATEMENT: &[u8] = b"refused 10\n";
 
 /// Which pages have the statements.
 const STATEMENTS: &str =
     "opcplan: that line is not a statement: a word is unknown, missing, repeated or malformed. opcplan --help lists the statements, docs/rules/STATEMENTS.md explains them";
 
-/// Writes answers, and after each one to a line that is no statement the hint, if hints are asked for.
+/// Writes replies, and after each one to a line that is no statement the hint, if hints are requested.
 #[derive(Drop)]
 pub struct Hinting<'a, W, E> {
     writer: W,

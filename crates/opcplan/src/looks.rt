@@ -34,7 +34,7 @@ pub enum Fate {
     Other,
 }
 
-/// What became of the file that stood at a name, by what stands there now.
+/// What became of the file that was at a name, by what is there now.
 pub fn fate_between(before: Look, after: Look) -> Fate
     ensures { IsFate before after result }
 {
@@ -45,7 +45,7 @@ pub fn fate_between(before: Look, after: Look) -> Fate
     }
 }
 
-/// Whether the file that stood at a name stands there with fewer bytes than before.
+/// Whether the file that was at a name is there with fewer bytes than before.
 pub fn is_shorter(before: Look, after: Look) -> bool
     ensures { IsTrue result ↔ IsShorter before after }
 {
@@ -55,7 +55,7 @@ pub fn is_shorter(before: Look, after: Look) -> bool
     }
 }
 
-/// Whether a file stands at a name that has fewer bytes than its pages take.
+/// Whether there is a file at a name with fewer bytes than its pages take.
 pub fn lacks_pages(now: Look, pages: u64) -> bool
     ensures { IsTrue result ↔ LacksPages now pages }
 {

@@ -1,4 +1,5 @@
-//! What opens FILE as a plan. Nothing else of this program makes or changes it; `watch.rt` and `terminal.rt` look at it.
+//! What opens FILE as a plan. Nothing else of this program creates or changes it; `watch.rt` and `terminal.rt` look at
+//! it.
 
 ghost use Rattle.std.specs.Prelude.{⊤};
 

@@ -43,8 +43,8 @@ impl Opening for Greeting<'_> {
     }
 }
 
-/// Runs the stream on standard input, over the plans that the file keeps, and gives the exit status. A reply is handed
-/// to standard output with its last byte, and a listing some thousand bytes at a time. `Unknown` says of the file that it
+/// Runs the stream on standard input, over the plans that the file keeps, and returns the exit status. Standard output
+/// gets each reply with its last byte, and a listing some thousand bytes at a time. `Unknown` says of the file that it
 /// may hold anything: what is proved for all contents holds of those that it has.
 pub fn answer_over_file(rt: &HostRuntime, file: &NamedFile) -> u8 {
     let alloc = rt.alloc();
@@ -81,10 +81,10 @@ pub fn answer_over_file(rt: &HostRuntime, file: &NamedFile) -> u8 {
     }
 }
 
-/// Runs the stream of the reader over the plans that a file keeps, and gives the exit status, or why it is not run. At the
-/// end the log is copied into the file; where that fails, or somebody else took the file away or changed it, standard error
-/// says so, and the status is the run's. It has standard error alone, so nothing but what the run writes goes to standard
-/// output.
+/// Runs the stream of the reader over the plans that a file keeps, and returns the exit status, or why it is not run.
+/// At the end the log is copied into the file; if that fails, or somebody else removed or changed the file, standard
+/// error says so, and the status is the run's. It has standard error alone, so nothing but what the run writes goes to
+/// standard output.
 fn run_over_file<
     S: Start,
     F: FileOpener<S>,
@@ -126,8 +126,8 @@ fn run_over_file<
     }
 }
 
-/// Says on standard error what ended a run, if a fault did and the files have what was answered, and how the files were
-/// left. No memory is taken.
+/// Says on standard error what ended a run, if a fault did and the files have the acknowledged statements, and how the
+/// files were left. No memory is allocated.
 fn report_ending(
     rt: &impl Eprint,
     path: &str,

@@ -5,8 +5,8 @@ use crate::hints::Hinting;
 use planner_cli::{exit_status, run_lists};
 use std::io::{self, BufReader, BufWriter};
 
-/// Runs the stream on standard input, over plans that last as long as it does, and returns the exit status. A reply is
-/// handed to standard output with its last byte, and a listing some thousand bytes at a time. A person who types it gets
+/// Runs the stream on standard input, over plans that last as long as it does, and returns the exit status. Standard
+/// output gets each reply with its last byte, and a listing some thousand bytes at a time. A person who types it gets
 /// hints.
 pub fn answer_over_lists<R: AllocGlobal + Input + Print + Eprint>(rt: &R, is_typed: bool) -> u8 {
     let alloc = rt.alloc();

@@ -19,14 +19,15 @@ pub fn is_typed(rt: &HostRuntime) -> bool {
     rt.stdin().is_terminal()
 }
 
-/// Says so on standard error, where standard input is a terminal. No memory is taken.
+/// Prints that on standard error, if standard input is a terminal. No memory is allocated.
 pub fn greet(rt: &HostRuntime, words: &str) {
     if is_typed(rt) {
         let _ = rt.eprintln(words);
     }
 }
 
-/// Says on standard error that a large file is about to be opened, where standard error is a terminal. No memory is taken.
+/// Says on standard error that a large file is about to be opened, where standard error is a terminal. No memory is
+/// allocated.
 pub fn announce_large(rt: &HostRuntime, path: &str) {
     if rt.stderr().is_terminal() && is_large(rt, path) {
         let _ = eprintln!(rt;

@@ -1,4 +1,4 @@
-//! The files of a run, looked at while it reads its stream.
+//! The files of a run, which are checked while it reads its stream.
 
 ghost use Rattle.std.specs.Prelude.{◌≡◌, IsTrue, false};
 ghost use Rattle.std.specs.Io.{ReadsAtMost};
@@ -11,7 +11,7 @@ use std::fs::{self, File, Files};
 use std::io::{self, BufReader, ErrorKind, Read};
 use std::os::unix::fs::MetadataExt;
 
-/// What was at FILE and FILE-wal when a run began, and whether either was cut since.
+/// What was at FILE and FILE-wal when a run began, and whether either was truncated since.
 #[derive(Drop)]
 pub struct Watch<'a> {
     rt: &'a HostRuntime,
@@ -58,7 +58,7 @@ impl<'a> Watch<'a> {
         }
     }
 
-    /// How many bytes the log has that was opened, whatever has its name now; none where the system doesn't say.
+    /// The length of the log that was opened, whatever has its name now; none if the system doesn't say.
     fn bytes_of_log(&self) -> Option<u64> {
         match &self.log_file {
             Some(file) => match file.metadata() {
@@ -69,7 +69,7 @@ impl<'a> Watch<'a> {
         }
     }
 
-    /// Looks whether the log was cut: while a run goes on it only grows, and is emptied in its place where it is long.
+    /// Checks whether the log was truncated: during a run it only grows, and is emptied in place when it is long.
     fn look_at_log(&mut self)
         ensures file { self.new.was_cut ≡ self.old.was_cut }
         ensures remembered { IsTrue self.old.log_growth.was_cut → IsTrue self.new.log_growth.was_cut }
@@ -79,13 +79,13 @@ impl<'a> Watch<'a> {
         }
     }
 
-    /// Whether FILE, as it stands now, was cut. The copying of a log may leave it shorter too, but with all its pages.
+    /// Whether FILE, as it is now, was truncated. Copying a log may leave it shorter too, but with all its pages.
     fn is_cut(&self, now: Look) -> bool {
         is_shorter(self.file, now) && lacks_pages(now, pages_of(self.rt, self.path))
     }
 
-    /// Looks whether FILE or its log was cut: a run that ends well copies its log into FILE, which has its length again
-    /// then, and empties it.
+    /// Checks whether FILE or its log was truncated. A run that ends well copies its log into FILE, which then has its
+    /// length again, and empties the log.
     fn look_again(&mut self)
         ensures remembered { IsTrue self.old.was_cut → IsTrue self.new.was_cut }
         ensures log { IsTrue self.old.log_growth.was_cut → IsTrue self.new.log_growth.was_cut }
@@ -162,7 +162,7 @@ impl<R: Read> SeesFiles for BufReader<Watched<'_, R>> {
     }
 }
 
-/// What is at a path, also through links. No memory is taken.
+/// What is at a path, also through links. No memory is allocated.
 fn look(files: &impl Files, path: &str) -> Look {
     match fs::metadata(files, path) {
         Ok(found) => Look::File(
@@ -193,7 +193,7 @@ fn read_head(rt: &HostRuntime, path: &str, head: &mut [u8; 32]) -> io::Result<()
     File::open(rt, path)?.read_exact(head)
 }
 
-/// The path of the log: beside the file to which the path leads.
+/// The path of the log: next to the file that the path leads to.
 fn path_of_log(rt: &HostRuntime, path: &str) -> io::Result<String> {
     let real = fs::canonicalize(rt, path)?;
     Ok(format!(in rt.alloc(); "{}-wal", real.as_str())?)

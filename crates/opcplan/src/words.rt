@@ -1,4 +1,4 @@
-//! The words that the program is called with.
+//! The arguments of the program.
 
 ghost use Rattle.std.specs.Prelude.{codes};
 ghost use Rattle.clap.specs.Matches.{first_value, found_of, one_text};
@@ -11,7 +11,7 @@ use std::alloc::{AllocError, Global};
 use std::env::{self, Env};
 use std::io;
 
-/// The database file that the words name.
+/// The database file that the arguments name.
 #[derive(Debug, Drop)]
 pub struct NamedFile {
     /// Its path, as it is.
@@ -20,12 +20,12 @@ pub struct NamedFile {
     pub new_has_sums: bool,
 }
 
-/// What the words ask for.
+/// What the arguments request.
 #[derive(Debug, Drop)]
 pub enum Asked {
     /// To answer the stream, over this database file or, where none is named, over lists.
     Run(Option<NamedFile>),
-    /// Nothing more: help was printed, or what is wrong with the words. This is the exit status.
+    /// Nothing more: help was printed, or what is wrong with the arguments. This is the exit status.
     Answered(u8),
     /// Memory was refused before that was known.
     Memory,
@@ -37,7 +37,7 @@ const VERSION: &str = "1.0.0
 schema 2
 sources ................................................................";
 
-/// What stands below the options in the help.
+/// What the help has below the options.
 const STATEMENTS: &str = "\
 Statements, one a line:
   define KIND --job N (a data block, then /*)   undefine KIND --name NAME --job N
@@ -61,7 +61,7 @@ such a file, but what it writes there spoils the sums, and the file is then refu
 docs/rules/TABLES.md says how to remove and add sums.
 docs/rules/STATEMENTS.md explains the statements, docs/use/GUIDE.md an operator's week.";
 
-/// The words that may be given: `--db FILE`, `--sums` beside it, and `--help`.
+/// The arguments: `--db FILE`, with it `--sums`, and `--help`.
 fn command<'a>(alloc: Global) -> Result<Command<'a>, AllocError> {
     Command::new(alloc, "opcplan")
         .version(VERSION)
@@ -87,8 +87,8 @@ fn command<'a>(alloc: Global) -> Result<Command<'a>, AllocError> {
         )
 }
 
-/// Reads the words of the call. Help goes to standard output, what is wrong with them to standard
-/// error. Words that are not text are wrong.
+/// Reads the arguments. Help goes to standard output, what is wrong with the arguments to standard error. Arguments
+/// that are not text are wrong.
 pub fn read_words<R: Env + AllocGlobal + Print + Eprint>(rt: &R) -> Asked {
     let words = match env::args(rt) {
         Ok(words) => words,
@@ -101,7 +101,7 @@ pub fn read_words<R: Env + AllocGlobal + Print + Eprint>(rt: &R) -> Asked {
     }
 }
 
-/// What the words ask for, the first of which is the program's name.
+/// What the arguments request, the first of which is the program's name.
 fn what_is_asked<R: AllocGlobal + Print + Eprint>(rt: &R, words: &[String]) -> Asked {
     let Ok(command) = command(rt.alloc()) else {
         return Asked::Memory;
@@ -112,7 +112,7 @@ fn what_is_asked<R: AllocGlobal + Print + Eprint>(rt: &R, words: &[String]) -> A
     }
 }
 
-/// The file that the words name, if they name one.
+/// The file that the arguments name, if they name one.
 fn file_named(alloc: Global, matches: &ArgMatches<'_>) -> Asked
     ensures { IsNamed (first_value (found_of matches.now) (codes "db"))
         (one_text (found_of matches.now) (codes "sums")) result }
@@ -127,7 +127,7 @@ fn file_named(alloc: Global, matches: &ArgMatches<'_>) -> Asked
     }
 }
 
-/// Prints help, or what is wrong with the words.
+/// Prints help, or what is wrong with the arguments.
 fn print_answer<R: Print + Eprint>(rt: &R, error: &Error, words: &[String]) -> Asked {
     if error.kind() == ErrorKind::OutOfMemory {
         return Asked::Memory;
@@ -143,7 +143,7 @@ fn print_answer<R: Print + Eprint>(rt: &R, error: &Error, words: &[String]) -> A
     }
 }
 
-/// Suggests `--db FILE` to who names the file alone. No memory is taken.
+/// Suggests `--db FILE` to someone who gives the file alone. No memory is allocated.
 fn suggest_db(rt: &impl Eprint, words: &[String]) {
     let mut named = None;
     let mut is_first = true;
@@ -161,7 +161,7 @@ fn suggest_db(rt: &impl Eprint, words: &[String]) {
     }
 }
 
-/// Reports that a word is no text.
+/// Reports that an argument is no text.
 fn not_text(rt: &impl Eprint) -> Asked {
     let _ = rt.eprintln("error: a word is not valid UTF-8");
     Asked::Answered(FAILED)

@@ -13,7 +13,7 @@ use Rattle.plan_files.specs.Found.{IsFirstToldBy}
 use Rattle.plan_files.specs.declared.openings.Begun.{Begun}
 use Rattle.plan_files.specs.declared.openings.Begun.TheVariants.{AsItWas, New, Migrated}
 
--- by whether tables of schema 1 were renewed, and whether the name of `plan_meta` is used
+-- by whether tables of schema 1 were replaced, and whether the name of `plan_meta` is used
 abbrev pub begun_of : Bool → Bool → Begun
 begun_of true _ = Migrated
 begun_of false true = AsItWas
@@ -34,7 +34,7 @@ pub record IsBegunIn (image : Image) (begun : Begun) (c : Content) : Type 0 wher
   pub reads : AreFoundIn image found.trees
   pub was : IsBegunOn begun found c
 
--- it is reported once what a run begins with, and what is reported was so where the disk was honest
+-- what a run begins with is reported once, and the report is true if the disk was honest
 pub record IsReported {O : Type 0} (reports : O → Begun → O → Type 0) (old new : O) (IsHonest : Type 0)
     (Was : Begun → Type 0) : Type 0 where
   pub begun : Begun

@@ -12,8 +12,8 @@ use Rattle.planner_cli.specs.declared.faults.RunFault.{RunFault}
 use Rattle.planner_cli.specs.declared.tally.Tally.{Tally}
 use Rattle.plan_files.specs.Life.{AreRuns, IsLived}
 
--- what a run that ended so may leave in its files: what it left; or, after a fault, that after the statements answered,
--- or after the one in hand too
+-- what a run that ended so may leave in its files: what it left; or, after a fault, that after the acknowledged
+-- statements, or after the one in progress too
 abbrev pub Leaves : Ends → Result Tally RunFault → Content → Type 0
 Leaves ends (Ok tally) c = c ≡ ends.after
 Leaves ends (Err fault) c = CrashedPlan ends fault c
@@ -32,7 +32,7 @@ abbrev pub AreFileRuns : ℕ → Content → Content → Type 0
 AreFileRuns zero c c' = c' ≡ c
 AreFileRuns (suc n) c c' = (between : Content) × IsRunFrom c between × AreFileRuns n between c'
 
--- the law of a plan's life: they lead from nothing known to a sound content in which each serial ever issued stands in
+-- the law of a plan's life: they lead from nothing known to a sound content in which each serial ever issued is in
 -- exactly one place, where its fates put it
 abbrev pub FilesLive : Type 0
 FilesLive = (n : ℕ) (c : Content) → AreFileRuns n nothing_known c

@@ -11,15 +11,15 @@ use Rattle.table_remaking.specs.FirstSchema.{CanRemake}
 use Rattle.table_opening.specs.Opened.{IsToldBy}
 use Rattle.plan_migrations.specs.FirstContent.{IsFirstContentOf}
 
--- the database has tables of schema 1, which tell the content
+-- the database has tables of schema 1, which have the content
 abbrev pub IsFirstToldBy : Database → Content → Type 0
 IsFirstToldBy db c = CanRemake db.schema × IsFirstContentOf (tables_of db.trees) c
 
--- the database tells the content, by tables of the current schema or of schema 1
+-- the database has the content, in tables of the current schema or of schema 1
 abbrev pub IsToldNow : State → Content → Type 0
 IsToldNow s c = IsToldBy s.now c ⊎ IsFirstToldBy s.now c
 
--- the database that such files hold has tables of schema 1, which tell the content
+-- the database that such files hold has tables of schema 1, which have the content
 pub record IsFirstFoundIn (image : Image) (c : Content) : Type 0 where
   pub found : Database
   pub obeys : IsDatabase found

@@ -9,7 +9,7 @@ use Rattle.table_schema.specs.Rows.{tables_of}
 use Rattle.table_opening.specs.Stored.{AllHaveRowids}
 use Rattle.plan_tables.specs.Found.{Tells}
 
--- this database has the tables of a plan, which tell a sound content that is led to
+-- this database has the tables of a plan, with a sound content that is led to
 pub record TellsLed (Led : Content → Type 0) (db : Trees) : Type 0 where
   pub content : Content
   pub sound : IsSound content

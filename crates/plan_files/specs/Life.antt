@@ -6,7 +6,7 @@ use Rattle.planner_machine.specs.Sound.{IsSound}
 use Rattle.planner_machine.specs.Statement.{Answer, Statement}
 use Rattle.planner_machine.specs.Stream.{IsStatement, Lives, Runs}
 
--- the statements lead from one content to the other: those that one run answered, or these and the one in hand
+-- the statements lead from one content to the other: those that one run acknowledged, or these and the one in progress
 pub record Leads (stream : List Statement) (c c' : Content) : Type 0 where
   pub answers : List Answer
   pub well_formed : All IsStatement stream
@@ -21,8 +21,8 @@ AreRuns (stream ∷ streams) c c' = (between : Content) × Leads stream c betwee
 abbrev pub all_of : List (List Statement) → List Statement
 all_of streams = flat_map (λ stream. stream) streams
 
--- after the whole life of a plan: its content is sound, and each serial ever issued stands in exactly one place, where
--- its fates put it since it was made
+-- after the whole life of a plan: its content is sound, and each serial ever issued is in exactly one place, where its
+-- fates put it since it was made
 pub record IsLived (streams : List (List Statement)) (c : Content) : Type 0 where
   pub leads : Leads (all_of streams) nothing_known c
   pub sound : IsSound c

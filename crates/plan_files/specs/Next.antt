@@ -24,8 +24,8 @@ use Rattle.plan_files.specs.Over.{AreHonest, RunsOverFiles}
 use Rattle.plan_files.specs.Unrun.{HoldsNoPlan}
 use Rattle.plan_files.specs.declared.refusals.Unrun.{Unrun}
 
--- what a run may find in the files: the content that their tables tell, of the current schema or of schema 1; nothing known
--- where they hold no plan
+-- what a run may find in the files: the content of their tables, of the current schema or of schema 1; nothing known
+-- if they hold no plan
 abbrev pub MayFind : Image → Content → Type 0
 MayFind image c = IsFoundIn image c ⊎ IsFirstFoundIn image c
 
@@ -37,7 +37,7 @@ pub record IsRunOver (image left : Image) : Type 0 where
   pub found : MayFind image ends.before
   pub holds : HoldsLed left (Leaves ends outcome)
 
--- each run over files is one, however it ended and its files were let go, and whatever a crash left of them
+-- each run over files is one, however it ended and its files were closed, and whatever a crash left of them
 abbrev pub HandsOn : {D : Type 0} → disk.Ghosts D → Type 0
 HandsOn {D} g = (image : Image) (ends : Ends) (outcome : Result Tally RunFault) (is_whole : Bool) (go : LetGo D)
     → RunsOverFiles g image ends outcome is_whole go → AreHonest g go.files → (left : Image)
@@ -73,8 +73,8 @@ abbrev pub BytesLive : Type 0
 BytesLive = (n : ℕ) (first last : Image) (c : Content) → AreRunsOver n first last → MayFind last c
     → (was : Content) × MayFind first was × AreFileRuns n was c
 
--- and where nothing was known before them: it is sound, and each serial issued stands in exactly one place in it, where its
--- fates put it since it was made
+-- and where nothing was known before them: it is sound, and each serial issued is in exactly one place in it, where
+-- its fates put it since it was made
 abbrev pub WholeLife : Type 0
 WholeLife = (n : ℕ) (first last : Image) (c : Content) → ((was : Content) → MayFind first was → was ≡ nothing_known)
     → AreRunsOver n first last → MayFind last c

@@ -5,7 +5,7 @@ use Rattle.table_opening.specs.Faults as opening
 use Rattle.plan_files.specs.declared.refusals.Unrun.{Unrun}
 use Rattle.plan_files.specs.declared.refusals.Unrun.TheVariants.{Unadopted, Unmigrated, Unopened}
 
--- the number that a program tells
+-- the number that a program reports
 abbrev pub number_of : Unrun → ℕ
 number_of (Unopened fault) = opening.number_of fault
 number_of (Unmigrated fault) = migrating.number_of fault

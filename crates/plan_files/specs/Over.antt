@@ -20,45 +20,45 @@ use Rattle.plan_files.specs.FileRuns.{Leaves}
 use Rattle.plan_files.specs.Found.{IsFirstFoundIn, IsToldNow}
 use Rattle.plan_files.specs.Left.{HoldsLed, HoldsLedAlone}
 
--- up to when both files were let go nothing that nobody wrote was read of them
+-- until both files were closed, only bytes were read of them that somebody wrote
 abbrev pub AreHonest : {D : Type 0} (g : disk.Ghosts D) → Files D → Type 0
 AreHonest g files = AreClean g files.log files.db
 
 -- a run and what it leaves in its files: what its replies print leads from the one content to the other, which after a
--- fault is some content that such a run may leave, whatever became of the store. A store that looks things up in its
--- tables answers by what it reads, so nothing is said where bytes were read that nobody wrote
+-- fault is some content that such a run may leave, whatever happened to the store. A store that queries its tables
+-- answers by what it reads, so nothing is said if bytes were read that nobody wrote
 pub record RunsFiles {D : Type 0} (g : disk.Ghosts D) (ends : Ends) (outcome : Result Tally RunFault) (is_whole : Bool)
     (go : LetGo D) : Type 0 where
   pub ran : AreHonest g go.files → IfOk outcome (RanPlan ends)
   pub fault : AreHonest g go.files → IfErr outcome (StoppedPlan ends)
-  -- whatever a crash left of both files since, and whether the log was copied or not, they hold a database that tells
-  -- what the run led to
+  -- whatever a crash left of both files since, and whether the log was copied or not, they hold a database with the
+  -- content that the run led to
   pub holds : AreHonest g go.files → (left : Image) → outcomes g go.files.log go.files.db left
       → ∥ HoldsLed left (Leaves ends outcome) ∥₁
-  -- of a store that was whole then they hold what it kept: after a fault of memory or of the reader the content after the
-  -- statements that were answered, and after one of the writer that which `fault` tells, and no other
+  -- if the store was whole then, they hold what it kept: after a fault of memory or of the reader the content after
+  -- the acknowledged statements, and after one of the writer that which `fault` names, and no other
   pub settled : IsTrue is_whole → AreHonest g go.files → (left : Image) → outcomes g go.files.log go.files.db left
       → ∥ HoldsLed left (λ c. c ≡ ends.after) ∥₁
   -- and once the log was copied into it, so does the database file alone
   pub alone : OnOk go.copied (AreHonest g go.files → (left : Image) → outcomes g go.files.log go.files.db left
       → ∥ HoldsLedAlone left (Leaves ends outcome) ∥₁)
 
--- a run over a connection that was open: what its database told when it began, and what its files hold in the end
+-- a run over a connection that was open: what its database had when it began, and what its files hold in the end
 pub record RunsOverConnection {D : Type 0} {g : disk.Ghosts D} (conn : Held (FileStore D g)) (ends : Ends)
     (outcome : Result Tally RunFault) (is_whole : Bool) (go : LetGo D) : Type 0 where
   pub honest : AreHonest g go.files → HasCleanDisk (file_state conn)
   pub told : AreHonest g go.files → IsToldBy (file_state conn).now ends.before
   pub runs : RunsFiles g ends outcome is_whole go
 
--- the same, where tables of schema 1 were renewed before
+-- the same, if tables of schema 1 were replaced before
 pub record RunsMigrated {D : Type 0} {g : disk.Ghosts D} (conn : Held (FileStore D g)) (ends : Ends)
     (outcome : Result Tally RunFault) (is_whole : Bool) (go : LetGo D) : Type 0 where
   pub honest : AreHonest g go.files → HasCleanDisk (file_state conn)
   pub told : AreHonest g go.files → IsToldNow (file_state conn) ends.before
   pub runs : RunsFiles g ends outcome is_whole go
 
--- a run over files, whatever they held: the content before was found in them, nothing known where they held no plan, or
--- told by their tables of schema 1
+-- a run over files, whatever they held: the content before is the one found in them, nothing known if they held no
+-- plan, or that of their tables of schema 1
 pub record RunsOverFiles {D : Type 0} (g : disk.Ghosts D) (image : Image) (ends : Ends)
     (outcome : Result Tally RunFault) (is_whole : Bool) (go : LetGo D) : Type 0 where
   pub found : AreHonest g go.files → IsFoundIn image ends.before ⊎ IsFirstFoundIn image ends.before

@@ -40,21 +40,22 @@ IsUnfit conn mid back (Unmigrated fault) = IsUnmigrated (file_state conn) (file_
 IsUnfit conn mid back (Unadopted fault) =
     IsCurrent (file_state conn) (file_state mid) × IsUnopened (file_state mid) (file_state back) fault
 
--- the same where the database holds a sound plan: memory is short, the device failed meanwhile, or a limit on steps is set
+-- the same if the database has a sound plan: memory is refused, the device failed meanwhile, or a limit on steps is
+-- set
 abbrev pub IsHindered : {D : Type 0} {g : disk.Ghosts D} (conn mid back : Held (FileStore D g)) → Unrun → Type 0
 IsHindered conn mid back (Unopened fault) = ⊥
 IsHindered conn mid back (Unmigrated fault) = IsFailure version_sql (file_state conn) (file_state back) fault
 IsHindered conn mid back (Unadopted fault) = IsCommon (file_state mid) (file_state back) fault
 
--- what a crash may leave of it: what was found; its tables of schema 1 renewed; or the first tables of a plan beside the
--- others
+-- what a crash may leave of it: what was found; its tables of schema 1 replaced; or the first tables of a plan next to
+-- the others
 abbrev pub IsSpared : State → Trees → Type 0
 IsSpared s db = (db ≡ s.committed.trees) ⊎ (MayRenew s db ⊎ MakesFirst s db)
 
--- a connection is let go, since no stream is run over its database; this is left of what held it
+-- a connection is dropped, because no stream is run over its database; this is left of what held it
 pub record IsUnmade {D : Type 0} {g : disk.Ghosts D} (conn : Held (FileStore D g)) (left : Unrun × FileStore D g)
     : Type 0 where
-  -- the connection as it was when its database was of the current schema, and as it was let go
+  -- the connection as it was when its database was of the current schema, and as it was dropped
   pub mid : Held (FileStore D g)
   pub back : Held (FileStore D g)
   -- why, by what is there
@@ -88,7 +89,7 @@ pub record IsUnadopted {D : Type 0} {g : disk.Ghosts D} (conn : Held (FileStore 
 -- files that held this were opened, and no stream is run over the database in them; this is left of them
 pub record HoldsNoPlan {D : Type 0} {g : disk.Ghosts D} (image : Image) (fault : Unrun) (left : FileStore D g)
     : Type 0 where
-  -- the connection to the database that was found, as it was when it was asked last, and as it was let go
+  -- the connection to the database that was found, as it was when it was queried last, and as it was dropped
   pub conn : Held (FileStore D g)
   pub mid : Held (FileStore D g)
   pub back : Held (FileStore D g)
@@ -96,7 +97,7 @@ pub record HoldsNoPlan {D : Type 0} {g : disk.Ghosts D} (image : Image) (fault :
   pub found : IsClean (view left) → IsOpened conn × FindsIn image (file_state conn)
   -- why, by what is there
   pub unfit : IsClean (view left) → IsUnfit conn mid back fault
-  -- for nothing in the files, where they hold a sound plan
+  -- never for anything in the files, if they hold a sound plan
   pub hindered : IsClean (view left) → HoldsSound image → IsHindered conn mid back fault
   pub quiet : IsQuiet view faults recovers is_shielded back.store left
   -- whatever a crash leaves, the files hold a database, which is spared
@@ -104,8 +105,8 @@ pub record HoldsNoPlan {D : Type 0} {g : disk.Ghosts D} (image : Image) (fault :
   pub images : IsClean (view left) → (after : Image) → (state left).may_leave after
       → ∥ HoldsSuch after (recovers left) ∥₁
 
--- files are refused: memory is short, the device failed meanwhile or a limit of the files is met, or they don't hold what
--- is wanted
+-- files are refused: memory is refused, the device failed meanwhile or a limit of the files is reached, or they don't
+-- hold what is needed
 abbrev pub IsRefusedFor : {D : Type 0} {g : disk.Ghosts D} → Type 0 → Files D → Leftover D g → OpenFault → Type 0
 IsRefusedFor {D} {g} IsWanted files left = Refuses (named (tally_of_files g (files.log, files.db)) (tally_left left))
     (faults_of g files) (faults_left left) (IsFullLeft left) IsWanted
@@ -118,7 +119,7 @@ pub record AreRefused {D : Type 0} {g : disk.Ghosts D} (IsFresh : Bool → D →
   pub cause : OpenFault
   pub is : fault ≡ Unopened cause
   pub refused : IsCleanLeft left → IsRefused files left cause
-  -- for nothing in them, where they hold a sound plan
+  -- never for anything in them, if they hold a sound plan
   pub hindered : IsCleanLeft left → HoldsSound image → IsRefusedFor ⊤ files left cause
   pub unharmed : IsCleanLeft left → LeavesFiles files left
 
@@ -128,9 +129,9 @@ pub record IsNotRun {D : Type 0} {g : disk.Ghosts D} (IsFresh : Bool → D → T
     (Refuses : Error → Type 0) (fault : Unrun) (remains : Option (Leftover D g)) (error : Option Error) : Type 0 where
   -- an error is what `sqlite` reported as the files were opened, and the fault is the one for it
   pub told : IfSome error (λ e. (fault ≡ Unopened (unopened_for e)) × Refuses e)
-  -- and no files are said to be unopened without one
+  -- and the fault is that the files are not opened only if there is such an error
   pub asked : (cause : OpenFault) → fault ≡ Unopened cause → IsSome error
-  -- and it told one where nothing is left
+  -- and there is one if no files are left
   pub none : remains ≡ None → IsSome error × ((fault ≡ Unopened open_fault.Memory) ⊎ (fault ≡ Unopened open_fault.Unopened))
   pub some : IfSome remains (λ rest. AreRefused IsFresh image fault rest
       ⊎ ((store : FileStore D g) × (rest ≡ left.Store store) × HoldsNoPlan image fault store))

@@ -7,7 +7,7 @@ use planner_cli::reruns;
 use planner_machine::{empty_content_is_sound, streams};
 
 /// Law: whatever runs there were over a plan, each on what the one before it left, they lead from nothing known to a
-/// sound content, in which each serial ever issued stands in exactly one place, where its fates put it.
+/// sound content. In it each serial ever issued is in exactly one place, where its fates put it.
 pub fn plan_life()
     ensures { LifeLeads }
 {

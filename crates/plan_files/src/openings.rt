@@ -12,9 +12,9 @@ use plan_migrations::FIRST_VERSION;
 pub enum Begun {
     /// The plan that the files held.
     AsItWas,
-    /// A new plan, since they held none.
+    /// A new plan, because they held none.
     New,
-    /// The plan that they held, whose tables were of schema 1 and are made anew.
+    /// The plan that they held, whose tables were of schema 1 and are replaced.
     Migrated,
 }
 

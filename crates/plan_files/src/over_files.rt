@@ -22,7 +22,7 @@ use std::alloc::Global;
 use std::io::{BufRead, Write};
 use table_opening::has_meta;
 
-// Adopts a database, runs a stream over it, and lets its files go.
+// Adopts a database, runs a stream over it, and closes its files.
 fn run_adopted<D: Disk + Drop, O: Opening, R: BufRead, W: Write>(
     alloc: Global,
     conn: Connection<FileStore<D>>,
@@ -50,9 +50,9 @@ fn run_adopted<D: Disk + Drop, O: Opening, R: BufRead, W: Write>(
     }
 }
 
-/// Runs a stream over the plan in the database of a connection, and lets its files go: a plan of schema 1 is migrated
-/// first, and where there is none it gets one. Where no stream is run, it comes back why, with what is left of the files;
-/// nothing was read or written then.
+/// Runs a stream over the plan in the database of a connection, and closes its files. A plan of schema 1 is migrated
+/// first; if there is no plan, the database gets one. If no stream is run, it returns why, with what is left of the
+/// files; nothing was read or written then.
 pub fn run_over_connection<D: Disk + Drop, O: Opening, R: BufRead, W: Write>(
     alloc: Global,
     conn: Connection<FileStore<D>>,
@@ -81,10 +81,10 @@ pub fn run_over_connection<D: Disk + Drop, O: Opening, R: BufRead, W: Write>(
     }
 }
 
-/// Runs a stream over the plan in the files that are opened for it, whatever they hold, and lets them go. They get a plan
-/// where they hold none; one of schema 1 is migrated; `start` stands for what they hold. Where no stream is run, it comes
-/// back why, with what `sqlite` reported where the files were not opened, and with what is left of them; nothing was read
-/// or written then.
+/// Runs a stream over the plan in the files that are opened for it, whatever they hold, and closes them. They get a
+/// plan if they hold none; one of schema 1 is migrated; `start` stands for what they hold. If no stream is run, it
+/// returns why, with what `sqlite` reported if the files were not opened, and with what is left of them; nothing was
+/// read or written then.
 pub fn run_over_files<S: Start, F: FileOpener<S>, O: Opening, R: BufRead, W: Write>(
     alloc: Global,
     opener: F,

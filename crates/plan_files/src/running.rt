@@ -24,11 +24,11 @@ use table_facts::tables_have_one_content;
 /// How a run over files ended.
 #[derive(Drop)]
 pub struct Ended<D: Disk> {
-    /// What the run answered.
+    /// What the run returned.
     pub outcome: Result<Tally, RunFault>,
     /// Whether the store is known to have been whole then: no failure was counted, and its connection was open.
     pub is_whole: bool,
-    /// Both files as they were let go, and whether the log was copied into the database file, which then holds all.
+    /// Both files as they were closed, and whether the log was copied into the database file, which then holds all.
     pub let_go: LetGo<D>,
 }
 
@@ -46,7 +46,7 @@ fn are_both(a: bool, b: bool) -> bool
     a && b
 }
 
-/// Runs a stream over a store that is open, and lets its files go.
+/// Runs a stream over a store that is open, and closes its files.
 pub(crate) fn run_and_close<D: Disk + Drop, R: BufRead, W: Write>(
     alloc: Global,
     store: TableStore<FileStore<D>>,

@@ -1,11 +1,11 @@
 -- Parts of lines, and lists of lines.
 use Rattle.std.specs.Prelude.{ℕ, ◌-◌, List, [], ◌∷◌, ◌++◌, length, replicate}
 
--- a text left in so many places, filled up with blanks
+-- a text, left-aligned in that many places and filled up with blanks
 abbrev pub left_in : ℕ → List ℕ → List ℕ
 left_in width text = text ++ replicate (width - length text) 32
 
--- a text right in so many places, with blanks before it
+-- a text, right-aligned in that many places, with blanks before it
 abbrev pub right_in : ℕ → List ℕ → List ℕ
 right_in width text = replicate (width - length text) 32 ++ text
 

@@ -1,4 +1,4 @@
--- What a trial prints before its last line: rows behind signs, in one list.
+-- What a trial prints before its last line: rows with a sign before each, in one list.
 use Rattle.std.specs.Prelude.{◌≡◌, ℕ, List, [], ◌∷◌, ◌++◌, Option, Some, None, map, flat_map}
 use Rattle.std.specs.Str.{byte}
 use Rattle.std.specs.List.Sorted.{IsPermutation, IsSortedByKey}
@@ -16,7 +16,7 @@ abbrev pub letter_text : Option ℕ → List ℕ
 letter_text None = []
 letter_text (Some letter) = 32 ∷ letter ∷ []
 
--- the sign, a blank, the row, and what there is of a letter
+-- the sign, a blank, the row, and a blank and the letter, if there is one
 pub record IsSignedText (shown : Signed) (text : List ℕ) : Type 0 where
   pub row_text : List ℕ
   pub row_is : IsRowText shown.row row_text

@@ -1,4 +1,4 @@
-//! Printed lines, byte for byte: replies, refusals, rows of lists. Each is answered without its line feed.
+//! Printed lines, byte for byte: replies, refusals, rows of lists. Each is returned without its line feed.
 //!
 //! ```text
 //! let line = days_line(&named); // 2024-01-01 08.00 ALPHA    2024-01-02 06.00

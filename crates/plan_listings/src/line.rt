@@ -7,7 +7,7 @@ use arrayvec::ArrayVec;
 // As many blanks as the widest name has places.
 const BLANKS: [u8; 16] = [b' '; 16];
 
-// Writes a part behind what stands in the line.
+// Appends a part to the line.
 pub(crate) fn append<const N: usize>(line: &mut ArrayVec<u8, N>, part: &[u8])
     requires { array_vec_len line.old + length part.now ≤ N }
     ensures items { line.new.items ≡ line.old.items ++ part.now }
@@ -19,7 +19,7 @@ pub(crate) fn append<const N: usize>(line: &mut ArrayVec<u8, N>, part: &[u8])
     }
 }
 
-// Writes a text left in so many places, filled up with blanks.
+// Appends a text, left-aligned in that many places and filled up with blanks.
 pub(crate) fn append_left<const N: usize>(line: &mut ArrayVec<u8, N>, text: &[u8], width: usize)
     requires fits { length text.now ≤ width }
     requires room { array_vec_len line.old + width ≤ N }
@@ -31,7 +31,7 @@ pub(crate) fn append_left<const N: usize>(line: &mut ArrayVec<u8, N>, text: &[u8
     append(line, &BLANKS[..width - text.len()]);
 }
 
-// Writes a text right in so many places, with blanks before it.
+// Appends a text, right-aligned in that many places, with blanks before it.
 pub(crate) fn append_right<const N: usize>(line: &mut ArrayVec<u8, N>, text: &[u8], width: usize)
     requires fits { length text.now ≤ width }
     requires room { array_vec_len line.old + width ≤ N }

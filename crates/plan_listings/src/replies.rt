@@ -24,7 +24,7 @@ fn append_count(line: &mut Vec<u8>, word: &str, count: usize) -> Result<(), Allo
     append_number(line, count as u64)
 }
 
-/// The line of an accepted statement, without its line feed. Errs for want of memory alone.
+/// The line of an accepted statement, without its line feed. Errs only if memory is refused.
 pub fn reply_line(alloc: Global, reply: &Reply) -> Result<Vec<u8>, AllocError>
     ensures { IfOk result (λ line. line.items ≡ reply_text reply.now) }
 {
@@ -86,7 +86,7 @@ fn append_detail(line: &mut Vec<u8>, refusal: &Refusal) -> Result<(), AllocError
     }
 }
 
-/// The line of a refused statement, without its line feed. Errs for want of memory alone.
+/// The line of a refused statement, without its line feed. Errs only if memory is refused.
 pub fn refusal_line(alloc: Global, refusal: &Refusal) -> Result<Vec<u8>, AllocError>
     ensures { IfOk result (λ line. line.items ≡ refusal_text refusal.now) }
 {

@@ -19,7 +19,7 @@ pub struct Signed {
     pub letter: Option<u8>,
 }
 
-// Adds rows behind one sign.
+// Appends rows, each with the same sign before it.
 fn push_rows(
     all: &mut Vec<Signed>,
     rows: &[Row],
@@ -55,7 +55,7 @@ fn push_carried(all: &mut Vec<Signed>, rows: &[(Row, Status)]) -> Result<(), All
     Ok(())
 }
 
-// Appends what there is of a letter.
+// Appends a blank and the letter, if there is one.
 fn append_letter(text: &mut Vec<u8>, letter: Option<u8>) -> Result<(), AllocError>
     ensures { OnOk result (text.new.items ≡ text.old.items ++ letter_text letter) }
 {
@@ -100,7 +100,8 @@ fn report(alloc: Global, mut rows: Vec<Signed>) -> Result<Vec<u8>, AllocError>
 }
 
 /// The rows of a trial of the long-term plan, each line with its line feed: `+ ` before those that would be made, and
-/// `- ` before those that would be withdrawn, by input arrival, application and serial. Errs for want of memory alone.
+/// `- ` before those that would be withdrawn, by input arrival, application and serial. Errs only if memory is
+/// refused.
 pub fn ltp_report(alloc: Global, made: &[Row], withdrawn: &[Row]) -> Result<Vec<u8>, AllocError>
     ensures { IfOk result (λ text. IsReport (plan_signs made.now withdrawn.now) text.items) }
 {
@@ -110,9 +111,9 @@ pub fn ltp_report(alloc: Global, made: &[Row], withdrawn: &[Row]) -> Result<Vec<
     report(alloc, rows)
 }
 
-/// The rows of a trial of a daily plan, each line with its line feed: `> ` before those that would be moved (status W),
-/// `= ` before those carried (their status), `H ` before those that would go to history (C), `X ` before those that
-/// would go to the deletions (D), by input arrival, application and serial. Errs for want of memory alone.
+/// The rows of a trial of a daily plan, each line with its line feed: `> ` before those that would be moved (status
+/// W), `= ` before those carried (their status), `H ` before those that would go to history (C), `X ` before those
+/// that would go to the deletions (D), by input arrival, application and serial. Errs only if memory is refused.
 pub fn dp_report(
     alloc: Global,
     moved: &[Row],

@@ -1,4 +1,4 @@
--- What a database of whatever tables answers that is asked, and why it fails to answer.
+-- What a query of a database with any tables returns, and why it fails.
 use Rattle.std.specs.Prelude.{◌≡◌, ◌⊎◌, false, ℕ, List, []}
 use Rattle.sqlite.specs.Clock.{timed}
 use Rattle.sqlite.specs.Effect.{Database, Reads}
@@ -12,7 +12,7 @@ use Rattle.table_opening.specs.Foreign.{LacksMemory}
 use Rattle.plan_migrations.specs.declared.faults.MigrateFault.{MigrateFault}
 use Rattle.plan_migrations.specs.declared.faults.MigrateFault.TheVariants.{Memory, Device}
 
--- these rows are what the database has to show to the question
+-- these rows are what the query selects from the database
 abbrev pub HasAnswer : List ℕ → State → List Values → Type 0
 HasAnswer sql s rows = (c : Compiled) × (it : IsStatement s sql [] c) × (db : Database)
     × IsSourceOf (reads_listing s.now.schema sql) s.now db × Reads c.command db (timed [] c.formats it.now) rows
@@ -21,13 +21,13 @@ HasAnswer sql s rows = (c : Compiled) × (it : IsStatement s sql [] c) × (db : 
 abbrev pub FailsByDevice : State → State → Type 0
 FailsByDevice old new = MoreFaults old.faults new.faults ⊎ (old.is_open ≡ false)
 
--- why the question is not answered: for want of memory, or by the device
+-- why the query fails: lack of memory, or the device
 abbrev pub IsFailure : List ℕ → State → State → MigrateFault → Type 0
 IsFailure sql old new Memory = LacksMemory sql old new
 IsFailure sql old new Device = FailsByDevice old new
 IsFailure sql old new _ = ⊥
 
--- the same of a question for one of the tables
+-- the same of a query on one of the tables
 abbrev pub IsFailureOfOne : (Table → List ℕ) → State → State → MigrateFault → Type 0
 IsFailureOfOne sql old new Memory = (t : Table) × LacksMemory (sql t) old new
 IsFailureOfOne sql old new Device = FailsByDevice old new

@@ -30,7 +30,7 @@ abbrev pub IsFirstPredecessorRow : List ℕ → List Predecessor → Values → 
 IsFirstPredecessorRow app all values =
     (p : Predecessor) × Contains all p × (values ≡ first_predecessor_values app p)
 
--- a fact of the content that belongs to the table: as in the current schema, but for the version and the limits
+-- a fact of the content that belongs to the table: as in the current schema, except for the version and the limits
 abbrev pub IsFirstFact : Table → Content → Values → Type 0
 IsFirstFact table.Meta c values = values ≡ first_meta_values c.sets.bounds c.sets.issued c.definitions.options
 IsFirstFact table.Predecessor c values = IsOfSome IsFirstPredecessorRow c.definitions.predecessors values

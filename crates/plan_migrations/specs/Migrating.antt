@@ -45,13 +45,13 @@ TellsOf e _ = ⊥
 
 -- ---- tables of the current schema
 
--- a table is of its schema, or another one
+-- a table is of its schema, or is not
 abbrev pub ChecksTable : State → State → Table → Result (Unit {0}) MigrateFault → Type 0
 ChecksTable old new t (Ok _) = IsOfSchema old new t
 ChecksTable old new t (Err OtherTable) = IsOther old new t
 ChecksTable old new t (Err fault) = IsFailure (select_sql t) old new fault
 
--- each of the tables is of its schema, or one of them is another
+-- each of the tables is of its schema, or one of them is not
 abbrev pub ChecksTables : State → State → List Table → Result (Unit {0}) MigrateFault → Type 0
 ChecksTables old new tables (Ok _) = IsUnchanged old new × All (IsOfSchema old new) tables
 ChecksTables old new tables (Err OtherTable) = (t : Table) × IsOther old new t
@@ -63,12 +63,12 @@ ChecksTables old new tables (Err fault) = IsFailureOfOne select_sql old new faul
 abbrev pub AreShown : State → State → FirstRows → Type 0
 AreShown old new read = Shown (first_select_sql read.table) [] old new read.rows.items
 
--- why rows are not read: a table is another, or it fails
+-- why rows are not read: a table is not of its schema, or it fails
 abbrev pub FailsToRead : State → State → Table → MigrateFault → Type 0
 FailsToRead old new t OtherTable = IsOtherFirst old new t
 FailsToRead old new t fault = IsFailure (first_select_sql t) old new fault
 
--- memory may also be short where nothing happened to the database
+-- memory may also be refused if nothing happened to the database
 abbrev pub FailsToReadAll : State → State → MigrateFault → Type 0
 FailsToReadAll old new OtherTable = (t : Table) × IsOtherFirst old new t
 FailsToReadAll old new Memory = IsUnchanged old new ⊎ IsFailureOfOne first_select_sql old new Memory
@@ -80,8 +80,8 @@ FailsToReadAll old new fault = IsFailureOfOne first_select_sql old new fault
 abbrev pub HaveOtherRowids : Database → Type 0
 HaveOtherRowids db = HaveStayingRowids (tables_of db.trees) → ⊥
 
--- the rowids of the table are integers, and none comes twice, if it stays; or one isn't so; or it fails. A limit on steps
--- may be met.
+-- the rowids of the table are integers, and none comes twice, if it stays; or one isn't so; or it fails. A limit on
+-- steps may be reached.
 abbrev pub ChecksRowids : State → State → Table → Result (Unit {0}) MigrateFault → Type 0
 ChecksRowids old new t (Ok _) = is_changed t ≡ false → HaveRowids (tables_of old.now.trees t)
 ChecksRowids old new t (Err Rows) = HaveOtherRowids old.now
@@ -105,19 +105,19 @@ HaveContent reads c = (all : Tables) → AreRemade reads all → IsContentOf all
 abbrev pub HaveSound : List FirstRows → Type 0
 HaveSound reads = (c : Content) × IsSound c × HaveContent reads c
 
--- tables of a plan that stand alone take one of the rows not
+-- tables of a plan that are alone in a database don't accept one of the rows
 abbrev pub AreNotTaken : List FirstRows → Error → Type 0
 AreNotTaken reads e = RefusesToFill None plan_schema (with_all_put reads no_rows) e
 
--- why they have no sound content: the tables of a plan take one of them not, or what they tell is not sound; or memory is
--- short
+-- why they have no sound content: the tables of a plan don't accept one of them, or their content is not sound; or
+-- memory is refused
 abbrev pub FailToHold : List FirstRows → MigrateFault → Type 0
 FailToHold reads OtherTable = (e : Error) × TellsOf e OtherTable × AreNotTaken reads e
 FailToHold reads Rows = (c : Content) → HaveContent reads c → IsSound c → ⊥
 FailToHold reads Memory = ⊤
 FailToHold reads _ = ⊥
 
--- ---- they are renewed
+-- ---- they are replaced
 
 -- each table shows what it showed, each row as often: with no limits, and the current version
 abbrev pub AreRenewed : Tables → Tables → Type 0
@@ -127,10 +127,9 @@ AreRenewed old new = (t : Table) → IsPermutation (map (remade_row t) (map (fir
 abbrev pub KeepsContent : Tables → Tables → Type 0
 KeepsContent old new = (c : Content) → IsFirstContentOf old c ↔ IsContentOf new c
 
--- tables of schema 1 stood there, and nothing was in the way of the two of schema 2; these stand in place of the two that
--- change, in a database that keeps its rules, behind all others, which stay where they were, with all their indexes;
--- they have the rows and the content of those of schema 1, which is sound; the tables beside the plan have the rows that
--- they had
+-- tables of schema 1 were there, and nothing was in the way of the two of schema 2; these replace the two that change,
+-- in a database that keeps its rules, after all others, which stay where they were, with all their indexes; they have
+-- the rows and the content of those of schema 1, which is sound; all other tables have the rows that they had
 pub record RenewsFrom (old : Database) (db : Trees) : Type 0 where
   pub was : CanRemake old.schema
   pub schema : Schema
@@ -147,7 +146,7 @@ pub record RenewsFrom (old : Database) (db : Trees) : Type 0 where
 abbrev pub MayRenew : State → Trees → Type 0
 MayRenew s db = RenewsFrom s.now db
 
--- the tables of schema 1 stood there; those of the current schema stand there, and all of it is committed
+-- the tables of schema 1 were there; those of the current schema are there, and all of it is committed
 pub record IsRenewed (old new : State) : Type 0 where
   pub remade : IsRemadeOf old.now new.now
   pub renewed : MayRenew old new.now.trees
@@ -165,7 +164,7 @@ pub record IsRemade (reads : List FirstRows) (old new : State) : Type 0 where
 
 -- ---- they are not
 
--- why they were not made anew: a statement is refused, or it fails
+-- why they were not replaced: a statement is refused, or it fails
 abbrev pub FailsToRemake : List FirstRows → State → State → MigrateFault → Type 0
 FailsToRemake reads old new Device = FailsByDevice old new
 FailsToRemake reads old new fault = (e : Error) × TellsOf e fault
@@ -178,8 +177,8 @@ pub record AreRead (old : Database) (reads : List FirstRows) : Type 0 where
   pub typed : AreAllFirst reads
   pub rows : AreRowsOf (tables_of old.trees) reads
 
--- they were read, and then tables of a plan took one of them not, beside other tables or alone; or the statement would
--- take more steps than are allowed
+-- they were read, and then tables of a plan didn't accept one of them, next to other tables or alone; or the statement
+-- would take more steps than are allowed
 abbrev pub IsNotWritten : State → State → Type 0
 IsNotWritten old new = (reads : List FirstRows) × AreRead old.now reads × (e : Error) × TellsOf e OtherTable
     × (AreNotTaken reads e ⊎ FailsFor (RefusesToRemake old.step_limit reads old.now) old new e)
@@ -189,9 +188,9 @@ abbrev pub LacksMemoryToWrite : State → State → Type 0
 LacksMemoryToWrite old new = (reads : List FirstRows) × AreRead old.now reads × HaveSound reads
     × FailsToRemake reads old new Memory
 
--- why they are not renewed: a table of schema 1 is missing or another, or something is in the way of the two of schema 2;
--- a table has other rows; a row is not taken; what they tell is not sound, or a rowid is no integer or comes twice; or it
--- fails
+-- why they are not replaced: a table of schema 1 is missing or differs, or something is in the way of the two of
+-- schema 2; a table has other rows; a row is not accepted; the content is not sound, or a rowid is no integer or comes
+-- twice; or it fails
 abbrev pub IsUnrenewed : State → State → MigrateFault → Type 0
 IsUnrenewed old new UnknownVersion = ⊥
 IsUnrenewed old new OtherTable = (CanRemake old.now.schema → ⊥)
@@ -205,7 +204,7 @@ IsUnrenewed old new Device = FailsByDevice old new
 -- ---- all together
 
 -- there are no tables, and none are made; or the tables of a plan are of the current schema, and stay as they are; or
--- they were of schema 1, and are renewed
+-- they were of schema 1, and are replaced
 abbrev pub IsMigrated : State → State → ℕ → ℕ → Type 0
 IsMigrated old new found left =
     ((found ≡ 0) × (left ≡ 0) × RefusesVersion old new × IsKept old new)
@@ -213,14 +212,14 @@ IsMigrated old new found left =
     × All (IsOfSchema old new) all_tables × IsKept old new)
     ⊎ ((found ≡ FIRST_VERSION) × (left ≡ SCHEMA_VERSION) × IsRenewed old new)
 
--- a plan of the current version of which one table is another, or can't be looked at for want of memory
+-- a plan of the current version of which one table differs, or can't be read for lack of memory
 abbrev pub IsUnchecked : State → State → MigrateFault → Type 0
 IsUnchecked old new OtherTable = ShowsVersion SCHEMA_VERSION old new × ((t : Table) × IsOther old new t)
 IsUnchecked old new Memory = IsOfVersion SCHEMA_VERSION old × IsFailureOfOne select_sql old new Memory
 IsUnchecked old new _ = ⊥
 
--- why it is not migrated: its version is unknown; it is of the current version and one of its tables is another, or of
--- the first and not renewed; or it fails to answer or to be written
+-- why it is not migrated: its version is unknown; it is of the current version and one of its tables differs, or of
+-- the first and not replaced; or it can't be read or written
 abbrev pub IsUnmigrated : State → State → MigrateFault → Type 0
 IsUnmigrated old new UnknownVersion = ShowsUnknown old new
 IsUnmigrated old new Memory = LacksMemory version_sql old new

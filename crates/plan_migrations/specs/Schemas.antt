@@ -37,8 +37,8 @@ ShowsUnknown old new = (rows : List Values) × Shown version_sql [] old new rows
 abbrev pub IsOfVersion : ℕ → State → Type 0
 IsOfVersion v s = (rows : List Values) × HasAnswer version_sql s rows × AreOf v rows
 
--- the version that is answered is the one that `plan_meta` shows; none is answered where the database refuses to show
--- it: it is without tables
+-- the version that is returned is the one that `plan_meta` shows; none is returned if the database refuses to show it:
+-- it is without tables
 abbrev pub TellsVersion : State → State → Result (Option ℕ) MigrateFault → Type 0
 TellsVersion old new (Ok (Some v)) = IsKnownVersion v × ShowsVersion v old new
 TellsVersion old new (Ok None) = RefusesVersion old new
@@ -47,11 +47,11 @@ TellsVersion old new (Err fault) = IsFailure version_sql old new fault
 
 -- ---- tables
 
--- what the text asks for is shown, and it is such
+-- what the query selects is shown, and it passes the test
 abbrev pub ShowsSuch : List ℕ → (List Values → Type 0) → State → State → Type 0
 ShowsSuch sql Such old new = (rows : List Values) × Shown sql [] old new rows × Such rows
 
--- it is not shown, neither for want of memory nor for the device; or it is not such
+-- it is not shown, for another reason than memory or the device; or it fails the test
 abbrev pub ShowsOther : List ℕ → (List Values → Type 0) → State → State → Type 0
 ShowsOther sql Such old new = RefusesToShow sql old new
     ⊎ ((rows : List Values) × Shown sql [] old new rows × (Such rows → ⊥))
@@ -60,7 +60,7 @@ ShowsOther sql Such old new = RefusesToShow sql old new
 abbrev pub IsOfSchema : State → State → Table → Type 0
 IsOfSchema old new t = ShowsSuch (select_sql t) (AreTyped t) old new
 
--- they are not shown, neither for want of memory nor for the device; or one has a value of another type
+-- they are not shown, for another reason than memory or the device; or one has a value of another type
 abbrev pub IsOther : State → State → Table → Type 0
 IsOther old new t = ShowsOther (select_sql t) (AreTyped t) old new
 

@@ -1,4 +1,4 @@
-// Questions to a database, whatever its tables are.
+// Queries of a database, whatever its tables are.
 
 ghost use Rattle.std.specs.Prelude.{◌≡◌, false, [], None, IfErr, IfOk, IfSome, OnOk};
 ghost use Rattle.sqlite.specs.State.{HasCleanDisk, IsUnchanged, Shown, Survives};
@@ -12,7 +12,7 @@ use crate::faults::MigrateFault;
 use sqlite::{Alter, Connection, Row as Cells};
 use table_opening::{OpenFault, fault_for};
 
-/// All rows that the text shows; `None` where the database refuses, neither for want of memory nor for the device.
+/// All rows that the text selects; `None` if the database refuses for another reason than memory or the device.
 pub(crate) fn ask<S: Alter>(
     conn: &mut Connection<S>,
     text: &str,

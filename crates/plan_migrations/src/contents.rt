@@ -1,4 +1,4 @@
-// The content of the tables of schema 1, before they are made anew.
+// The content of the tables of schema 1, before they are replaced.
 
 ghost use Rattle.std.specs.Prelude.{◌≡◌, IfErr, OnOk};
 ghost use Rattle.table_remaking.specs.Remaking.{AreAllFirst, AreWhole};
@@ -22,8 +22,8 @@ pub(crate) fn remake_fault(error: &Error) -> MigrateFault
     }
 }
 
-// The fault of a content that is not opened in memory: but for its rows, nothing can be the matter with tables that were
-// just made there.
+// The fault of a content that is not opened in memory: only its rows can be at fault, because the tables were just
+// made there.
 fn content_fault(fault: OpenFault) -> MigrateFault
     ensures { result ≡ fault_in_memory fault }
 {
@@ -33,7 +33,7 @@ fn content_fault(fault: OpenFault) -> MigrateFault
     }
 }
 
-/// Looks whether the rows have a sound content, once tables of a plan in memory have them.
+/// Checks that the rows have a sound content, once tables of a plan in memory have them.
 pub(crate) fn check_content(alloc: Global, reads: &[FirstRows]) -> Result<(), MigrateFault>
     requires whole { AreWhole reads.now }
     requires typed { AreAllFirst reads.now }

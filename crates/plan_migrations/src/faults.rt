@@ -14,7 +14,7 @@ pub enum MigrateFault {
     /// A table is not of its schema: it can't be read, or has a value of another type.
     #[error("a table is not of its schema")]
     OtherTable,
-    /// What its rows tell is not sound.
+    /// What its rows encode is not sound.
     #[error("its rows are no sound plan")]
     Rows,
     /// Memory was refused.
@@ -25,8 +25,7 @@ pub enum MigrateFault {
     Device,
 }
 
-/// The number of the fault that tells it: 50 for an unknown version, 51 for a table, 52 for rows, 40 for memory, 41 for
-/// the device.
+/// The number of the fault: 50 for an unknown version, 51 for a table, 52 for rows, 40 for memory, 41 for the device.
 pub fn migrate_fault_number(fault: &MigrateFault) -> u8
     ensures { result ≡ number_of fault.now }
 {

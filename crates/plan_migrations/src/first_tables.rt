@@ -24,8 +24,8 @@ use table_remaking::{
 };
 use table_schema::Table;
 
-// Whether the first tables stand in the schema, wherever that is, and those that change can be made in what is left
-// without them.
+// Whether the first tables are in the schema, in any place, and those that change can be made in what is left without
+// them.
 fn can_remake(
     alloc: Global,
     schema: &Schema,
@@ -42,8 +42,8 @@ fn can_remake(
     Ok(can_make(&left, changed))
 }
 
-/// Whether the tables of schema 1 stand in the database, wherever that is, and nothing is in the way of the two of schema
-/// 2 that are made in place of those that change.
+/// Whether the tables of schema 1 are in the database, in any place, and nothing is in the way of the two of schema 2
+/// that replace those that change.
 pub(crate) fn has_first_tables<S: Alter>(alloc: Global, conn: &Connection<S>) -> Result<bool, Error>
     ensures { IfOk result (λ b. IsTrue b ↔ CanRemake (state S.Store conn.now).now.schema) }
 {
@@ -81,7 +81,7 @@ fn read_table<S: Alter>(conn: &mut Connection<S>, table: Table) -> Result<FirstR
     }
 }
 
-/// Reads the rows of the tables, up to the first that is another.
+/// Reads the rows of the tables, up to the first that is not of its schema.
 pub(crate) fn read_tables<S: Alter>(
     alloc: Global,
     conn: &mut Connection<S>,

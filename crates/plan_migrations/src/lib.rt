@@ -1,5 +1,5 @@
-//! The version of a plan in a database, and its tables made those of the current schema: those of schema 1 are made anew
-//! with their rows, and others are looked at.
+//! The version of a plan in a database, and the migration of its tables to the current schema: those of schema 1 are
+//! replaced, with their rows; others are checked.
 #![tactic(auto)]
 
 mod asking;

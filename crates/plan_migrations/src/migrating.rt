@@ -14,10 +14,10 @@ use sqlite::{Alter, Connection};
 use std::alloc::Global;
 use table_schema::{SCHEMA_VERSION, TABLES};
 
-/// Makes the tables of a plan those of the current schema, with their rows, all of them or none, also over a crash; and
-/// answers the version that it found and the one that it left, (0, 0) where the database is without tables. Tables of the
-/// current schema stay as they are, and so do the tables beside them. What tables of schema 1 tell is sound, or it
-/// refuses them, and they stay as they are.
+/// Makes the tables of a plan those of the current schema, with their rows, all of them or none, even over a crash.
+/// Returns the version that it found and the one that it left, (0, 0) if the database has no tables of a plan. Tables
+/// of the current schema stay as they are, and so do all other tables. If the content of tables of schema 1 is not
+/// sound, it refuses them, and they stay as they are.
 pub fn migrate<S: Alter>(
     alloc: Global,
     conn: &mut Connection<S>,

@@ -26,8 +26,8 @@ fn version_of(found: u32) -> Option<u32>
 }
 
 /// Migrates a plan of an older version. One of the current version stays as it is, and so does a database without
-/// tables: its tables are looked at where it is adopted, so they are not read twice. Answers the version that it found;
-/// one that holds a sound plan of the current schema is refused for a common cause alone.
+/// tables: adoption checks its tables, so they are not read twice. Returns the version that it found. A database that
+/// has a sound plan of the current schema is refused only for one of the four general errors.
 pub fn migrate_older<S: Alter>(
     alloc: Global,
     conn: &mut Connection<S>,

@@ -22,7 +22,7 @@ use std::alloc::Global;
 use table_remaking::{FirstRows, remake_tables};
 use table_schema::TABLES;
 
-// Makes the tables anew with the rows that were read.
+// Replaces the tables by new ones with the rows that were read.
 fn remake<S: Alter>(
     alloc: Global,
     conn: &mut Connection<S>,
@@ -51,7 +51,7 @@ fn remake<S: Alter>(
     }
 }
 
-// Reads the rows of the tables of schema 1, and looks at the rowids of those that stay.
+// Reads the rows of the tables of schema 1, and checks the rowids of those that stay.
 fn read_first<S: Alter>(
     alloc: Global,
     conn: &mut Connection<S>,
@@ -87,7 +87,7 @@ fn read_first<S: Alter>(
     }
 }
 
-// The same with the rows that the tables have, where their content is sound.
+// The same with the rows that the tables have, if their content is sound.
 fn renew_first<S: Alter>(alloc: Global, conn: &mut Connection<S>) -> Result<(), MigrateFault>
     requires mode { conn.old.in_transaction ≡ false }
     requires first { CanRemake (state S.Store conn.old).now.schema }

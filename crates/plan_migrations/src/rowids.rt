@@ -13,14 +13,14 @@ use sqlite::{Alter, Connection};
 use table_opening::{are_rowids, rowid_text};
 use table_schema::Table;
 
-// Whether the table is made anew, so that its rowids are chosen anew.
+// Whether the table is replaced, so that its rowids are chosen anew.
 fn is_changed(table: Table) -> bool
     ensures { result ≡ is_changed table }
 {
     matches!(table, Table::Predecessor | Table::LinkInForce)
 }
 
-// Looks whether the rowids of a table that stays are integers, none of them twice.
+// Checks that the rowids of a table that stays are integers, none of them twice.
 fn check_staying<S: Alter>(conn: &mut Connection<S>, table: Table) -> Result<(), MigrateFault>
     requires mode { conn.old.in_transaction ≡ false }
     requires stays { is_changed table ≡ false }
@@ -73,7 +73,7 @@ fn check_table<S: Alter>(conn: &mut Connection<S>, table: Table) -> Result<(), M
     }
 }
 
-/// Looks whether the rowids of the tables that stay are integers, none of them twice in its table.
+/// Checks that the rowids of the tables that stay are integers, none of them twice in its table.
 pub(crate) fn check_rowids<S: Alter>(
     conn: &mut Connection<S>,
     tables: &[Table],

@@ -12,7 +12,7 @@ use sqlite::{Alter, Connection};
 use table_remaking::are_typed;
 use table_schema::{Table, select_text};
 
-// Looks whether the table is of its schema.
+// Checks that the table is of its schema.
 fn check_table<S: Alter>(conn: &mut Connection<S>, table: &Table) -> Result<(), MigrateFault>
     requires { conn.old.in_transaction ≡ false }
     ensures checked { HasCleanDisk (state S.Store conn.new)
@@ -33,7 +33,7 @@ fn check_table<S: Alter>(conn: &mut Connection<S>, table: &Table) -> Result<(), 
     }
 }
 
-/// Looks whether the tables are of their schema, up to the first that is not.
+/// Checks that the tables are of their schema, up to the first that is not.
 pub(crate) fn check_tables<S: Alter>(
     conn: &mut Connection<S>,
     tables: &[Table],

@@ -57,10 +57,10 @@ fn shown_version<S: Alter>(conn: &mut Connection<S>) -> Result<Option<u32>, Migr
     }
 }
 
-/// The version of the plan that the database has; `None` where it is without tables, which is where it refuses to show
-/// a version, neither for want of memory nor for the device. Nothing changes. It looks at the version alone, so one that
-/// it knows is told whatever else is the matter with the tables; that of a sound plan is told but for a common cause, or
-/// a limit on steps.
+/// The version of the plan that the database has. `None` if it has no tables of a plan, that is, if it refuses to show
+/// a version for another reason than memory or the device. Nothing changes. It reads the version alone, so it returns
+/// a known one whatever else is wrong with the tables; and it returns that of a sound plan unless one of the four
+/// general errors or a limit on steps prevents it.
 pub fn version<S: Alter>(conn: &mut Connection<S>) -> Result<Option<u32>, MigrateFault>
     requires { conn.old.in_transaction ≡ false }
     ensures tells { HasCleanDisk (state S.Store conn.new)

@@ -36,7 +36,7 @@ use Rattle.plan_pairs.specs.declared.additions.Plan.{Plan}
 use Rattle.plan_pairs.specs.declared.gathering.Reached.{Reached}
 use Rattle.plan_pairs.specs.declared.additions.Plan.TheVariants.{LongTerm, Current}
 
--- where an occurrence stands that is added to the plan
+-- the place of an occurrence that is added to the plan
 abbrev pub place_in : Plan → Place
 place_in LongTerm = InLongTerm
 place_in Current = InCurrent W
@@ -66,7 +66,7 @@ abbrev pub IsPutIn : Plan → Row → List Row → List CurrentRow → Type 0
 IsPutIn LongTerm row planned current = (planned ≡ row ∷ []) × (current ≡ [])
 IsPutIn Current row planned current = (planned ≡ []) × (current ≡ waiting row ∷ [])
 
--- the row comes before the occurrence: nothing that may precede this in the row's application arrives later
+-- the row comes before the occurrence: nothing that may precede the occurrence in the row's application arrives later
 pub record IsOvertaken (c : Content) (row : Row) (x : Reached) : Type 0 where
   pub reached : IsReached c row x
   pub latest : (other : Arrival) → LiveAt c.sets other
@@ -95,7 +95,7 @@ IsPredecessorIn pairs s serial app (Some p) =
 IsPredecessorIn pairs s serial app None = (pair : Pair) (p : PlacedRow) → Contains pairs pair
     → pair.successor ≡ serial → StandsAt s pair.predecessor p → IsOutsideDeletions p.place → p.row.key.app ≢ app
 
--- where the row is added, its own pairs come, and those of what it comes before; and the pairs that this had go
+-- the row is added: its own pairs are added, and those of what it comes before; and the pairs that these had go
 pub record TurnsTo (c : Content) (row : Row) (change : PairChange) : Type 0 where
   pub removed : (pair : Pair) → Contains change.removed pair ↔ ((x : Reached) × IsLeftPair c row x pair)
   pub added : (pair : Pair) → Contains change.added pair
@@ -122,7 +122,7 @@ pub record IsAdditionOf (c : Content) (plan : Plan) (row : Row) (change : Change
   pub pairs : ArePairsWith c plan row (pairs_after change.pairs c.pairs)
   pub leads : LeadsOn c.pairs change.pairs
 
--- the statement is done so, and answers the serial
+-- the statement is done so, and its reply has the serial
 abbrev pub AddsRow : Content → Plan → Row → Verdict → Type 0
 AddsRow c plan row (Done change reply) = IsAdditionOf c plan row change × (reply ≡ Numbered row.serial)
 AddsRow c plan row (Refused refusal) = ⊥

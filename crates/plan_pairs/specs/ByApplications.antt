@@ -18,8 +18,8 @@ abbrev pub HasWithList : List Link → List (List ℕ) → List ℕ → Type 0
 HasWithList links apps app = Contains apps app
     × ((predecessor : List ℕ) → Lists links app predecessor → Contains apps predecessor)
 
--- each application whose rows the change may reach is among these, with those that its list names: one of which rows
--- came or went, one whose list changed, and one whose list names one of which rows came or went
+-- each application whose rows the change may reach is among these, with those that its list names: one with rows that
+-- were made or withdrawn, one whose list changed, and one whose list names one with such rows
 pub record HasReached (touch : Touch) (links : List Link) (apps : List (List ℕ)) : Type 0 where
   pub touched : (row : Row) → IsMoved touch row → HasWithList links apps row.key.app
   pub changed : (app : List ℕ) → Contains touch.lists.items app → HasWithList links apps app

@@ -15,24 +15,24 @@ use Rattle.plan_store.specs.declared.views.View.{View}
 use Rattle.plan_pairs.specs.Spans.{ArrivesBetween}
 use Rattle.plan_pairs.specs.declared.gathering.Reached.{Reached}
 
--- what is so is added
+-- what passes the test is added
 abbrev pub AddsIf : {Y : Type 0} → (Y → Type 0) → List Y → List Y → Type 0
 AddsIf {Y} Is old new = (y : Y) → Contains new y ↔ (Contains old y ⊎ Is y)
 
--- what is so of one of these is added
+-- what passes the test for one of these is added
 abbrev pub AddsEach : {X Y : Type 0} → (X → Y → Type 0) → List X → List Y → List Y → Type 0
 AddsEach {X} Is xs = AddsIf (λ y. (x : X) × Contains xs x × Is x y)
 
--- the occurrence stands live under its serial
+-- the occurrence is live under its serial
 abbrev pub StandsLive : Sets → PlacedRow → Type 0
 StandsLive s p = StandsAt s p.row.serial p × IsLive p.place
 
--- live occurrences come to the rows, and none leaves them
+-- live occurrences are added to the rows, and none is removed
 pub record AddsLive (s : Sets) (old new : List PlacedRow) : Type 0 where
   pub stay : (p : PlacedRow) → Contains old p → Contains new p
   pub come : (p : PlacedRow) → Contains new p → Contains old p ⊎ StandsLive s p
 
--- live occurrences of the application that arrive in the stretch come to the rows, and none leaves them
+-- live occurrences of the application that arrive in the stretch are added to the rows, and none is removed
 pub record AddsBetween (s : Sets) (app : List ℕ) (first : ℕ) (last : Option ℕ) (old new : List PlacedRow) : Type 0
   where
     pub adds : AddsLive s old new

@@ -36,7 +36,7 @@ abbrev pub AddsRows : List Row → Place → List PlacedRow → List PlacedRow �
 AddsRows list place old new =
     (p : PlacedRow) → Contains new p ↔ (Contains old p ⊎ (Contains list p.row × (p.place ≡ place)))
 
--- the row stands in the list with a status other than deleted, and is placed so
+-- the list has the row with a status other than deleted, and that is its place
 pub record IsCurrentIn (list : List CurrentRow) (p : PlacedRow) : Type 0 where
   pub status : Status
   pub listed : Contains list (record { row = p.row; status = status })

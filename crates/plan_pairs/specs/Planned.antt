@@ -15,7 +15,7 @@ AddsPairsOf all Passes old new =
 abbrev pub HasWaiting : List CurrentRow → ℕ → Type 0
 HasWaiting list serial = (row : Row) × Contains list (record { row = row; status = W }) × (row.serial ≡ serial)
 
--- the row is open: it stands in the long-term plan, or waits in the current plan
+-- the row is open: it is in the long-term plan, or waits in the current plan
 abbrev pub IsOpenRow : Sets → Row → Type 0
 IsOpenRow s row = (s.ltp row.serial ≡ Some row) ⊎ (s.cp row.serial ≡ Some (record { row = row; status = W }))
 
@@ -23,10 +23,10 @@ IsOpenRow s row = (s.ltp row.serial ≡ Some row) ⊎ (s.cp row.serial ≡ Some 
 abbrev pub IsOpenAt : Sets → ℕ → Type 0
 IsOpenAt s serial = (row : Row) × IsOpenRow s row × (row.serial ≡ serial)
 
--- so one of the application
+-- the same of one application
 abbrev pub IsOpenOf : Sets → List ℕ → ℕ → Type 0
 IsOpenOf s app serial = (row : Row) × IsOpenRow s row × (row.key.app ≡ app) × (row.serial ≡ serial)
 
--- so one of these applications
+-- the same of one of these applications
 abbrev pub IsOpenOfOne : Sets → List (List ℕ) → ℕ → Type 0
 IsOpenOfOne s apps serial = (row : Row) × IsOpenRow s row × Contains apps row.key.app × (row.serial ≡ serial)

@@ -1,5 +1,5 @@
--- What a planning statement makes of the live occurrences: rows of the long-term plan go, others come, and all else
--- lives on; and what that touches.
+-- What a planning statement makes of the live occurrences: it removes rows of the long-term plan and adds others, and
+-- all else lives on; and what that touches.
 use Rattle.std.specs.Prelude.{◌≡◌, ◌≢◌, ◌⊎◌, ℕ, List, [], Contains}
 use Rattle.occurrences.specs.declared.place.CurrentRow.{CurrentRow}
 use Rattle.occurrences.specs.declared.place.Place.TheVariants.{LongTerm, History}
@@ -12,7 +12,7 @@ use Rattle.planner_machine.specs.Content.{Content, Sets}
 use Rattle.planner_machine.specs.InForce.{IsDefinedLink}
 use Rattle.plan_pairs.specs.LiveRows.{AreLiveRows, IsCurrentIn}
 
--- each of the links stands in force, or is defined
+-- each of the links is in force, or is defined
 abbrev pub AreKnownLinks : Content → List Link → Type 0
 AreKnownLinks c links = (link : Link) → Contains links link → Contains c.in_force link ⊎ IsDefinedLink c.definitions link
 
@@ -36,11 +36,11 @@ pub record ArePlanned (rows stay gone made : List Row) : Type 0 where
   pub gone_apart : (row x : Row) → Contains gone row → Contains stay x → x.serial ≢ row.serial
   pub new : (row x : Row) → Contains rows row → Contains made x → x.serial ≢ row.serial
 
--- the occurrence stands in the current plan, not deleted, or in history
+-- the occurrence is in the current plan, not deleted, or in history
 abbrev pub IsBeside : List CurrentRow → List Row → PlacedRow → Type 0
 IsBeside current completed p = IsCurrentIn current p ⊎ (Contains completed p.row × (p.place ≡ History))
 
--- the occurrence stands in the long-term plan, or beside it
+-- the occurrence is in the long-term plan, or in another set
 abbrev pub IsInLists : List Row → List CurrentRow → List Row → PlacedRow → Type 0
 IsInLists planned current completed p =
     (Contains planned p.row × (p.place ≡ LongTerm)) ⊎ IsBeside current completed p

@@ -14,8 +14,8 @@ use Rattle.plan_store.specs.Views.{IsLastBefore}
 use Rattle.plan_pairs.specs.Gathering.{IsReached}
 use Rattle.plan_pairs.specs.declared.gathering.Reached.{Reached}
 
--- the row stood live in one of the plans, and under its serial nothing lives any more; under every other serial all
--- stands as it stood
+-- the row was live in one of the plans, and now nothing is live under its serial; under every other serial all is as
+-- it was
 pub record LosesRow (s s' : Sets) (row : Row) : Type 0 where
   pub placed : PlacedRow
   pub of_row : placed.row ≡ row
@@ -29,19 +29,19 @@ pub record LosesRow (s s' : Sets) (row : Row) : Type 0 where
 abbrev pub IsLostPair : List Pair → Row → Reached → Pair → Type 0
 IsLostPair pairs row x pair = Contains pairs pair × (pair ≡ pair_of x.placed.row.serial row.serial)
 
--- the serial is of what stands before the row, which arrives within the limit of the occurrence
+-- the serial is that of the row before this one, which arrives within the limit of the occurrence
 abbrev pub IsBehind : Option Arrival → Reached → ℕ → Type 0
 IsBehind (Some near) x serial = ArrivesWithin x.within x.placed.row.key.ia near.ia × (near.serial ≡ serial)
 IsBehind None x serial = ⊥
 
--- where the occurrence has a pair with the row, the one with what stands before that
+-- if the occurrence has a pair with the row, its pair with the row before that
 pub record IsBackPair (pairs : List Pair) (row : Row) (before : Option Arrival) (x : Reached) (pair : Pair) : Type 0 where
   pub had : Contains pairs (pair_of x.placed.row.serial row.serial)
   pub successor : pair.successor ≡ x.placed.row.serial
   pub behind : IsBehind before x pair.predecessor
 
--- where the row goes its own pairs go, and those with it of open occurrences; and each of these turns to what stands
--- before the row in its application
+-- the row goes: its own pairs go, and those with it of open occurrences; and each of these occurrences turns to the
+-- row before it in its application
 pub record TurnsFrom (c : Content) (row : Row) (before : Option Arrival) (change : PairChange) : Type 0 where
   pub last : IsLastBefore c.sets row.key.app row.key.ia before
   pub removed : (pair : Pair) → Contains change.removed pair

@@ -32,7 +32,7 @@ pub enum Plan {
 }
 
 impl Plan {
-    /// Where an occurrence stands that is added to the plan.
+    /// The place of an occurrence that is added to the plan.
     pub fn place(self) -> Place
         ensures { result ≡ place_in self }
     {
@@ -107,7 +107,7 @@ fn new_serial(view: &View<'_>) -> Option<Serial>
     Serial::new(view.issued().checked_add(1)?)
 }
 
-// The row comes to the plan.
+// The change that adds the row to the plan.
 fn add_row(alloc: Global, view: &View<'_>, plan: Plan, row: &Row) -> Result<Verdict, AllocError>
     ensures { IfOk result (λ verdict. Behind (Need.Key row.now.key) view.now (λ c.
         IsAddable c plan row.now → AddsRow c plan row.now verdict)) }
@@ -139,8 +139,8 @@ fn put_in(alloc: Global, plan: Plan, row: &Row) -> Result<(Vec<Row>, Vec<Current
     }
 }
 
-// The change of the pairs where the row is added: its own pairs come, and of each open occurrence that it comes before
-// the pair with its application turns to it.
+// The change of the pairs when the row is added: its own pairs are added, and each open occurrence that it comes
+// before gets its pair with the row's application turned to it.
 fn pairs_with(
     alloc: Global,
     view: &View<'_>,
@@ -162,7 +162,7 @@ fn pairs_with(
     })
 }
 
-// Turns each of these to the row that it comes before.
+// Turns to the row each of these that it comes before.
 fn turn_each(
     view: &View<'_>,
     row: &Row,

@@ -16,8 +16,8 @@ use plan_store::View;
 use std::alloc::{AllocError, Global};
 use work_calendars::App;
 
-/// The applications whose rows hold what a change reaches: those of which rows came or went, those whose lists changed,
-/// those whose lists name one of which rows came or went, and all that the lists of these name. Looks at each link
+/// The applications whose rows hold what a change reaches: those with rows that were made or withdrawn, those whose
+/// lists changed, those whose lists name one with such rows, and all that the lists of these name. Looks at each link
 /// twice.
 pub fn reached_apps(alloc: Global, links: &Links, touch: &Touch) -> Result<Vec<App>, AllocError>
     ensures { IfOk result (λ apps. HasReached touch.now links.now apps.items) }
@@ -32,7 +32,7 @@ pub fn reached_apps(alloc: Global, links: &Links, touch: &Touch) -> Result<Vec<A
     Ok(in_order(apps))
 }
 
-// The applications of the rows that came or went.
+// The applications of the rows that were made or withdrawn.
 fn moved_apps(alloc: Global, touch: &Touch) -> Result<Vec<App>, AllocError>
     ensures { IfOk result (λ apps. (row : RowValue) → IsMoved touch.now row
         → Contains apps.items row.key.app) }
@@ -99,7 +99,7 @@ fn in_order<T: Ord + Copy>(mut items: Vec<T>) -> Vec<T>
     items
 }
 
-/// Whether these applications have at most half of the live rows, so that it is worth while to gather them.
+/// Whether these applications have at most half of the live rows, so that listing their rows apart is worth while.
 pub fn are_few(view: &View<'_>, apps: &[App]) -> bool {
     let all = view.ltp().len() + view.cp().len() + view.lasts().len();
     let mut count: usize = 0;

@@ -16,14 +16,14 @@ use work_calendars::{App, Moment, Within};
 /// An open occurrence that another may precede, and the limit within which its list names that one's application.
 #[derive(Clone, Copy, Debug, PartialEq, Eq)]
 pub(crate) struct Reached {
-    /// The occurrence, and where it stands.
+    /// The occurrence, and its place.
     pub(crate) placed: PlacedRow,
     /// The most hours from the arrival of the other to its own; `None` where there is no limit.
     pub(crate) within: Option<Within>,
 }
 
 /// The open occurrences that the row may precede, up to the next live one of its application. Looks at each link in
-/// force once, and finds them by searches.
+/// force once, and finds the occurrences by searches.
 pub(crate) fn reached_by(
     alloc: Global,
     view: &View<'_>,

@@ -45,7 +45,7 @@ pub fn live_rows_with(
     Ok(Rows::from_vec(rows))
 }
 
-// Adds rows that stand in one place.
+// Adds rows of one place.
 pub(crate) fn push_rows(
     rows: &mut Vec<PlacedRow>,
     list: &[Row],

@@ -51,7 +51,7 @@ fn push_planned(view: &View<'_>, rows: &[Row], pairs: &mut Vec<Pair>) -> Result<
     Ok(())
 }
 
-// Adds the pairs of those rows of the current plan that wait. A closed one is passed over.
+// Adds the pairs of those rows of the current plan that wait. One that doesn't wait is skipped.
 fn push_waiting(
     view: &View<'_>,
     list: &[CurrentRow],

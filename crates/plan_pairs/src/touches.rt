@@ -8,8 +8,8 @@ use occurrences::Row;
 use std::alloc::{AllocError, Global};
 use work_calendars::App;
 
-/// What a planning statement touches where these rows of the long-term plan go, these are made, and the one lists come
-/// into force in place of the other.
+/// What a planning statement touches if it removes these rows of the long-term plan, makes these, and puts the one
+/// lists into force in place of the other.
 pub fn touch_of(
     alloc: Global,
     gone: &[Row],

@@ -13,8 +13,8 @@ use plan_store::{Need, View};
 use std::alloc::{AllocError, Global};
 
 /// What leads from the pairs before a statement to those after it, and no more, where the row lives no longer and all
-/// others stay as they are. Its own pairs go, and each pair with it of an open occurrence turns to what stands before it
-/// in its application, within the limit.
+/// others stay as they are. Its own pairs go. Each open occurrence that has a pair with it gets one with the row
+/// before it in its application instead, if the limit allows it.
 pub fn pairs_without(alloc: Global, view: &View<'_>, row: &Row) -> Result<PairChange, AllocError>
     ensures { IfOk result (λ change. Behind (Need.Key row.now.key) view.now (λ c. (s : Sets)
         → LosesRow c.sets s row.now → ArePairs c.pairs c.in_force s (pairs_after change c.pairs)
@@ -32,7 +32,7 @@ pub fn pairs_without(alloc: Global, view: &View<'_>, row: &Row) -> Result<PairCh
     })
 }
 
-// Turns each of these that has a pair with the row from it.
+// For each of these that has a pair with the row, the pair that takes its place.
 fn turn_each(
     view: &View<'_>,
     row: &Row,
@@ -52,7 +52,7 @@ fn turn_each(
     Ok(())
 }
 
-// Turns the occurrence, where it has a pair with the row, to what stands before that, if the limit allows it.
+// Turns the occurrence, if it has a pair with the row, to the row before that, if the limit allows it.
 fn turn(
     view: &View<'_>,
     row: &Row,
@@ -92,7 +92,7 @@ fn has_pair(view: &View<'_>, pair: &Pair) -> bool
         .is_ok()
 }
 
-// What stands before the row that goes, where it arrives within the limit of the occurrence.
+// The row before the one that goes, if it arrives within the limit of the occurrence.
 fn predecessor_of(before: &Option<Arrival>, x: &Reached) -> Option<Serial>
     ensures { (serial : ℕ) → (result ≡ Some serial) ↔ IsBehind before.now x.now serial }
 {

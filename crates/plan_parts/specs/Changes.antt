@@ -23,8 +23,8 @@ KnowsPairsOf rest c serial = (pair : Pair) → Contains c.pairs pair → pair.su
     → Knows rest c pair.predecessor
 
 -- they know what the change names of history and of the deletions: what goes or changes there, the predecessors of the
--- pairs that come, and those of each row that comes into a plan; and where it sets a plan end, the deletions that keep a
--- planning statement from making a key from then on
+-- pairs that are added, and those of each row that is added to a plan; and if it sets a plan end, the deletions that
+-- keep a planning statement from making a key from then on
 pub record KnowsNamed (rest : Rest) (change : Change) (c : Content) : Type 0 where
   pub gone : KnowsRows rest c change.history.gone.items
   pub changed : KnowsRows rest c change.history.changed.items

@@ -1,4 +1,4 @@
--- What has to be found out of history and of the deletions, as serials.
+-- What has to be loaded of history and of the deletions, as serials.
 use Rattle.std.specs.Prelude.{◌≡◌, ◌⊎◌, ◌||◌, ℕ, Bool, false, true, Contains, List, Some, is_some, nat_lt}
 use Rattle.occurrences.specs.declared.key.Key.{Key}
 use Rattle.occurrences.specs.declared.place.Deletion.{Deletion}
@@ -14,15 +14,15 @@ use Rattle.plan_store.specs.declared.changes.Change.{Change}
 abbrev pub is_elsewhere : Sets → ℕ → Bool
 is_elsewhere s serial = nat_lt s.issued serial || is_planned s serial
 
--- what stands under the serial in history is known without a look: nothing does, or the lists have it
+-- the lists already know what is under the serial in history: nothing is, or they have it
 abbrev pub is_settled : Sets → ℕ → Bool
 is_settled s serial = is_elsewhere s serial || is_some (s.history serial)
 
--- and so of the deletions
+-- and the same of the deletions
 abbrev pub is_settled_deletion : Sets → ℕ → Bool
 is_settled_deletion s serial = is_elsewhere s serial || is_some (s.deletions serial)
 
--- to the serials each is added that is named and is not settled, and no others
+-- exactly the serials are added that are named and not known
 pub record AddsUnsettled (settled : ℕ → Bool) (Named : ℕ → Type 0) (old new : List ℕ) : Type 0 where
   pub stay : (serial : ℕ) → Contains old serial → Contains new serial
   pub come : (serial : ℕ) → Contains new serial → Contains old serial ⊎ (Named serial × (settled serial ≡ false))
@@ -49,7 +49,7 @@ IsPredecessorOf c successor serial = (pair : Pair) × Contains c.pairs pair × (
 abbrev pub IsPredecessorOfRow : Content → List Row → ℕ → Type 0
 IsPredecessorOfRow c rows = NamedByOne (λ (row : Row) serial. IsPredecessorOf c row.serial serial) rows
 
--- it is a predecessor of one of the rows, which come into a plan, where that may stand in history
+-- it is a predecessor of one of the rows, which are added to a plan, and may be in history
 abbrev pub IsPredecessorOfNew : {X : Type 0} → (X → Row) → Content → List X → ℕ → Type 0
 IsPredecessorOfNew row_of c rows = NamedByOne (λ x serial. (is_elsewhere c.sets (row_of x).serial ≡ false)
     × IsPredecessorOf c (row_of x).serial serial) rows
@@ -59,8 +59,8 @@ abbrev pub IsPredecessorOfKey : Content → Key → ℕ → Type 0
 IsPredecessorOfKey c key serial = (row : Row) × (c.sets.history row.serial ≡ Some row) × (row.key ≡ key)
     × IsPredecessorOf c row.serial serial
 
--- the change names it in history: a row goes or changes there; or it is the predecessor of a pair that comes, or of a row
--- that comes into a plan
+-- the change names it in history: a row goes or changes there; or it is the predecessor of a pair that is added, or of
+-- a row that is added to a plan
 abbrev pub IsNamed : Change → Content → ℕ → Type 0
 IsNamed change c serial = IsSerialIn of_row change.history.gone.items serial
     ⊎ (IsSerialIn of_row change.history.changed.items serial ⊎ (IsPredecessorIn change.pairs.added serial
@@ -79,7 +79,8 @@ pub record HasMore (rest : Rest) (c more : Content) : Type 0 where
   pub deletions : (serial : ℕ) (deletion : Deletion) → c.sets.deletions serial ≡ Some deletion
       → more.sets.deletions serial ≡ Some deletion
 
--- once lists that have a part of whatever rest know these serials of history and of the deletions, it is so
+-- whatever the rest is, lists that have a part of it and know these serials of history and of the deletions have what
+-- is needed
 abbrev pub FindsOut : Content → List ℕ → List ℕ → (Rest → Content → Type 0) → Type 0
 FindsOut c history deletions IsSo = (rest : Rest) (more : Content) → HasMore rest c more → ∥ IsPartOf rest more ∥₁
     → ∥ IsSound (with_rest rest more) ∥₁ → ((serial : ℕ) → Contains history serial → Knows rest more serial)

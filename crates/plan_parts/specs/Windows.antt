@@ -9,17 +9,17 @@ use Rattle.plan_store.specs.declared.stores.Need.{Need}
 use Rattle.plan_store.specs.declared.stores.Need.TheVariants as need
 use Rattle.plan_parts.specs.Changes.{KnowsPairsOf}
 
--- for each row of history of an application before a minute that is asked for, they have one that arrives no earlier
+-- for each row of history of an application before a minute that is read, they have one that arrives no earlier
 abbrev pub HasLastsOf : (List ℕ → ℕ → Type 0) → Rest → Content → Type 0
 HasLastsOf Asked rest c = (app : List ℕ) (minute : ℕ) → Asked app minute
     → HasLast rest.history c.sets.history app minute
 
--- where the live row of the key stands in history, they know its predecessors
+-- if the live row of the key is in history, they know its predecessors
 abbrev pub KnowsLive : Rest → Key → Content → Type 0
 KnowsLive rest key c = (serial : ℕ) (row : Row) → rest.history serial ≡ Some row → row.key ≡ key
     → KnowsPairsOf rest c serial
 
--- they have what a window for the need asks of history; the deletions that it shows they always have
+-- they have what a window for the need reads of history; they always have the deletions that it shows
 abbrev pub IsReadyFor : Rest → Need → Content → Type 0
 IsReadyFor rest need.Definitions c = Unit {0}
 IsReadyFor rest (need.Key key) c = HasLastsOf (AsksKey c key) rest c × KnowsLive rest key c

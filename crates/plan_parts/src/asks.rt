@@ -1,4 +1,4 @@
-// What a window asks of history, as a list.
+// What a window reads of history, as a list.
 
 ghost use Rattle.std.specs.Prelude.{[], ◌≡◌, ◌↔◌, ◌+◌, ℕ, Contains, IfOk, List, OnOk};
 ghost use Rattle.std.specs.FinMap.{IsAntisymmetric};
@@ -29,7 +29,7 @@ pub struct Ask {
     pub moment: u32,
 }
 
-/// What a window for the need asks of history, each once.
+/// What a window for the need reads of history, each once.
 pub fn asks_of(alloc: Global, lists: &Content, need: &Need) -> Result<Vec<Ask>, AllocError>
     ensures found { IfOk result (λ asks. (app : List ℕ) (minute : ℕ)
         → Asks need.now (content_of lists.now) app minute → IsAskedIn asks.items app minute) }
@@ -44,7 +44,7 @@ pub fn asks_of(alloc: Global, lists: &Content, need: &Need) -> Result<Vec<Ask>, 
     }
 }
 
-// What a statement on the key asks.
+// What a statement on the key reads.
 fn asks_of_key(alloc: Global, lists: &Content, key: &Key) -> Result<Vec<Ask>, AllocError>
     ensures adds { IfOk result (λ asks.
         AddsAsks (AsksKey (content_of lists.now) key.now) [] asks.items) }
@@ -58,7 +58,7 @@ fn asks_of_key(alloc: Global, lists: &Content, key: &Key) -> Result<Vec<Ask>, Al
     Ok(asks)
 }
 
-// What a statement on the long-term plan asks.
+// What a statement on the long-term plan reads.
 fn asks_of_plan(alloc: Global, lists: &Content) -> Result<Vec<Ask>, AllocError>
     ensures adds { IfOk result (λ asks. AddsAsks (AsksPlan (content_of lists.now)) [] asks.items) }
     ensures apart { IfOk result (λ asks. AreDistinct asks.items) }
@@ -70,7 +70,7 @@ fn asks_of_plan(alloc: Global, lists: &Content) -> Result<Vec<Ask>, AllocError>
     Ok(asks)
 }
 
-// Asks for the last row of the application at the moment or before it.
+// Adds the last row of the application at the moment or before it.
 fn add_ask(asks: &mut Vec<Ask>, app: &App, moment: u32) -> Result<(), AllocError>
     ensures { OnOk result (AddsAsks (IsAsked app.now (moment + 1)) asks.old.items asks.new.items) }
 {
@@ -78,7 +78,7 @@ fn add_ask(asks: &mut Vec<Ask>, app: &App, moment: u32) -> Result<(), AllocError
     Ok(())
 }
 
-// Asks for the last row of each predecessor of the links.
+// Adds the last row of each predecessor of the links.
 fn add_links(asks: &mut Vec<Ask>, links: &[Link], moment: u32) -> Result<(), AllocError>
     ensures { OnOk result (AddsAsks
         (AskedByOne (λ (link : LinkValue). IsAsked link.predecessor (moment + 1)) links.now)
@@ -90,7 +90,7 @@ fn add_links(asks: &mut Vec<Ask>, links: &[Link], moment: u32) -> Result<(), All
     Ok(())
 }
 
-// Asks for the last row of each application in the list of the application that is in force.
+// Adds the last row of each application in the list of the application that is in force.
 fn add_list(asks: &mut Vec<Ask>, in_force: &Links, app: &App, moment: u32) -> Result<(), AllocError>
     ensures { OnOk result (AddsAsks (AsksEach (Lists in_force.now app.now) (moment + 1))
         asks.old.items asks.new.items) }
@@ -98,7 +98,7 @@ fn add_list(asks: &mut Vec<Ask>, in_force: &Links, app: &App, moment: u32) -> Re
     add_links(asks, in_force.list(app), moment)
 }
 
-// Asks for the last row of each of the predecessors.
+// Adds the last row of each of the predecessors.
 fn add_named(asks: &mut Vec<Ask>, listed: &[Predecessor], moment: u32) -> Result<(), AllocError>
     ensures { OnOk result (AddsAsks
         (AskedByOne (λ (p : PredecessorValue). IsAsked p.name (moment + 1)) listed.now)
@@ -110,7 +110,7 @@ fn add_named(asks: &mut Vec<Ask>, listed: &[Predecessor], moment: u32) -> Result
     Ok(())
 }
 
-// Asks for the last row of each application in the list that is defined for the application.
+// Adds the last row of each application in the list that is defined for the application.
 fn add_defined(
     asks: &mut Vec<Ask>,
     definitions: &Definitions,
@@ -126,7 +126,7 @@ fn add_defined(
     }
 }
 
-// Asks for the last row of each application in a list that is defined.
+// Adds the last row of each application in a list that is defined.
 fn add_all_defined(
     asks: &mut Vec<Ask>,
     definitions: &Definitions,
@@ -141,8 +141,8 @@ fn add_all_defined(
     Ok(())
 }
 
-// Asks for those of the rows that wait, at the arrival of each, for the last row of each application in its lists, in
-// force and defined.
+// Adds, for each of the rows that waits, the last row at its arrival of each application in its lists, in force and
+// defined.
 fn add_waiting(
     asks: &mut Vec<Ask>,
     in_force: &Links,
@@ -164,7 +164,7 @@ fn add_waiting(
     Ok(())
 }
 
-// Asks at the plan end for the last row of each application that a list names, in force or defined, if there is a plan.
+// Adds, if there is a plan, the last row at the plan end of each application that a list names, in force or defined.
 fn add_plan_end(
     asks: &mut Vec<Ask>,
     in_force: &Links,

@@ -1,5 +1,5 @@
-//! Lists that have a part of history and of the deletions, since all of it stands elsewhere: what has to be found out
-//! before a window is lent or a change is made, so that it is that of the whole.
+//! Lists that have a part of history and of the deletions, because all of it is stored elsewhere: what has to be
+//! loaded before a window is lent or a change is made, so that the result is that of the whole.
 #![tactic(auto)]
 
 mod asks;

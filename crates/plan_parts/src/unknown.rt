@@ -1,4 +1,4 @@
-// What has to be found out of history and of the deletions, as serials.
+// What has to be loaded of history and of the deletions, as serials.
 
 ghost use Rattle.std.specs.Prelude.{[], ◌≡◌, ℕ, Contains, IfOk, OnOk, false};
 ghost use Rattle.keyed_lists.specs.Rows.{of_deletion, of_row};
@@ -18,7 +18,7 @@ use occurrences::{Deletion, Key, Row, Serial};
 use plan_store::{Change, Content};
 use std::alloc::{AllocError, Global};
 
-/// What has to be found out before a change, by serial: what stands under each, or that nothing does.
+/// What has to be loaded before a change, by serial: what is under each, or that nothing is.
 #[derive(Drop)]
 pub struct Unknown {
     /// In history.
@@ -27,8 +27,8 @@ pub struct Unknown {
     pub deletions: Vec<Serial>,
 }
 
-/// What has to be found out of history before a window on the key is lent, once the lists have the rows that it asks
-/// for: the predecessors of the key's live row, where that stands in history. Of what is planned they are known.
+/// What has to be loaded of history before a window on the key is lent, once the lists have the rows that the window
+/// reads: the predecessors of the key's live row, if that is in history. Those of what is planned are known.
 pub fn unknown_for_key(alloc: Global, lists: &Content, key: &Key) -> Result<Vec<Serial>, AllocError>
     ensures finds { IfOk result (λ serials. FindsOut (content_of lists.now) serials.items []
         (λ rest more. HasLastsOf (AsksKey (content_of lists.now) key.now) rest (content_of lists.now)
@@ -42,9 +42,9 @@ pub fn unknown_for_key(alloc: Global, lists: &Content, key: &Key) -> Result<Vec<
     Ok(serials)
 }
 
-/// What has to be found out by serial before the change is made: what it names of history and of the deletions, the
-/// predecessors of pairs that come, and those of rows that come into a plan. Of most changes that is nothing, and wants no
-/// memory. Where a change sets a plan end, the lists need the deletions from then on too.
+/// What has to be loaded by serial before the change is made: what it names of history and of the deletions, the
+/// predecessors of pairs that are added, and those of rows that are added to a plan. For most changes that is nothing,
+/// and needs no memory. If a change sets a plan end, the lists need the deletions from then on too.
 pub fn unknown_of(alloc: Global, lists: &Content, change: &Change) -> Result<Unknown, AllocError>
     ensures finds { IfOk result (λ unknown. FindsOut (content_of lists.now) unknown.history.items
         unknown.deletions.items (λ rest more. HasBars change.now.bounds rest more
@@ -62,7 +62,7 @@ pub fn unknown_of(alloc: Global, lists: &Content, change: &Change) -> Result<Unk
     })
 }
 
-// What has to be found out of history before the change.
+// What has to be loaded of history before the change.
 fn unknown_history(
     alloc: Global,
     lists: &Content,
@@ -80,7 +80,7 @@ fn unknown_history(
     Ok(serials)
 }
 
-// What has to be found out of the deletions before the change.
+// What has to be loaded of the deletions before the change.
 fn unknown_deletions(
     alloc: Global,
     lists: &Content,
@@ -103,21 +103,21 @@ fn is_elsewhere(lists: &Content, serial: Serial) -> bool
     lists.issued < serial.get() || lists.is_planned(serial)
 }
 
-// Whether it is known without a look what stands under the serial in history.
+// Whether the lists already know what is under the serial in history.
 fn is_settled(lists: &Content, serial: Serial) -> bool
     ensures { result ≡ is_settled (content_of lists.now).sets serial }
 {
     is_elsewhere(lists, serial) || lists.has_completed(serial)
 }
 
-// Whether it is known without a look what stands under the serial in the deletions.
+// Whether the lists already know what is under the serial in the deletions.
 fn is_settled_deletion(lists: &Content, serial: Serial) -> bool
     ensures { result ≡ is_settled_deletion (content_of lists.now).sets serial }
 {
     is_elsewhere(lists, serial) || lists.has_deleted(serial)
 }
 
-// Adds the serial, unless it is settled.
+// Adds the serial, unless it is known.
 fn add_serial(serials: &mut Vec<Serial>, lists: &Content, serial: Serial) -> Result<(), AllocError>
     ensures { OnOk result (AddsUnsettled (is_settled (content_of lists.now).sets) (λ n. n ≡ serial)
         serials.old.items serials.new.items) }
@@ -128,7 +128,7 @@ fn add_serial(serials: &mut Vec<Serial>, lists: &Content, serial: Serial) -> Res
     Ok(())
 }
 
-// Adds the serial, unless it is settled of the deletions.
+// Adds the serial, unless it is known of the deletions.
 fn add_deletion(
     serials: &mut Vec<Serial>,
     lists: &Content,
@@ -207,8 +207,8 @@ fn add_of_rows(serials: &mut Vec<Serial>, lists: &Content, rows: &[Row]) -> Resu
     Ok(())
 }
 
-// Adds the predecessors of the rows, which come into a plan. Of what is planned they are known, and what is not issued
-// has none.
+// Adds the predecessors of the rows, which are added to a plan. Those of what is planned are known, and what is not
+// issued has none.
 fn add_of_new<T: PlanRow>(
     serials: &mut Vec<Serial>,
     lists: &Content,

@@ -1,4 +1,4 @@
--- The faults of a period: when each one holds, and which one a check tells.
+-- The faults of a period: when each one holds, and which one a check returns.
 use Rattle.std.specs.Prelude.{◌≡◌, ℕ, ◌≤◌, List, length}
 use Rattle.std.specs.List.{Any}
 use Rattle.plan_periods.specs.Period.{Entry, IsIntervalLength, EndsBeforeOrigin, HasRisingOrigins}

@@ -11,8 +11,8 @@ last_of_entry (Some end) _ = Some end
 last_of_entry None (Some next) = Some (next.0 - 1)
 last_of_entry None None = None
 
--- the period has this interval. Intervals of days that would end after the last day of all are not there,
--- and a period of work days has none of this kind.
+-- the period has this interval. Intervals of days that would end after the last day of all are left out, and a period
+-- of work days has none of this kind.
 abbrev pub IsInterval : Period → ℕ → Option ℕ → Type 0
 IsInterval (AllDays origin n) first last =
     (j : ℕ) × (first ≡ origin + j * n) × (last ≡ Some (first + n - 1)) × (first + n - 1 ≤ last_day)

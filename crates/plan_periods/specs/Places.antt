@@ -1,5 +1,5 @@
--- How the code of a walk keeps what is left: by the places of the period's intervals, from the next one on.
--- Words of private contracts alone; what a period's intervals are stands in Interval.antt.
+-- How the code of a walk keeps what is left: by the places of the period's intervals, from the next one on. For
+-- private contracts only; Interval.antt defines the intervals of a period.
 use Rattle.std.specs.Prelude.{◌≡◌, ℕ, ◌+◌, ◌-◌, ◌*◌, ◌/◌, ◌≤◌, ◌<◌, ◌&&◌, zero, suc, Bool, true, nat_le}
 use Rattle.std.specs.Prelude.{Option, Some, None, List, [], ◌∷◌, length, drop, slice_get}
 use Rattle.std.specs.List.{filter}

@@ -3,7 +3,7 @@ ghost use Rattle.plan_periods.specs.Fault.{number_of_fault};
 
 use thiserror::Error;
 
-/// What is wrong with a period. The faults are numbered from 1, and a check tells the one of least number.
+/// What is wrong with a period. The faults are numbered from 1, and a check returns the one of the least number.
 #[derive(Clone, Copy, Debug, PartialEq, Eq, Hash, Error)]
 pub enum PeriodFault {
     /// The interval has fewer days, or work days, than 1, or more than `MAX_INTERVAL`.

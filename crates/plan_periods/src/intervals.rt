@@ -26,8 +26,8 @@ impl Interval {
     }
 }
 
-/// The intervals of a period that meet a range of days, each once, by rising first day. A period of work days has
-/// none here, since its intervals depend on a calendar.
+/// The intervals of a period that meet a range of days, each once, by rising first day. A period of work days has none
+/// here, because its intervals depend on a calendar.
 #[derive(Debug, Drop)]
 pub struct Intervals<'a> {
     period: &'a Period,

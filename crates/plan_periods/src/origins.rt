@@ -34,7 +34,7 @@ impl Origins {
         self.entries
     }
 
-    /// Puts an origin, with the last day of its interval or none, behind the others.
+    /// Appends an origin, with the last day of its interval or none.
     pub fn push(&mut self, entry: (Day, Option<Day>)) -> Result<(), AllocError>
         ensures ok { OnOk result (self.new ≡ self.old ++ entry ∷ []) }
         ensures err { OnErr result (self.new ≡ self.old) }

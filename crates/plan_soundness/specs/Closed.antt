@@ -25,7 +25,7 @@ abbrev pub is_closed_row : Option PlacedRow → Bool
 is_closed_row None = false
 is_closed_row (Some p) = is_closed_place p.place
 
--- the slot that a predecessor takes of a successor that is live and no longer open
+-- the slot of a predecessor whose successor is live and no longer open
 abbrev pub slot_between : ℕ → Option PlacedRow → Option PlacedRow → Option Slot
 slot_between successor None predecessor = None
 slot_between successor (Some p) None = None
@@ -36,7 +36,7 @@ abbrev pub slot_at : List (Option PlacedRow) → Pair → Option Slot
 slot_at table pair =
     slot_between pair.successor (at_serial table pair.successor) (at_serial table pair.predecessor)
 
--- no two of the pairs take one slot
+-- no two of the pairs have one slot
 abbrev pub HaveOwnSlots : List (Option PlacedRow) → List Pair → Type 0
 HaveOwnSlots table pairs =
     AllPairs (λ x y. (slot : Slot) → slot_at table x ≡ Some slot → slot_at table y ≡ Some slot → ⊥) pairs
@@ -70,7 +70,7 @@ closed_pairs table pairs = filter (is_closed_pair table) pairs
 abbrev pub IsEdge : List (Option PlacedRow) → List Pair → ℕ → ℕ → Type 0
 IsEdge table pairs successor predecessor = Contains (closed_pairs table pairs) (pair_of successor predecessor)
 
--- no ring goes over the pairs
+-- the pairs have no ring
 abbrev pub IsWithoutRing : List Pair → Type 0
 IsWithoutRing pairs = (serial : ℕ) → OnRing (λ u v. Contains pairs (pair_of u v)) serial → ⊥
 
@@ -78,7 +78,7 @@ IsWithoutRing pairs = (serial : ℕ) → OnRing (λ u v. Contains pairs (pair_of
 abbrev pub FallsBy : List ℕ → Pair → Type 0
 FallsBy numbers pair = slice_index numbers pair.predecessor < slice_index numbers pair.successor
 
--- no such pairs make a ring
+-- no such pairs have a ring
 abbrev pub HaveNoRing : List (Option PlacedRow) → List Pair → Type 0
 HaveNoRing table pairs = (serial : ℕ) → OnRing (IsEdge table pairs) serial → ⊥
 

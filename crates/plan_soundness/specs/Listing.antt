@@ -1,4 +1,4 @@
--- All rows of a content, and where each stands.
+-- All rows of a content, with their places.
 use Rattle.std.specs.Prelude.{◌≡◌, ◌++◌, Bool, true, false, List, [], map, Some}
 use Rattle.occurrences.specs.declared.status.Status.TheVariants.{D}
 use Rattle.occurrences.specs.declared.place.CurrentRow.{CurrentRow}

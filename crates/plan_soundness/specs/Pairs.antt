@@ -18,13 +18,13 @@ at_serial table (suc k) = slice_index_or table k None
 abbrev pub IsClosedPlace : Place → Type 0
 IsClosedPlace place = IsLive place × (IsOpen place → ⊥)
 
--- there is a predecessor, it is complete, and it arrives as one may, whatever the limit
+-- there is a predecessor, it is complete, and it arrives as a predecessor may, whatever the limit
 abbrev pub HasComplete : PlacedRow → Option PlacedRow → Type 0
 HasComplete successor None = ⊥
 HasComplete successor (Some predecessor) = IsComplete predecessor.place
     × IsCandidate successor.row.key predecessor.row.key.app None (arrival_of predecessor.row)
 
--- so it is where the successor is live and no longer open
+-- the same if the successor is live and no longer open
 abbrev pub FitsRows : Option PlacedRow → Option PlacedRow → Type 0
 FitsRows None predecessor = Unit {0}
 FitsRows (Some successor) predecessor = IsClosedPlace successor.place → HasComplete successor predecessor

@@ -30,7 +30,7 @@ fn arrives_in(bounds: &Bounds, placed: &PlacedRow) -> bool
     }
 }
 
-// Whether all rows do.
+// Whether all rows arrive so.
 pub(crate) fn all_arrive(bounds: &Bounds, all: &[PlacedRow]) -> bool
     ensures { IsTrue result ↔ All
         (λ (p : PlacedValue). ArrivesIn bounds.now p.row.key.ia p.place) all.now }
@@ -72,7 +72,7 @@ fn key_set(alloc: Global, keys: &[Key]) -> Result<HashSet<Key>, AllocError>
     keys.iter().copied().collect(alloc)
 }
 
-// Whether the row was added, or its key is none of these.
+// Whether the row was added by hand, or its key is none of these.
 fn is_free(keys: &HashSet<Key>, row: &Row) -> bool
     ensures { IsTrue result ↔ (IsGenerated row.now.origin → IsTrue
         (contains ⟦<Key as PartialEq>⟧.eq keys.now row.now.key) → ⊥) }

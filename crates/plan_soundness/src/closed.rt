@@ -24,12 +24,12 @@ struct Slot {
     app: App,
 }
 
-// Law: slots test as equal only with themselves.
+// Law: slots are equal only to themselves.
 fn slot_equality()
     ensures { (a b : Slot) → (⟦<Slot as PartialEq>⟧.eq a b ≡ true) ↔ (a ≡ b) }
 {}
 
-// The slot that the pair's predecessor takes, where the successor is live and no longer open.
+// The slot of the pair's predecessor, if the successor is live and no longer open.
 fn slot_of(table: &[Option<PlacedRow>], pair: &Pair) -> Option<Slot>
     ensures { result ≡ slot_at table.now pair.now }
 {
@@ -45,7 +45,7 @@ fn slot_of(table: &[Option<PlacedRow>], pair: &Pair) -> Option<Slot>
     }
 }
 
-// The slots that the pairs' predecessors take.
+// The slots of the pairs' predecessors.
 fn slots_of(
     alloc: Global,
     table: &[Option<PlacedRow>],
@@ -59,7 +59,7 @@ fn slots_of(
         .collect(alloc)
 }
 
-// Whether no slot stands twice.
+// Whether no slot appears twice.
 fn slots_differ(alloc: Global, slots: &[Slot]) -> Result<bool, AllocError>
     ensures { IfOk result (λ b. IsTrue b ↔ AllPairs (λ x y. x ≢ y) slots.now) }
 {
@@ -80,7 +80,7 @@ pub(crate) fn have_own_slots(
     slots_differ(alloc, &slots)
 }
 
-// Whether a row stands there that is live and no longer open.
+// Whether the serial has a row that is live and no longer open.
 fn is_closed_row(row: &Option<PlacedRow>) -> bool
     ensures { result ≡ is_closed_row row.now }
 {
@@ -90,7 +90,7 @@ fn is_closed_row(row: &Option<PlacedRow>) -> bool
     }
 }
 
-// Whether both ends of the pair are such.
+// Whether both ends of the pair are so.
 fn is_closed_pair(table: &[Option<PlacedRow>], pair: &Pair) -> bool
     ensures { result ≡ is_closed_pair table.now pair.now }
 {
@@ -165,7 +165,7 @@ fn links_of(alloc: Global, pairs: &[Pair]) -> Result<Vec<Link>, AllocError>
     pairs.iter().map(|pair| link_of(pair)).collect(alloc)
 }
 
-// Whether no ring goes over these pairs.
+// Whether these pairs have no ring.
 fn is_without_ring(alloc: Global, pairs: &[Pair]) -> Result<bool, AllocError>
     ensures { IfOk result (λ b. IsTrue b ↔ IsWithoutRing pairs.now) }
 {
@@ -176,7 +176,7 @@ fn is_without_ring(alloc: Global, pairs: &[Pair]) -> Result<bool, AllocError>
     }
 }
 
-// Whether such pairs make no ring. Where numbers are found that fall along them, none is looked for.
+// Whether such pairs have no ring. If numbers are found that fall along them, no ring is searched for.
 pub(crate) fn have_no_ring(
     alloc: Global,
     table: &[Option<PlacedRow>],

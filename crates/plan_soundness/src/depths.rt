@@ -1,4 +1,4 @@
-// Numbers that fall along pairs, which then make no ring.
+// Numbers that fall along pairs, which then have no ring.
 
 ghost use Rattle.std.specs.Prelude.{◌≡◌, ◌<◌, IsTrue, slice_index};
 ghost use Rattle.std.specs.List.{All};
@@ -8,7 +8,7 @@ use external_dependencies::Pair;
 use occurrences::Serial;
 use std::alloc::{AllocError, Global};
 
-// How often the pairs are gone through at most.
+// How often the pairs are scanned at most.
 const SWEEPS: usize = 32;
 
 // The number of a serial; 0 where there is none.
@@ -38,7 +38,7 @@ pub(crate) fn all_fall(numbers: &[u32], pairs: &[Pair]) -> bool
     true
 }
 
-// Raises the number of the successor above that of the predecessor, and tells whether it was not.
+// Raises the number of the successor above that of the predecessor; returns whether it had to.
 fn raise(numbers: &mut [u32], pair: &Pair) -> bool {
     if falls(numbers, pair) {
         return false;
@@ -50,7 +50,7 @@ fn raise(numbers: &mut [u32], pair: &Pair) -> bool {
     true
 }
 
-// Goes through the pairs forth and back, and tells whether a number was raised.
+// Scans the pairs forwards and backwards; returns whether a number was raised.
 fn sweep(numbers: &mut [u32], pairs: &[Pair]) -> bool {
     let mut raised = false;
     for pair in pairs {
@@ -62,8 +62,8 @@ fn sweep(numbers: &mut [u32], pairs: &[Pair]) -> bool {
     raised
 }
 
-/// Numbers of the serials, which are a proposal: no contract says what they are, and whoever takes them checks them.
-/// Where no long chain of pairs goes to and fro between lesser and greater serials, they fall along the pairs.
+/// Numbers for the serials. No contract says what they are: the caller checks them before using them. Where no long
+/// chain of pairs goes to and fro between lesser and greater serials, they fall along the pairs.
 pub(crate) fn depths(alloc: Global, rows: usize, pairs: &[Pair]) -> Result<Vec<u32>, AllocError> {
     let mut numbers = vec![in alloc; 0u32; rows.saturating_add(1)]?;
     for _ in 0..SWEEPS {

@@ -26,7 +26,7 @@ fn live_keys(alloc: Global, all: &[PlacedRow]) -> Result<Vec<Key>, AllocError>
         .collect(alloc)
 }
 
-// Whether no key stands twice.
+// Whether no key appears twice.
 fn all_differ(alloc: Global, keys: &[Key]) -> Result<bool, AllocError>
     ensures { IfOk result (λ b. IsTrue b ↔ AllPairs (λ x y. x ≢ y) keys.now) }
 {

@@ -1,4 +1,4 @@
-//! Whether what a planner keeps is sound, where it was read from a place that anyone may have written to.
+//! Whether what a planner keeps is sound, where anyone may have written what it was read from.
 #![tactic(auto)]
 
 mod arrivals;

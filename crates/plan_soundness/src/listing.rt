@@ -6,7 +6,7 @@ use occurrences::{CurrentRow, Deletion, Place, Row};
 use plan_store::Content;
 use std::alloc::{AllocError, Global};
 
-// Adds rows that stand in one place.
+// Adds rows of one place.
 fn push_rows(all: &mut Vec<PlacedRow>, rows: &[Row], place: Place) -> Result<(), AllocError>
     ensures { OnOk result (all.new.items ≡ all.old.items ++ map (in_place place) rows.now) }
 {
@@ -42,7 +42,7 @@ fn push_deletions(all: &mut Vec<PlacedRow>, rows: &[Deletion]) -> Result<(), All
     Ok(())
 }
 
-/// All rows, and where each stands.
+/// All rows, with their places.
 pub fn placed_rows(alloc: Global, content: &Content) -> Result<Vec<PlacedRow>, AllocError>
     ensures { IfOk result (λ all. all.items ≡ placed_list content.now) }
 {

@@ -62,7 +62,7 @@ pub(crate) fn is_closed(place: Place) -> bool
     place.is_live() && !place.is_open()
 }
 
-// Whether a row arrives as a predecessor of another may.
+// Whether a row arrives as a predecessor of the other may.
 fn arrives_in_time(successor: &Row, predecessor: &Row) -> bool
     ensures { IsTrue result ↔ IsCandidate successor.now.key predecessor.now.key.app None
         (arrival_of predecessor.now) }
@@ -76,7 +76,7 @@ fn arrives_in_time(successor: &Row, predecessor: &Row) -> bool
     }
 }
 
-// Whether there is a predecessor, and it is complete and arrives as one may.
+// Whether there is a predecessor, and it is complete and arrives as a predecessor may.
 fn has_complete(successor: &PlacedRow, predecessor: &Option<PlacedRow>) -> bool
     ensures { IsTrue result ↔ HasComplete successor.now predecessor.now }
 {
@@ -88,7 +88,7 @@ fn has_complete(successor: &PlacedRow, predecessor: &Option<PlacedRow>) -> bool
     }
 }
 
-// Whether so it is, where the successor is live and no longer open.
+// The same, if the successor is live and no longer open.
 fn fits_rows(successor: &Option<PlacedRow>, predecessor: &Option<PlacedRow>) -> bool
     ensures { IsTrue result ↔ FitsRows successor.now predecessor.now }
 {
@@ -98,7 +98,7 @@ fn fits_rows(successor: &Option<PlacedRow>, predecessor: &Option<PlacedRow>) -> 
     }
 }
 
-// Whether so it is of a pair.
+// The same of a pair.
 fn fits(table: &[Option<PlacedRow>], pair: &Pair) -> bool
     ensures { IsTrue result ↔ FitsRows (at_serial table.now pair.now.successor)
         (at_serial table.now pair.now.predecessor) }
@@ -109,7 +109,7 @@ fn fits(table: &[Option<PlacedRow>], pair: &Pair) -> bool
     )
 }
 
-// Whether so it is of all pairs.
+// The same of all pairs.
 fn all_fit(table: &[Option<PlacedRow>], pairs: &[Pair]) -> bool
     ensures { IsTrue result ↔ All (λ (pair : PairValue). FitsRows
         (at_serial table.now pair.successor) (at_serial table.now pair.predecessor)) pairs.now }
@@ -122,7 +122,7 @@ fn all_fit(table: &[Option<PlacedRow>], pairs: &[Pair]) -> bool
     true
 }
 
-// Whether the pairs of what is live and no longer open are such as they may be.
+// Whether the pairs of what is live and no longer open follow the rules.
 fn are_fitting(
     alloc: Global,
     table: &[Option<PlacedRow>],

@@ -18,7 +18,7 @@ fn is_count(all: &[PlacedRow], issued: u32) -> bool
     all.len() == issued as usize
 }
 
-/// Whether each serial from 1 to the number issued stands in exactly one set, and no other in any.
+/// Whether each serial from 1 to the number issued is in exactly one set, and no other serial is in any.
 pub fn is_numbered(alloc: Global, content: &Content) -> Result<bool, AllocError>
     ensures { IfOk result (λ b. IsTrue b ↔ AreNumbered (content_of content.now).sets) }
 {

@@ -17,7 +17,7 @@ pub(crate) fn row_of(table: &[Option<PlacedRow>], serial: Serial) -> Option<Plac
     if at < table.len() { table[at] } else { None }
 }
 
-// Puts a row at the place of its serial; false where there is none, or where a row stands there.
+// Puts a row at the place of its serial; false if there is no such place, or it has a row.
 fn put(table: &mut Vec<Option<PlacedRow>>, placed: &PlacedRow) -> bool
     ensures { Puts placed.now table.old.items table.new.items result }
 {
@@ -34,7 +34,7 @@ fn put(table: &mut Vec<Option<PlacedRow>>, placed: &PlacedRow) -> bool
     }
 }
 
-// Whether a row stands at each place.
+// Whether each place has a row.
 fn is_full(table: &[Option<PlacedRow>]) -> bool
     ensures { MatchBool result ((k : ℕ) → k < length table.now → (p : PlacedValue) ×
         (slice_index_or table.now k None ≡ Some p)) ((k : ℕ) × (k < length table.now) ×
@@ -49,8 +49,8 @@ fn is_full(table: &[Option<PlacedRow>]) -> bool
     true
 }
 
-// The rows by serial, where each serial from 1 to the number issued stands at one of them, and no other; `None` where
-// not.
+// The rows by serial, if each serial from 1 to the number issued has one of them, and no other serial has; else
+// `None`.
 pub(crate) fn table_of(
     alloc: Global,
     issued: u32,

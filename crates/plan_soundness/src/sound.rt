@@ -8,8 +8,8 @@ use crate::rows::has_sound_rows;
 use plan_store::Content;
 use std::alloc::{AllocError, Global};
 
-/// Whether the content is sound: all nine rules, whatever was read. Takes time near linear in definitions, rows and
-/// pairs: lists of rows are made and looked through once for each rule, keys go into sets, and pairs are sorted.
+/// Whether the content is sound: all nine rules, whatever was read. The time is nearly linear in definitions, rows and
+/// pairs: lists of rows are made and scanned once for each rule, keys are put into sets, and pairs are sorted.
 pub fn is_sound(alloc: Global, content: &Content) -> Result<bool, AllocError>
     ensures { IfOk result (λ b. IsTrue b ↔ IsSound (content_of content.now)) }
 {

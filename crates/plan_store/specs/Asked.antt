@@ -1,4 +1,4 @@
--- What a statement asks of history: of an application the row that arrives last at a moment or before it, which is
+-- What a statement reads of history: of an application the row that arrives last at a moment or before it, which is
 -- before the next minute.
 use Rattle.std.specs.Prelude.{◌≡◌, ◌≢◌, ◌⊎◌, ℕ, ◌+◌, ◌<◌, ◌≤◌, List, Option, Some}
 use Rattle.app_definitions.specs.declared.definitions.Definitions.{Definitions}
@@ -34,32 +34,33 @@ IsPlannedAt s app ia =
     ⊎ ((serial : ℕ) × (current : CurrentRow) × (s.cp serial ≡ Some current) × (current.status ≢ D)
     × (current.row.key.app ≡ app) × (current.row.key.ia ≡ ia))
 
--- the predecessor stands in the list that is defined for the application
+-- the predecessor is in the list that is defined for the application
 abbrev pub ListsDefined : Definitions → List ℕ → List ℕ → Type 0
 ListsDefined all app predecessor = (within : Option ℕ)
     × IsDefinedLink all (record { app = app; predecessor = predecessor; within = within })
 
--- the predecessor stands in the list of the application that is in force, or in the one that is defined
+-- the predecessor is in the list of the application that is in force, or in the one that is defined
 abbrev pub ListsEither : Content → List ℕ → List ℕ → Type 0
 ListsEither c app predecessor = Lists c.in_force app predecessor ⊎ ListsDefined c.definitions app predecessor
 
--- what a statement on one key asks: the last at its arrival or before it, of its application and of each application of
--- its list
+-- what a statement on one key reads: the last at its arrival or before it, of its application and of each application
+-- of its list
 abbrev pub AsksKey : Content → Key → List ℕ → ℕ → Type 0
 AsksKey c key app minute = (minute ≡ key.ia + 1) × ((app ≡ key.app) ⊎ Lists c.in_force key.app app)
 
--- what a row that waits in the current plan asks: the last at its arrival or before it, of each application of its list,
--- in force or defined
+-- what is read for a row that waits in the current plan: the last at its arrival or before it, of each application of
+-- its list, in force or defined
 abbrev pub AsksWaiting : Content → List ℕ → ℕ → Type 0
 AsksWaiting c app minute = (row : Row) × (c.sets.cp row.serial ≡ Some (record { row = row; status = W }))
     × (minute ≡ row.key.ia + 1) × ListsEither c row.key.app app
 
--- what all others ask: the last at the plan end or before it, of each application that a list names, in force or defined
+-- what is read in any case: the last at the plan end or before it, of each application that a list names, in force or
+-- defined
 abbrev pub AsksPlanEnd : Content → List ℕ → ℕ → Type 0
 AsksPlanEnd c app minute = (bounds : Bounds) × (c.sets.bounds ≡ Some bounds) × (minute ≡ bounds.plan_end + 1)
     × ((naming : List ℕ) × ListsEither c naming app)
 
--- what a statement on the long-term plan asks
+-- what a statement on the long-term plan reads
 abbrev pub AsksPlan : Content → List ℕ → ℕ → Type 0
 AsksPlan c app minute = AsksWaiting c app minute ⊎ AsksPlanEnd c app minute
 
@@ -69,7 +70,7 @@ HasLast history shown app minute = (serial : ℕ) (row : Row) → history serial
     → row.key.ia < minute
     → (r : Row) × (shown r.serial ≡ Some r) × (r.key.app ≡ app) × (r.key.ia < minute) × IsNoLater row r
 
--- of history the rows are shown that are asked for, and no others
+-- exactly the rows of history are shown that are read
 pub record HasLasts (Asked : List ℕ → ℕ → Type 0) (history shown : ℕ → Option Row) : Type 0 where
   pub only : (serial : ℕ) (row : Row) → shown serial ≡ Some row → (history serial ≡ Some row)
       × ((app : List ℕ) × (minute : ℕ) × Asked app minute × IsLastOf history app minute row)

@@ -28,7 +28,7 @@ redefined AsBefore all = all
 redefined (Merged block) all = merged all block
 redefined (Removed kind name) all = without all kind name
 
--- a set, serial by serial: what is put, else what is changed, else nothing where something goes, else what was there
+-- a set, serial by serial: what is put, else what is changed, else nothing if the row goes, else what was there
 abbrev pub moved_set : {X : Type 0} → (X → Row) → Moves X → (ℕ → Option X) → ℕ → Option X
 moved_set row_of moves old serial =
     or_else (look_up (λ x. (row_of x).serial) moves.put.items serial)
@@ -66,8 +66,8 @@ is_among pairs pair = list_any (λ p. is_eq (pair_cmp p pair)) pairs
 abbrev pub pairs_after : PairChange → List Pair → List Pair
 pairs_after change pairs = with_pairs change.added (filter (λ pair. not (is_among change.removed pair)) pairs)
 
--- the change is what leads from the pairs to those after it: it removes only pairs that stood and are there no more, and
--- adds only such as did not stand and now are there
+-- the change is what leads from the pairs to those after it: it removes only pairs that were there and no longer are,
+-- and adds only pairs that were not there and now are
 abbrev pub LeadsOn : List Pair → PairChange → Type 0
 LeadsOn pairs change = Leads pairs (pairs_after change pairs) change
 
@@ -86,8 +86,8 @@ after change c = record {
   jobs = jobs_after change.job c.jobs;
 }
 
--- what moves fits the set: no serial is named twice; what goes stands there, what changes stands there under the same
--- key, and what is put has serials that the set doesn't have
+-- the moves fit the set: no serial is named twice; the set has what goes, and has what changes under the same key;
+-- what is put has serials that the set doesn't have
 pub record FitsSet {X : Type 0} (row_of : X → Row) (moves : Moves X) (set : ℕ → Option X) : Type 0 where
   pub gone_once : HasEachOnce row_of moves.gone.items
   pub changed_once : HasEachOnce row_of moves.changed.items

@@ -1,4 +1,4 @@
--- Counts of failures, which stay at the greatest number once there, and faults after which a store is honest still.
+-- Counts of failures, which stay at the greatest number once there, and faults after which a store is still honest.
 use Rattle.std.specs.Prelude.{◌≡◌, ◌≢◌, ℕ, ◌+◌, ◌-◌, ◌^◌, ◌≤◌, min}
 use Rattle.plan_store.specs.declared.listings.ListFault.{ListFault}
 use Rattle.plan_store.specs.declared.listings.ListFault.TheVariants as listing

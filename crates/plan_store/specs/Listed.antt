@@ -33,7 +33,7 @@ pub record ShowsSet {X : Type 0} (row_of : X → Row) (letter_of : X → ℕ) (i
   pub same : (x : X) → Contains rows x ↔ (Contains xs x × IsOfApp app (row_of x).key.app)
   pub shown : items ≡ map (shown_as row_of letter_of is_plain) rows
 
--- the sink took the first of these items, and the fault says why no more
+-- the sink accepted the first of these items, and the fault says why no more
 pub record EndsWithin {K : Type 0} (Takes Refuses : K → Shown → K → Type 0) (old : K) (items : List Shown) (new : K)
     (fault : ListFault) : Type 0 where
   pub done : List Shown
@@ -41,7 +41,7 @@ pub record EndsWithin {K : Type 0} (Takes Refuses : K → Shown → K → Type 0
   pub parts : items ≡ done ++ rest
   pub ends : EndsSo Takes Refuses old done rest new fault
 
--- the row under a serial, wherever it stands
+-- the row under a serial, in whatever set it is
 abbrev pub row_in : Option Row → Option CurrentRow → Option Row → Option Deletion → Option Row
 row_in (Some row) _ _ _ = Some row
 row_in None (Some current) _ _ = Some current.row
@@ -58,7 +58,7 @@ pub record AreBySerial {B : Type 0} (row_of : B → Row) (s : Sets) (rows : List
   pub only : (b : B) → Contains rows b → row_at s (row_of b).serial ≡ Some (row_of b)
   pub all : (serial : ℕ) (row : Row) → row_at s serial ≡ Some row → (b : B) × Contains rows b × (row_of b ≡ row)
 
--- whether a row is of the application, or any is asked for
+-- whether a row is of the application, or every row counts
 abbrev pub is_of_app : Option (List ℕ) → Row → Bool
 is_of_app None row = true
 is_of_app (Some app) row = pointwise nat_eq row.key.app app

@@ -1,4 +1,4 @@
--- What a listing hands out, and what becomes of the sink that takes it.
+-- The items that a listing yields, and what they make of the sink.
 use Rattle.std.specs.Prelude.{◌≡◌, ℕ, List, [], ◌∷◌, ◌++◌, length, map, Option}
 use Rattle.occurrences.specs.Place.{reason_letter}
 use Rattle.occurrences.specs.Status.{status_letter}
@@ -67,12 +67,12 @@ IsListing Whats.Deletions app c items = ShowRows InDeletions app c items
 IsListing Whats.Dependencies app c items = ShowPairs app c items
 IsListing Whats.Links app c items = ShowLinks app c items
 
--- the sink takes the items, one after another
+-- the sink accepts the items, one after another
 abbrev pub TakesAll : {K : Type 0} → (K → Shown → K → Type 0) → K → List Shown → K → Type 0
 TakesAll Takes old [] new = new ≡ old
 TakesAll {K} Takes old (item ∷ items) new = (next : K) × Takes old item next × TakesAll Takes next items new
 
--- the sink took all items, and so many were counted
+-- the sink accepted all items, and so many were counted
 pub record HandsAll {K : Type 0} (Takes : K → Shown → K → Type 0) (IsWhole : List Shown → Type 0) (old new : K)
     (count : ℕ) : Type 0 where
   pub items : List Shown
@@ -80,7 +80,7 @@ pub record HandsAll {K : Type 0} (Takes : K → Shown → K → Type 0) (IsWhole
   pub taken : TakesAll Takes old items new
   pub counted : count ≡ length items
 
--- the sink took the first items and, where it is to blame, refused the next
+-- the sink accepted the first items and, if it is to blame, refused the next
 abbrev pub EndsSo : {K : Type 0} → (Takes Refuses : K → Shown → K → Type 0) → K → List Shown → List Shown → K
     → ListFault
     → Type 0

@@ -13,7 +13,7 @@ use Rattle.plan_store.specs.Asked.{IsNoLater, ListsDefined}
 abbrev pub StandsAtPlace : List Row → ℕ → Row → Type 0
 StandsAtPlace rows i row = (i < length rows) × (get_or rows i row ≡ row)
 
--- at the place stands the row of the application that arrives last before the minute
+-- at the place is the row of the application that arrives last before the minute
 pub record IsLastPlace (rows : List Row) (app : List ℕ) (minute i : ℕ) : Type 0 where
   pub row : Row
   pub stands : StandsAtPlace rows i row
@@ -30,14 +30,14 @@ abbrev pub HasNoted : List Row → List ℕ → ℕ → List ℕ → Type 0
 HasNoted rows app minute places = (row : Row) → Contains rows row → row.key.app ≡ app → row.key.ia < minute
     → (i : ℕ) × Contains places i × IsLastPlace rows app minute i
 
--- to the places those of what is asked for are added, and no others
+-- exactly the places of what is read are added
 pub record Notes (Asked : List ℕ → ℕ → Type 0) (rows : List Row) (old new : List ℕ) : Type 0 where
   pub stay : (i : ℕ) → Contains old i → Contains new i
   pub come : (i : ℕ) → Contains new i
       → Contains old i ⊎ ((app : List ℕ) × (minute : ℕ) × Asked app minute × IsLastPlace rows app minute i)
   pub noted : (app : List ℕ) (minute : ℕ) → Asked app minute → HasNoted rows app minute new
 
--- one of these asks for it
+-- it is read for one of these
 abbrev pub AskedByOne : {X : Type 0} → (X → List ℕ → ℕ → Type 0) → List X → List ℕ → ℕ → Type 0
 AskedByOne {X} Asks xs app minute = (x : X) × Contains xs x × Asks x app minute
 
@@ -49,7 +49,7 @@ IsAsked of_app before app minute = (app ≡ of_app) × (minute ≡ before)
 abbrev pub AsksEach : (List ℕ → Type 0) → ℕ → List ℕ → ℕ → Type 0
 AsksEach IsListed before app minute = (minute ≡ before) × IsListed app
 
--- the application stands in a list that is defined
+-- the application is in a list that is defined
 abbrev pub IsDefined : Definitions → List ℕ → Type 0
 IsDefined all app = (naming : List ℕ) × ListsDefined all naming app
 

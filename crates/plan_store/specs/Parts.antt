@@ -1,5 +1,5 @@
--- Lists that have a part of what a planner knows: all of both plans, of their pairs and of the definitions, and of
--- history, of the deletions and of the kept jobs what was found out, since these stand elsewhere.
+-- Lists that have a part of what a planner knows: all of both plans, of their pairs and of the definitions; of
+-- history, of the deletions and of the kept jobs only what was loaded, because these are stored elsewhere.
 use Rattle.std.specs.Prelude.{◌≡◌, ℕ, Bool, ◌||◌, ◌&&◌, List, Contains, Option, Some, None, is_some, nat_eq, true}
 use Rattle.std.specs.Prelude.{if◌then◌else◌}
 use Rattle.std.specs.List.{list_any}
@@ -40,15 +40,15 @@ with_rest rest c = record {
   jobs = rest.jobs;
 }
 
--- an occurrence of the serial stands in the long-term plan or in the current plan
+-- the long-term plan or the current plan has an occurrence of the serial
 abbrev pub is_planned : Sets → ℕ → Bool
 is_planned s serial = is_some (s.ltp serial) || is_some (s.cp serial)
 
--- the lists have of history under the serial what stands there
+-- the lists have what history has under the serial
 abbrev pub Knows : Rest → Content → ℕ → Type 0
 Knows rest c serial = c.sets.history serial ≡ rest.history serial
 
--- and so of the deletions
+-- and the same of the deletions
 abbrev pub KnowsDeletion : Rest → Content → ℕ → Type 0
 KnowsDeletion rest c serial = c.sets.deletions serial ≡ rest.deletions serial
 
@@ -57,8 +57,8 @@ abbrev pub HasBars : Option Bounds → Rest → Content → Type 0
 HasBars bounds rest c = (serial : ℕ) (deletion : Deletion) → rest.deletions serial ≡ Some deletion
     → bars bounds deletion ≡ true → c.sets.deletions serial ≡ Some deletion
 
--- what the lists have of history and of the deletions stands there; of history they have all that is a predecessor of
--- what is planned, and of the deletions each that an operator made from the plan end on
+-- what the lists have of history and of the deletions is there; of history they have all that is a predecessor of what
+-- is planned, and of the deletions each that an operator made from the plan end on
 pub record IsPartOf (rest : Rest) (c : Content) : Type 0 where
   pub history : (serial : ℕ) (row : Row) → c.sets.history serial ≡ Some row → rest.history serial ≡ Some row
   pub deletions : (serial : ℕ) (deletion : Deletion) → c.sets.deletions serial ≡ Some deletion
@@ -88,7 +88,7 @@ followed_alone c = record {
   jobs = c.jobs;
 }
 
--- what stands under a serial, and where nothing does, this row if it has the serial
+-- what is under a serial, and if nothing is, this row if it has the serial
 abbrev pub or_this : {X : Type 0} → (ℕ → Option X) → (number : ℕ) → X → ℕ → Option X
 or_this set number x serial = or_else (set serial) (if nat_eq number serial then Some x else None)
 
@@ -109,7 +109,7 @@ with_completed row c = record {
   jobs = c.jobs;
 }
 
--- and so of the deletions
+-- and the same of the deletions
 abbrev pub with_deleted : Deletion → Content → Content
 with_deleted deletion c = record {
   definitions = c.definitions;

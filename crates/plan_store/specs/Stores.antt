@@ -9,58 +9,59 @@ use Rattle.plan_store.specs.declared.changes.Change.{Change}
 use Rattle.plan_store.specs.declared.stores.StoreFault.{StoreFault}
 use Rattle.plan_store.specs.declared.stores.StoreFault.TheVariants.{Device, Memory}
 
--- a store before and after it is read, and what the call answers
+-- a store before and after it is read, and what the call returns
 pub record ReadsStore {S T : Type 0} (is_honest : S → Type 0) (content : S → Content) (failures : S → ℕ)
     (may_leave : S → Content → Type 0) (is_clean is_whole : S → Type 0) (before now : S)
     (result : Result T StoreFault) (IsRight : T → Type 0) : Type 0 where
-  -- the answer of an honest store is right, and its content stays
+  -- an honest store returns what is right, and its content stays
   pub right : is_honest now → IfOk result IsRight
   pub same : is_honest now → content now ≡ content before
-  -- a crash leaves no other content than before, whatever became of the store
+  -- a crash leaves no other content than before, whatever happened to the store
   pub crash : (c : Content) → may_leave now c → may_leave before c
   -- the device is blamed only where it failed, then or before
   pub blames : IfErr result (λ fault. fault ≡ Device → MoreFailures (failures before) (failures now)
       ⊎ (0 < failures before))
-  -- and once a failure is counted, no call answers anything else
+  -- and once a failure is counted, no call returns anything else
   pub broken : 0 < failures before → result ≡ Err Device
   pub counts : failures before ≤ failures now
   pub honest : is_honest now → is_honest before
   pub clean : is_clean now → is_clean before
-  -- an honest store stays honest where its device told no wrong answer, unless the device is blamed or in doubt
+  -- an honest store stays honest if its device gave no wrong answer, unless the device is blamed or in doubt
   pub stays_honest : is_honest before → is_clean now → IfErr result (IsMild (is_whole now)) → is_honest now
-  -- a store that answers is as whole as it was
+  -- a store that returns a result is as whole as it was
   pub whole : OnOk result (is_whole before → is_whole now)
 
--- a reading call that lends what it answers: so stands the store behind `lender` once the loan is given back
+-- a reading call that lends its result: the store behind `lender` is so once the loan is given back
 abbrev pub LendsRead : {T : Type 0} (R : RattleType) (is_honest : R.Denot → Type 0) (content : R.Denot → Content)
     (failures : R.Denot → ℕ) (may_leave : R.Denot → Content → Type 0) (is_clean is_whole : R.Denot → Type 0)
     (before : R.Denot) (lender : MutBor R.Denot) → Result T StoreFault → (T → Type 0) → Fml
 LendsRead R is_honest content failures may_leave is_clean is_whole before lender result IsRight =
     Rests R lender (λ now. ReadsStore is_honest content failures may_leave is_clean is_whole before now result IsRight)
 
--- a store before and after it is told a change, and what the call answers
+-- a store before and after a change, and what the call returns
 pub record Applies {S : Type 0} (is_honest : S → Type 0) (content : S → Content) (failures : S → ℕ)
     (may_leave : S → Content → Type 0) (is_clean is_whole : S → Type 0) (before now : S) (change : Change)
     (result : Result (Unit {0}) StoreFault) : Type 0 where
-  -- `Ok` says that the change is made, and `Memory` that nothing is; whatever fails, it is made whole or not at all
+  -- `Ok` means that the change is made, and `Memory` that none of it is; whatever fails, it is made whole or not at
+  -- all
   pub done : is_honest now → OnOk result (content now ≡ after change (content before))
   pub unchanged : is_honest now → IfErr result (λ fault. fault ≡ Memory → content now ≡ content before)
   pub whole : is_honest now → OnErr result ((content now ≡ content before)
       ⊎ (content now ≡ after change (content before)))
-  -- what a crash may leave: after `Ok` the content alone, and else, whatever became of the store, at most the new
-  -- content and what it might have left before
+  -- what a crash may leave: after `Ok` the content alone, and otherwise, whatever happened to the store, at most the
+  -- new content and what it might have left before
   pub settled : is_honest now → OnOk result ((c : Content) → may_leave now c → c ≡ content now)
   pub crash : is_honest before → (c : Content) → may_leave now c
       → may_leave before c ⊎ (c ≡ after change (content before))
   -- the device is blamed only where it failed, then or before
   pub blames : IfErr result (λ fault. fault ≡ Device → MoreFailures (failures before) (failures now)
       ⊎ (0 < failures before))
-  -- and once a failure is counted, no call answers anything else
+  -- and once a failure is counted, no call returns anything else
   pub broken : 0 < failures before → result ≡ Err Device
   pub counts : failures before ≤ failures now
   pub honest : is_honest now → is_honest before
   pub clean : is_clean now → is_clean before
-  -- an honest store stays honest where its device told no wrong answer, unless the device is blamed or in doubt
+  -- an honest store stays honest if its device gave no wrong answer, unless the device is blamed or in doubt
   pub stays_honest : is_honest before → is_clean now → IfErr result (IsMild (is_whole now)) → is_honest now
-  -- a store that answers is as whole as it was
+  -- a store that returns a result is as whole as it was
   pub stays_whole : OnOk result (is_whole before → is_whole now)

@@ -1,4 +1,4 @@
--- What a window shows, and what its calls answer.
+-- What a window shows, and what its calls return.
 use Rattle.std.specs.Prelude.{◌≡◌, ◌≢◌, ◌↔◌, ℕ, ◌≤◌, ◌<◌, List, [], Contains, Option, Some, None, filter, Bool}
 use Rattle.std.specs.Prelude.{◌&&◌, ◌||◌, is_some, length, not, true, false}
 use Rattle.occurrences.specs.Place.{IsLive}
@@ -55,20 +55,20 @@ is_of_key (Some key) row = has_key key row
 abbrev pub is_asked : Option Key → CurrentRow → Bool
 is_asked key current = is_waiting current.status || (is_of_key key current.row && not (is_deleted current.status))
 
--- pairs of the serial are asked for as of one in a plan: it is open, or the live row of the key stands there
+-- the window needs the pairs of the serial as of one in a plan: it is open, or the live row of the key is there
 abbrev pub asks_planned : Option Key → (ltp : ℕ → Option Row) → (cp : ℕ → Option CurrentRow) → ℕ → Bool
 asks_planned key ltp cp serial = is_some (ltp serial) || is_some (keep (is_asked key) (cp serial))
 
--- or as of one in history: the live row of the key stands there
+-- or as of one in history: the live row of the key is there
 abbrev pub asks_completed : Option Key → (history : ℕ → Option Row) → ℕ → Bool
 asks_completed key history serial = is_some (keep (is_of_key key) (history serial))
 
--- pairs of the serial are asked for: it is open, or the live row of the key
+-- the window needs the pairs of the serial: it is open, or the live row of the key
 abbrev pub asks_pairs : Option Key → (ltp : ℕ → Option Row) → (cp : ℕ → Option CurrentRow) → (history : ℕ → Option Row)
     → ℕ → Bool
 asks_pairs key ltp cp history serial = asks_planned key ltp cp serial || asks_completed key history serial
 
--- those of the pairs that are asked for
+-- those of the pairs that the window needs
 abbrev pub asked_pairs : Option Key → (ltp : ℕ → Option Row) → (cp : ℕ → Option CurrentRow) → (history : ℕ → Option Row)
     → List Pair → List Pair
 asked_pairs key ltp cp history pairs = filter (λ (pair : Pair). asks_pairs key ltp cp history pair.successor) pairs
@@ -137,7 +137,7 @@ abbrev pub hidden_of : Content → Hidden
 hidden_of c =
     record { history = c.sets.history; deletions = c.sets.deletions; pairs = c.pairs; jobs = c.jobs }
 
--- the content with these rows in history, these deletions, of the pairs those that are asked for, and no job
+-- the content with these rows in history, these deletions, of the pairs those that the window needs, and no job
 abbrev pub with_part : Option Key → (ℕ → Option Row) → (ℕ → Option Deletion) → Content → Content
 with_part key history deletions c = with_these (record {
   history = history;
@@ -161,16 +161,16 @@ bars None deletion = false
 bars (Some b) deletion = bars_from b.plan_end deletion
 
 -- what a need names of a content, where these rows of history are shown: of a daily plan the rows of the current plan,
--- and those of the long-term plan that arrive before its moment; of one key both plans, and the pairs of what is open or
--- is the live row of the key, wherever that stands; of the long-term plan both plans, the pairs of what is open, and such
--- deletions as keep a key from being made
+-- and those of the long-term plan that arrive before its moment; of one key both plans, and the pairs of what is open
+-- or is the live row of the key, in whatever set that is; of the long-term plan both plans, the pairs of what is open,
+-- and such deletions as keep a key from being made
 abbrev pub named : Need → (ℕ → Option Row) → Content → Content
 named need.Definitions history c = with_plans_alone (λ _. None) (λ _. None) c
 named (need.Key key) history c = with_part (Some key) history (λ _. None) c
 named need.LongTerm history c = with_part None history (λ serial. keep (bars c.sets.bounds) (c.sets.deletions serial)) c
 named (need.Daily t) history c = with_plans_alone (λ serial. moved t (c.sets.ltp serial)) c.sets.cp c
 
--- what it asks of history
+-- what it reads of history
 abbrev pub Asks : Need → Content → List ℕ → ℕ → Type 0
 Asks need.Definitions c = λ app minute. ⊥
 Asks (need.Key key) c = AsksKey c key
@@ -184,12 +184,12 @@ key_of (need.Key key) = Some key
 key_of need.LongTerm = None
 key_of (need.Daily t) = None
 
--- a pair comes with both its rows: where its predecessor stands in history, the window has it
+-- a pair comes with both its rows: if its predecessor is in history, the window has it
 abbrev pub HasPredecessors : (ℕ → Option Row) → View → Type 0
 HasPredecessors history view = (pair : Pair) → Contains (shown view).pairs pair
     → look_up row_serial view.history.now pair.predecessor ≡ history pair.predecessor
 
--- where the live row of the key stands in history, the window shows it
+-- if the live row of the key is in history, the window shows it
 abbrev pub ShowsLive : Option Key → (ℕ → Option Row) → View → Type 0
 ShowsLive key history view = (serial : ℕ) (row : Row) → history serial ≡ Some row → key ≡ Some row.key
     → (shown view).sets.history serial ≡ Some row
@@ -218,15 +218,15 @@ pub record Shows (need : Need) (view : View) (c : Content) : Type 0 where
 abbrev pub with_hidden : Hidden → View → Content
 with_hidden hidden view = with_these hidden (shown view)
 
--- of what it hides the window shows the pairs that are asked for, with their predecessors, and of history what is asked
--- for, and no more
+-- of what it hides the window shows the pairs that it needs, with their predecessors, and of history what it needs,
+-- and no more
 pub record Sees (key : Option Key) (Asked : List ℕ → ℕ → Type 0) (hidden : Hidden) (view : View) : Type 0 where
   pub pairs : (shown view).pairs
       ≡ asked_pairs key (shown view).sets.ltp (shown view).sets.cp hidden.history hidden.pairs
   pub lasts : HasLasts Asked hidden.history (shown view).sets.history
   pub predecessors : HasPredecessors hidden.history view
 
--- what the window shows of history stands there
+-- what the window shows of history is there
 abbrev pub ShowsPart : Content → View → Type 0
 ShowsPart c view = (serial : ℕ) (row : Row) → (shown view).sets.history serial ≡ Some row
     → c.sets.history serial ≡ Some row
@@ -258,7 +258,7 @@ abbrev pub BehindPairs : View → (Content → Type 0) → Type 0
 BehindPairs view Is = (h : Hidden) → AreNumbered (with_hidden h view).sets → HasPredecessors h.history view
     → Is (with_hidden h view)
 
--- what a window for the need shows that is no part of a list was made ready
+-- what a window for the need shows that is no part of a list was prepared
 pub record HasAsked (need : Need) (kept : Kept) : Type 0 where
   pub key : kept.buffer.key ≡ key_of need
   pub rows : AreRows of_row kept.buffer.lasts.items
@@ -295,12 +295,12 @@ IsCurrentRow s key (Some current) = (s.cp current.row.serial ≡ Some current) �
 IsCurrentRow s key None = (serial : ℕ) (current : CurrentRow) → s.cp serial ≡ Some current → current.row.key ≡ key
     → current.status ≢ D → ⊥
 
--- the live occurrence that has the key, and where it stands, or that there is none
+-- the live occurrence that has the key, and its place, or that there is none
 abbrev pub IsLiveRow : Sets → Key → Option PlacedRow → Type 0
 IsLiveRow s key (Some p) = StandsAt s p.row.serial p × IsLive p.place × (p.row.key ≡ key)
 IsLiveRow s key None = (serial : ℕ) (p : PlacedRow) → StandsAt s serial p → IsLive p.place → p.row.key ≢ key
 
--- the occurrence of the serial, and where it stands, or that there is none
+-- the occurrence of the serial, and its place, or that there is none
 abbrev pub IsPlacedAt : Sets → ℕ → Option PlacedRow → Type 0
 IsPlacedAt s serial (Some p) = StandsAt s serial p
 IsPlacedAt s serial None = (p : PlacedRow) → StandsAt s serial p → ⊥
@@ -312,13 +312,13 @@ IsOutsideDeletions (Current status) = Unit {0}
 IsOutsideDeletions History = Unit {0}
 IsOutsideDeletions (Deleted reason) = ⊥
 
--- the serial stands in no plan, and not in history
+-- no plan has the serial, and history doesn't either
 pub record IsOutside (s : Sets) (serial : ℕ) : Type 0 where
   pub ltp : s.ltp serial ≡ None
   pub cp : s.cp serial ≡ None
   pub history : s.history serial ≡ None
 
--- the occurrence of the serial in a plan or in history, and where it stands, or that there is none
+-- the occurrence of the serial in a plan or in history, and its place, or that there is none
 abbrev pub IsFoundAt : Sets → ℕ → Option PlacedRow → Type 0
 IsFoundAt s serial (Some p) = StandsAt s serial p × IsOutsideDeletions p.place
 IsFoundAt s serial None = IsOutside s serial

@@ -13,20 +13,20 @@ use work_calendars::Name;
 pub enum DefinitionChange {
     /// They stay.
     AsBefore,
-    /// A block's definitions come, each in place of the one of its kind and name.
+    /// A block's definitions are added, each in place of the one of its kind and name.
     Merged(Block),
-    /// The definition of one kind and name goes.
+    /// The definition of one kind and name is removed.
     Removed { kind: Kind, name: Name },
 }
 
 /// What a change makes of one set of rows. Each list may be given in any order.
 #[derive(Drop)]
 pub struct Moves<T> {
-    /// What goes, as it stands there.
+    /// What is removed, as it is in the set.
     pub gone: Vec<T>,
-    /// What changes and keeps its serial, application and input arrival, as it is then. It needs no room.
+    /// What changes and keeps its serial, application and input arrival, as it is afterwards. It needs no room.
     pub changed: Vec<T>,
-    /// What comes, under serials that the set doesn't have.
+    /// What is added, under serials that the set doesn't have.
     pub put: Vec<T>,
 }
 
@@ -93,7 +93,7 @@ impl Change {
     }
 }
 
-/// What a decision answers.
+/// The verdict of a decision.
 #[derive(Drop)]
 pub enum Verdict {
     /// The statement is accepted: what it changes, and its reply.

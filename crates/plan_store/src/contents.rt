@@ -41,7 +41,7 @@ pub struct Content {
     pub pairs: Pairs,
     /// The kept jobs, by number.
     pub jobs: Vec<Job>,
-    // under which key each serial stands; there may be more of them than rows
+    // the key of each serial; there may be more of them than rows
     pub(crate) seats: Vec<Seat>,
     // what windows show that is no part of a list
     pub(crate) buffer: Buffer,
@@ -81,7 +81,7 @@ impl Content {
     ghost use Rattle.plan_store.specs.Room.{no_jobs, with_job_set};
     ghost use Rattle.plan_store.specs.declared.changes.DefinitionChange.TheVariants.{AsBefore};
 
-    /// What a planner knows that was told nothing.
+    /// The content before the first statement.
     pub fn new(alloc: Global) -> Content
         ensures { content_of result ≡ nothing_known }
     {
@@ -101,9 +101,9 @@ impl Content {
         }
     }
 
-    /// Makes ready what a window for the need shows that is no part of a list: for a daily plan the rows of the
-    /// long-term plan that arrive before its end, for a key and for the long-term plan the rows of history that are asked
-    /// for, and for the long-term plan what an operator deleted from the plan end on. The content stays as it is.
+    /// Prepares what a window for the need shows that is no part of a list: for a daily plan the rows of the long-term
+    /// plan that arrive before its end, for a key and for the long-term plan the rows of history that the need names,
+    /// and for the long-term plan what an operator deleted from the plan end on. The content stays as it is.
     pub fn fill_window(&mut self, need: &Need) -> Result<(), AllocError>
         ensures same { content_of self.new ≡ content_of self.old }
         ensures filled { OnOk result (IsFilled need.now self.new) }
@@ -119,7 +119,7 @@ impl Content {
         }
     }
 
-    // Fills the buffer with the rows of history that a statement on the key asks for.
+    // Fills the buffer with the rows of history that a statement on the key reads.
     fn fill_for_key(&mut self, key: &Key) -> Result<(), AllocError>
         ensures same { content_of self.new ≡ content_of self.old }
         ensures filled { OnOk result (HasAsked (Need.Key key.now) self.new) }
@@ -134,7 +134,7 @@ impl Content {
         )
     }
 
-    // Fills the buffer with the rows of history that a statement on the long-term plan asks for.
+    // Fills the buffer with the rows of history that a statement on the long-term plan reads.
     fn fill_for_plan(&mut self) -> Result<(), AllocError>
         ensures same { content_of self.new ≡ content_of self.old }
         ensures filled { OnOk result (HasAsked Need.LongTerm self.new) }
@@ -168,8 +168,8 @@ impl Content {
         }
     }
 
-    /// Lends a window that shows what the need names, which was made ready by `fill_window`. It tells the sizes of the
-    /// plans also where history and the deletions stand elsewhere.
+    /// Lends a window that shows what the need names, which `fill_window` prepared. It has the sizes of the plans even
+    /// if history and the deletions are stored elsewhere.
     pub fn window(&self, need: &Need) -> View<'_>
         requires { IsFilled need.now self.now }
         ensures shows { Shows need.now result (content_of self.now) }
@@ -206,8 +206,8 @@ impl Content {
         }
     }
 
-    // A window of both plans and the pairs that are asked for, with both their rows, of the rows of history that were
-    // asked for, and of these deletions. On which key it is was noted where it was filled.
+    // A window of both plans, of the pairs that it needs with both their rows, of the rows of history that it needs,
+    // and of these deletions. `fill_window` noted the key that it is on.
     fn window_of_lasts<'a>(&'a self, deletions: &'a [Deletion]) -> View<'a>
         requires lasts { AreRows of_row self.now.buffer.lasts.items }
         requires part { (row : RowValue) → Contains self.now.buffer.lasts.items row
@@ -242,14 +242,14 @@ impl Content {
         }
     }
 
-    /// Lets go of the kept jobs, where they are kept elsewhere.
+    /// Drops the kept jobs, which are stored elsewhere.
     pub fn forget_jobs(&mut self, alloc: Global)
         ensures { content_of self.new ≡ with_job_set no_jobs (content_of self.old) }
     {
         self.jobs = Vec::new(alloc);
     }
 
-    // The serials noted of all rows that the change puts.
+    // Notes the serials of all rows that the change puts.
     fn note(&mut self, alloc: Global, change: &Change) -> Result<(), AllocError>
         requires { Fits change.now (content_of self.old) }
         ensures same { HasSame self.old self.new }
@@ -258,7 +258,7 @@ impl Content {
         note_puts(alloc, &mut self.seats, change)
     }
 
-    // Room for the rows and the job that the change puts, whose serials are noted.
+    // Makes room for the rows and the job that the change puts, whose serials are noted.
     fn reserve(&mut self, change: &Change) -> Result<(), AllocError>
         requires { HasPutSeats change.now self.old }
         ensures same { HasSame self.old self.new }
@@ -271,8 +271,8 @@ impl Content {
         self.jobs.reserve(1)
     }
 
-    /// The first half of a change: room for all that it puts. It takes the pairs out of the content, which get back
-    /// into it by `finish` or `put_back`. Where memory is refused, the content is as it was.
+    /// The first half of a change: room for all that it puts. It takes the pairs out of the content, which `finish` or
+    /// `put_back` puts back. Where memory is refused, the content is as it was.
     pub fn make_room(&mut self, alloc: Global, change: &Change) -> Result<Room, AllocError>
         requires { Fits change.now (content_of self.old) }
         ensures taken { IfOk result (λ room. (room.pairs.items ≡ (content_of self.old).pairs)
@@ -301,7 +301,7 @@ impl Content {
         self.pairs = Pairs::from_rising(pairs);
     }
 
-    /// Changes the definitions, or where memory is refused, nothing.
+    /// Changes the definitions; if memory is refused, nothing.
     pub fn redefine(&mut self, change: DefinitionChange) -> Result<(), AllocError>
         ensures ok { OnOk result (content_of self.new
             ≡ with_definitions (redefined change (content_of self.old).definitions)
@@ -313,8 +313,8 @@ impl Content {
         redefine(&mut self.definitions, change)
     }
 
-    /// The second half of a change: makes it in the room that was made for it, and puts the pairs back. It cannot fail.
-    /// The definitions are changed before, by `redefine`.
+    /// The second half of a change: makes it in the room that was made for it, and puts the pairs back. It cannot
+    /// fail. `redefine` has changed the definitions before.
     pub fn finish(&mut self, room: Room, change: Change)
         requires fits { Fits change (content_of self.old) }
         requires room { HasRoom change self.old room }
@@ -347,7 +347,7 @@ impl Content {
         keep_job(&mut self.jobs, job);
     }
 
-    /// Makes the change, or where memory is refused, none of it.
+    /// Makes the change; if memory is refused, none of it.
     pub fn apply(&mut self, alloc: Global, change: Change) -> Result<(), AllocError>
         requires { Fits change (content_of self.old) }
         ensures ok { OnOk result (content_of self.new ≡ after change (content_of self.old)) }
@@ -391,7 +391,7 @@ fn note_puts(alloc: Global, seats: &mut Vec<Seat>, change: &Change) -> Result<()
     note_rows(alloc, seats, &change.deletions.put)
 }
 
-// Makes the change of the definitions, or where memory is refused, none.
+// Makes the change of the definitions; if memory is refused, none.
 fn redefine(definitions: &mut Definitions, change: DefinitionChange) -> Result<(), AllocError>
     ensures ok { OnOk result (definitions.new ≡ redefined change definitions.old) }
     ensures err { OnErr result (definitions.new ≡ definitions.old) }

@@ -17,9 +17,9 @@ use occurrences::{CurrentRow, Deletion, Row};
 use planner_machine::Job;
 use std::alloc::{AllocError, Global};
 
-// A row that is compared whole.
+// A row that is compared field by field.
 trait Whole: PlanRow {
-    // Whether it is the other.
+    // Whether it equals the other.
     fn is(&self, other: &Self) -> bool
         ensures { IsTrue result ↔ (self.now ≡ other.now) };
 }
@@ -52,7 +52,7 @@ fn of_same_serial<T: PlanRow>(list: &[T], seats: &[Seat], x: &T) -> Option<T>
     of_serial(list, seats, x.row().serial)
 }
 
-// Whether the row stands in the list.
+// Whether the list has the row.
 fn stands<T: Whole>(list: &[T], seats: &[Seat], x: &T) -> bool
     requires rows { AreRows T.row_of list.now }
     requires order { AreSeats seats.now }
@@ -73,7 +73,7 @@ fn same_key(row: &Row, other: &Row) -> bool
     row.key == other.key
 }
 
-// Whether a row of its serial stands in the list under its key.
+// Whether the list has a row of its serial under its key.
 fn stands_as<T: PlanRow>(list: &[T], seats: &[Seat], x: &T) -> bool
     requires rows { AreRows T.row_of list.now }
     requires order { AreSeats seats.now }
@@ -88,7 +88,7 @@ fn stands_as<T: PlanRow>(list: &[T], seats: &[Seat], x: &T) -> bool
     }
 }
 
-// Whether no row of its serial stands in the list.
+// Whether the list has no row of its serial.
 fn is_new<T: PlanRow>(list: &[T], seats: &[Seat], x: &T) -> bool
     requires rows { AreRows T.row_of list.now }
     requires order { AreSeats seats.now }
@@ -99,7 +99,7 @@ fn is_new<T: PlanRow>(list: &[T], seats: &[Seat], x: &T) -> bool
     of_same_serial(list, seats, x).is_none()
 }
 
-// Whether no serial stands at two places of these.
+// Whether no two of these have one serial.
 fn have_each_once<T: PlanRow>(alloc: Global, rows: &[T], more: &[T]) -> Result<bool, AllocError>
     ensures { IfOk result (λ once. IsTrue once ↔ HasEachOnce T.row_of (rows.now ++ more.now)) }
 {
@@ -121,7 +121,7 @@ fn names_each_once<T: PlanRow>(alloc: Global, moves: &Moves<T>) -> Result<bool, 
     )
 }
 
-// Whether what goes stands in the list.
+// Whether the list has what goes.
 fn gone_stand<T: Whole>(list: &[T], seats: &[Seat], moves: &Moves<T>) -> bool
     requires rows { AreRows T.row_of list.now }
     requires order { AreSeats seats.now }
@@ -132,7 +132,7 @@ fn gone_stand<T: Whole>(list: &[T], seats: &[Seat], moves: &Moves<T>) -> bool
     moves.gone.iter().all(|x| stands(list, seats, x))
 }
 
-// Whether what changes stands in the list under its key.
+// Whether the list has what changes, under its key.
 fn changed_stand<T: PlanRow>(list: &[T], seats: &[Seat], moves: &Moves<T>) -> bool
     requires rows { AreRows T.row_of list.now }
     requires order { AreSeats seats.now }

@@ -10,7 +10,7 @@ ghost use Rattle.planner_machine.specs.declared.job.Job.{Job as JobValue};
 
 use planner_machine::Job;
 
-// Where the job of the number stands, or where it would stand.
+// The place of the job of the number, or the place where it would be inserted.
 pub(crate) fn find_job(jobs: &[Job], number: u64) -> Result<usize, usize>
     ensures taken { IfOk result (λ i. (i < length jobs.now)
         × HoldsAt (λ (kept : JobValue). kept.number ≡ number) jobs.now i) }

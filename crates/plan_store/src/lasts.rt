@@ -1,5 +1,5 @@
-// Of history the rows that windows show: of applications the last before some minutes. A row of history is noted by its
-// place in the list, so that the rows come in its order.
+// The rows of history that windows show: for some applications, the last row before some minute. A row of history is
+// noted by its place in the list, so that the rows come in its order.
 
 ghost use Rattle.std.specs.Prelude.{◌≡◌, ◌↔◌, ◌<◌, ℕ, [], length, Contains, MatchOption, OnOk};
 ghost use Rattle.std.specs.List.{AllPairs};
@@ -21,7 +21,7 @@ use planner_machine::Bounds;
 use std::alloc::AllocError;
 use work_calendars::App;
 
-/// Fills the list with the rows of history that a statement on the key asks for, by application, input arrival and
+/// Fills the list with the rows of history that a statement on the key reads, by application, input arrival and
 /// serial. The places are scratch.
 pub(crate) fn key_lasts(
     lasts: &mut Vec<Row>,
@@ -46,8 +46,8 @@ pub(crate) fn key_lasts(
     Ok(())
 }
 
-/// Fills the list with the rows of history that a statement on the long-term plan asks for, by application, input
-/// arrival and serial. The places are scratch.
+/// Fills the list with the rows of history that a statement on the long-term plan reads, by application, input arrival
+/// and serial. The places are scratch.
 pub(crate) fn plan_lasts(
     lasts: &mut Vec<Row>,
     places: &mut Vec<usize>,
@@ -75,7 +75,7 @@ pub(crate) fn plan_lasts(
     Ok(())
 }
 
-// Where the last row of the application stands that arrives before the minute.
+// The place of the application's last row that arrives before the minute.
 fn last_place(history: &[Row], app: &App, minute: u32) -> Option<usize>
     requires { AreRows of_row history.now }
     ensures { MatchOption result (LacksBefore history.now app.now minute)
@@ -115,7 +115,7 @@ fn note_last(
     Ok(())
 }
 
-// Notes of each predecessor of the links the last row before the minute.
+// Notes, for each predecessor of the links, its last row before the minute.
 fn note_links(
     history: &[Row],
     links: &[Link],
@@ -133,7 +133,7 @@ fn note_links(
     Ok(())
 }
 
-// Notes of each application in the list of the application that is in force the last row before the minute.
+// Notes, for each application in the application's list in force, its last row before the minute.
 fn note_list(
     history: &[Row],
     in_force: &Links,
@@ -148,7 +148,7 @@ fn note_list(
     note_links(history, in_force.list(app), minute, places)
 }
 
-// Notes of each of the predecessors the last row before the minute.
+// Notes, for each of the predecessors, its last row before the minute.
 fn note_named(
     history: &[Row],
     listed: &[Predecessor],
@@ -166,7 +166,7 @@ fn note_named(
     Ok(())
 }
 
-// Notes of each application in the list that is defined for the application the last row before the minute.
+// Notes, for each application in the list that is defined for the application, its last row before the minute.
 fn note_defined(
     history: &[Row],
     definitions: &Definitions,
@@ -184,7 +184,7 @@ fn note_defined(
     }
 }
 
-// Notes of each application in a list that is defined the last row before the minute.
+// Notes, for each application in a list that is defined, its last row before the minute.
 fn note_all_defined(
     history: &[Row],
     definitions: &Definitions,
@@ -201,8 +201,8 @@ fn note_all_defined(
     Ok(())
 }
 
-// Notes for those of the rows that wait, of each application in their lists, in force and defined, the last row at their
-// arrival or before it.
+// Notes, for each of the rows that waits and each application in its lists, in force and defined, that application's
+// last row at the arrival or before it.
 fn note_waiting(
     history: &[Row],
     in_force: &Links,
@@ -226,8 +226,8 @@ fn note_waiting(
     Ok(())
 }
 
-// Notes of each application that a list names, in force or defined, the last row at the plan end or before it, if there
-// is a plan.
+// Notes, if there is a plan, for each application that a list names, in force or defined, its last row at the plan end
+// or before it.
 fn note_plan_end(
     history: &[Row],
     in_force: &Links,

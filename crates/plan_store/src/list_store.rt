@@ -23,7 +23,7 @@ impl ListStore {
     ghost use Rattle.plan_store.specs.Lists.{listed};
     ghost use Rattle.plan_store.specs.Views.{IsFilled};
 
-    /// A store of what a planner knows that was told nothing.
+    /// A store before its first statement.
     pub fn new(alloc: Global) -> ListStore
         ensures empty { listed result ≡ nothing_known }
         ensures sound { IsSound (listed result) }
@@ -79,7 +79,7 @@ impl PlanStore for ListStore {
         Ok(self.content.definitions.clone()?)
     }
 
-    // It takes no memory, so there is always an answer.
+    // It allocates no memory, so there is always an answer.
     fn bounds(&mut self) -> Result<Option<Bounds>, StoreFault>
         ensures kept { self.new ≡ self.old }
         ensures answer { result ≡ Ok self.old.content.bounds }

@@ -27,7 +27,7 @@ use occurrences::{CurrentRow, Deletion, Row, Serial, Status};
 use std::alloc::{AllocError, Global};
 use work_calendars::App;
 
-// What stands in a set whose list shows letters.
+// A row of a set whose list shows letters.
 trait Lettered: PlanRow {
     ghost letter_of: { Self → ℕ };
 
@@ -78,7 +78,7 @@ impl Lettered for Deletion {
     }
 }
 
-// The rows by input arrival, application and serial. They are sorted in their place, so that no more room is asked.
+// The rows by input arrival, application and serial. They are sorted in place, so that no memory is needed.
 fn in_order<T: PlanRow>(alloc: Global, rows: &[T]) -> Result<Vec<&T>, AllocError>
     ensures { IfOk result (λ found. SortsRows T.row_of rows.now (map (λ x. x.now) found.items)) }
 {
@@ -87,7 +87,7 @@ fn in_order<T: PlanRow>(alloc: Global, rows: &[T]) -> Result<Vec<&T>, AllocError
     Ok(found)
 }
 
-// Hands the sink one row, with its letter or plain.
+// Passes the sink one row, with its letter or without one.
 fn hand<T: Lettered, K: RowSink>(x: &T, is_plain: bool, sink: &mut K) -> Result<(), SinkFault>
     ensures taken { OnOk result
         (K.takes sink.old (shown_as T.row_of T.letter_of is_plain x.now) sink.new) }
@@ -102,7 +102,7 @@ fn hand<T: Lettered, K: RowSink>(x: &T, is_plain: bool, sink: &mut K) -> Result<
     }
 }
 
-// Hands the sink the rows, in their order.
+// Passes the sink the rows, in their order.
 fn hand_each<T: Lettered, K: RowSink>(
     rows: &[&T],
     is_plain: bool,
@@ -137,7 +137,7 @@ fn part_of<'a, T: PlanRow>(rows: &'a [T], app: Option<&App>) -> &'a [T]
     }
 }
 
-// Hands the sink the rows of a set, of one application or all, by input arrival, application and serial.
+// Passes the sink the rows of a set, of one application or all, by input arrival, application and serial.
 fn hand_rows<T: Lettered, K: RowSink>(
     alloc: Global,
     rows: &[T],
@@ -200,7 +200,7 @@ fn linked(all: &[&Row], pair: Pair, app: Option<&App>) -> Option<(Row, Row)>
     Some((successor, predecessor))
 }
 
-// Hands the sink the rows of these pairs, of one application or all.
+// Passes the sink the rows of these pairs, of one application or all.
 fn hand_links<K: RowSink>(
     all: &[&Row],
     pairs: &[Pair],
@@ -241,7 +241,7 @@ fn lists_of<'a>(links: &'a Links, app: Option<&App>) -> &'a [Link]
     }
 }
 
-// Hands the sink what stands in lists, in its order, each with its limit.
+// Passes the sink the entries of lists, in their order, each with its limit.
 fn hand_lists<K: RowSink>(links: &[Link], sink: &mut K) -> Result<usize, ListFault>
     ensures all { IfOk result (λ count. (count ≡ length links.now)
         × TakesAll K.takes sink.old (map in_force_shown links.now) sink.new) }
@@ -284,7 +284,7 @@ impl Content {
         Ok(all)
     }
 
-    /// Hands the sink the long-term plan, as `rows_to` does, whatever history and deletions stand elsewhere.
+    /// Passes the sink the long-term plan, as `rows_to` does, wherever history and deletions are stored.
     pub fn ltp_to<K: RowSink>(
         &self,
         alloc: Global,
@@ -303,7 +303,7 @@ impl Content {
         hand_rows(alloc, &self.ltp, app, true, sink)
     }
 
-    /// Hands the sink the current plan, as `rows_to` does, whatever history and deletions stand elsewhere.
+    /// Passes the sink the current plan, as `rows_to` does, wherever history and deletions are stored.
     pub fn cp_to<K: RowSink>(
         &self,
         alloc: Global,
@@ -322,8 +322,8 @@ impl Content {
         hand_rows(alloc, &self.cp, app, false, sink)
     }
 
-    /// Hands the sink the pairs, as `rows_to` does, where these rows, in any order, are all of history and all deletions,
-    /// wherever those stand. The occurrences are sorted by serial once.
+    /// Passes the sink the pairs, as `rows_to` does, where these rows, in any order, are all of history and all
+    /// deletions, wherever those are stored. The occurrences are sorted by serial once.
     pub fn pairs_to<K: RowSink>(
         &self,
         alloc: Global,
@@ -353,7 +353,7 @@ impl Content {
         }
     }
 
-    /// Hands the sink the lists in force, as `rows_to` does, whatever history and deletions stand elsewhere.
+    /// Passes the sink the lists in force, as `rows_to` does, wherever history and deletions are stored.
     pub fn links_to<K: RowSink>(&self, app: Option<&App>, sink: &mut K) -> Result<usize, ListFault>
         ensures all { (rest : Rest) → AreNumbered (with_rest rest (content_of self.now)).sets
             → IfOk result (HandsAll K.takes (IsListing Showable.Links (option_copied app.entry)
@@ -367,8 +367,8 @@ impl Content {
         hand_lists(lists_of(&self.in_force, app), sink)
     }
 
-    /// Hands the sink what a listing shows, in its order, of one application or of all, and answers how many items it
-    /// took. A fault leaves the sink with those before it; it is never the device's.
+    /// Passes the sink what a listing shows, in its order, of one application or of all, and returns how many items
+    /// the sink accepted. A fault leaves the sink with those before it; the device never causes one.
     pub fn rows_to<K: RowSink>(
         &self,
         alloc: Global,
@@ -396,7 +396,7 @@ impl Content {
         }
     }
 
-    /// What a listing shows there is, also where it is not handed to a sink.
+    /// Each listing has its items, even if it isn't passed to a sink.
     pub fn has_listings(&self)
         ensures { AreNumbered (content_of self.now).sets
             → (what : Showable) (app : Option (List ℕ))
@@ -405,7 +405,7 @@ impl Content {
         self.has_listings_with();
     }
 
-    /// What a listing shows there is, also where history and the deletions stand elsewhere.
+    /// Each listing has its items, wherever history and the deletions are stored.
     pub fn has_listings_with(&self)
         ensures { (rest : Rest) → AreNumbered (with_rest rest (content_of self.now)).sets
             → (what : Showable) (app : Option (List ℕ)) → (items : List Shown)

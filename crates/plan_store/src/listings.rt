@@ -40,15 +40,15 @@ pub enum Item<'a> {
 #[error("the item was refused")]
 pub struct SinkFault;
 
-/// What takes the items of a listing, one after another.
+/// What receives the items of a listing, one after another.
 pub trait RowSink {
-    // what an item makes of the sink that takes it
+    // the sink after it has accepted an item
     ghost takes: { Self → Shown → Self → Type 0 };
 
-    // what an item makes of the sink that refuses it
+    // the sink after it has refused an item
     ghost refuses: { Self → Shown → Self → Type 0 };
 
-    /// Takes an item.
+    /// Accepts an item.
     fn take(&mut self, item: Item<'_>) -> Result<(), SinkFault>
         ensures taken { OnOk result (takes self.old (item_shown item.entry) self.new) }
         ensures refused { OnErr result (refuses self.old (item_shown item.entry) self.new) };
@@ -60,10 +60,10 @@ pub enum ListFault {
     /// Memory was refused.
     #[error("out of memory")]
     Memory,
-    /// The device failed. The store answers so until it is opened again.
+    /// The device failed. The store returns this until it is opened again.
     #[error("the device failed")]
     Device,
-    /// The sink refused an item. The store goes on serving.
+    /// The sink refused an item. The store can still be used.
     #[error("the item was refused")]
     Sink(SinkFault),
 }

@@ -1,5 +1,5 @@
-// Lists that have a part of history and of the deletions, where these stand elsewhere: what of it they have, what is
-// brought into them, and what stays in them.
+// Lists that have a part of history and of the deletions, which are stored elsewhere: which part they have, what is
+// loaded into them, and what stays in them.
 
 ghost use Rattle.std.specs.Prelude.{◌≡◌, ◌↔◌, ◌⊎◌, ℕ, Contains, Some, IfOk, OnOk, OnErr, filter, map, is_some, nat_eq};
 ghost use Rattle.std.specs.List.{list_any};
@@ -18,7 +18,7 @@ use occurrences::{CurrentRow, Deletion, Key, Row, Serial};
 use std::alloc::{AllocError, Global};
 use std::slice::from_ref;
 
-// Whether a row of the serial stands in the list.
+// Whether the list has a row of the serial.
 fn has_serial<T: PlanRow>(list: &[T], seats: &[Seat], serial: Serial) -> bool
     requires rows { AreRows T.row_of list.now }
     requires order { AreSeats seats.now }
@@ -28,7 +28,7 @@ fn has_serial<T: PlanRow>(list: &[T], seats: &[Seat], serial: Serial) -> bool
     of_serial(list, seats, serial).is_some()
 }
 
-// Puts a row into the list whose serial stands nowhere in it, or where memory is refused, doesn't.
+// Puts a row into the list, which has none of its serial; if memory is refused, doesn't.
 fn put_row<T: PlanRow>(list: &mut Vec<T>, row: &T) -> Result<(), AllocError>
     requires size { FitsInMemory T.row }
     requires rows { AreRows T.row_of list.old.items }
@@ -48,7 +48,7 @@ fn put_row<T: PlanRow>(list: &mut Vec<T>, row: &T) -> Result<(), AllocError>
     Ok(())
 }
 
-// Puts a row into the list, unless one of its serial stands there, and notes its seat. Where memory is refused, the list
+// Puts a row into the list, unless that has one of its serial, and notes its seat. If memory is refused, the list
 // stays as it is.
 fn bring<T: PlanRow>(
     alloc: Global,
@@ -78,7 +78,7 @@ fn bring<T: PlanRow>(
     put_row(list, row)
 }
 
-// Whether the serial is one of these, which don't fall.
+// Whether the serial is one of these, which are in rising order.
 fn is_among(serials: &[Serial], serial: Serial) -> bool
     requires { IsNonDecreasing serials.now }
     ensures { result ≡ list_any (λ n. nat_eq n serial) serials.now }
@@ -86,7 +86,7 @@ fn is_among(serials: &[Serial], serial: Serial) -> bool
     serials.binary_search(&serial).is_ok()
 }
 
-// Of the rows those with these serials, which don't fall.
+// Those of the rows that have these serials, which are in rising order.
 fn rows_among(alloc: Global, rows: &[Row], serials: &[Serial]) -> Result<Vec<Row>, AllocError>
     requires { IsNonDecreasing serials.now }
     ensures { IfOk result (λ found. found.items
@@ -137,7 +137,7 @@ impl Content {
     ghost use Rattle.plan_store.specs.Room.{no_jobs};
     ghost use Rattle.plan_store.specs.Views.{bars};
 
-    /// Whether an occurrence of the serial stands in the long-term plan or in the current plan.
+    /// Whether the long-term plan or the current plan has an occurrence of the serial.
     pub fn is_planned(&self, serial: Serial) -> bool
         ensures { result ≡ is_planned (content_of self.now).sets serial }
     {
@@ -166,8 +166,8 @@ impl Content {
         of_key(&self.history, key)
     }
 
-    /// Brings a row of history into the lists, unless one of its serial stands there. Where memory is refused, the
-    /// content stays as it is.
+    /// Loads a row of history into the lists, unless they have one of its serial. If memory is refused, the content
+    /// stays as it is.
     pub fn bring_completed(&mut self, alloc: Global, row: Row) -> Result<(), AllocError>
         ensures ok { OnOk result (content_of self.new ≡ with_completed row (content_of self.old)) }
         ensures err { OnErr result (content_of self.new ≡ content_of self.old) }
@@ -175,8 +175,8 @@ impl Content {
         bring(alloc, &mut self.history, &mut self.seats, &row)
     }
 
-    /// Brings a deletion into the lists, unless one of its serial stands there. Where memory is refused, the content
-    /// stays as it is.
+    /// Loads a deletion into the lists, unless they have one of its serial. If memory is refused, the content stays as
+    /// it is.
     pub fn bring_deleted(&mut self, alloc: Global, deletion: Deletion) -> Result<(), AllocError>
         ensures ok { OnOk result (content_of self.new
             ≡ with_deleted deletion (content_of self.old)) }
@@ -235,8 +235,8 @@ impl Content {
         }
     }
 
-    // Drops what of history is no predecessor of what is planned, and the deletions that keep no key from being made.
-    // Where memory is refused, it drops nothing.
+    // Drops the rows of history that are no predecessors of what is planned, and the deletions that keep no key from
+    // being made. If memory is refused, it drops nothing.
     fn keep_followed(&mut self, alloc: Global) -> Result<(), AllocError>
         ensures ok { OnOk result (content_of self.new ≡ followed_alone (content_of self.old)) }
         ensures err { OnErr result (content_of self.new ≡ content_of self.old) }

@@ -1,4 +1,4 @@
-// Changes of definitions that are begun, and then ended or taken back.
+// Changes of definitions that are begun, and then committed or rolled back.
 
 ghost use Rattle.std.specs.Prelude.{◌≡◌, OnOk, OnErr, IfOk};
 ghost use Rattle.plan_store.specs.Changes.{redefined};
@@ -19,16 +19,16 @@ use work_calendars::Name;
 pub enum Redefining {
     /// They stay.
     Nothing,
-    /// A block's definitions came, and this stood under their names.
+    /// A block's definitions were added; this is what their names had before.
     Came(Replaced),
-    /// The definition of one kind and name goes at the end.
+    /// The definition of one kind and name is removed at the commit.
     Goes { kind: Kind, name: Name },
 }
 
 impl Content {
-    /// Begins a change of the definitions, or where memory is refused, changes nothing. A block's definitions come at
-    /// once, and what goes stays until the end. `end_redefining` ends the change, and `undo_redefining` takes it back;
-    /// neither wants memory.
+    /// Begins a change of the definitions; if memory is refused, changes nothing. A block's definitions are added at
+    /// once; what is removed stays until the commit. `end_redefining` commits the change, and `undo_redefining` rolls
+    /// it back; neither needs memory.
     pub fn begin_redefining(&mut self, change: DefinitionChange) -> Result<Redefining, AllocError>
         ensures ok { OnOk result (content_of self.new
             ≡ with_definitions (half_redefined change (content_of self.old).definitions)
@@ -45,7 +45,7 @@ impl Content {
         begin(&mut self.definitions, change)
     }
 
-    /// Ends a change of the definitions: what goes is taken away.
+    /// Commits a change of the definitions: removes what has to go.
     pub fn end_redefining(&mut self, redefining: Redefining)
         ensures { content_of self.new
             ≡ with_definitions (ended redefining (content_of self.old).definitions)
@@ -56,7 +56,7 @@ impl Content {
         }
     }
 
-    /// Takes back what was begun: what stood under the names of a block stands there again.
+    /// Rolls back what was begun: the names of a block have what they had before.
     pub fn undo_redefining(&mut self, redefining: Redefining)
         requires { CanUndo redefining (content_of self.old).definitions }
         ensures { content_of self.new
@@ -69,7 +69,7 @@ impl Content {
     }
 }
 
-// Begins a change of definitions, or where memory is refused, changes nothing.
+// Begins a change of definitions; if memory is refused, changes nothing.
 fn begin(definitions: &mut Definitions, change: DefinitionChange) -> Result<Redefining, AllocError>
     ensures ok { OnOk result (definitions.new ≡ half_redefined change definitions.old) }
     ensures ends { IfOk result (λ begun. ended begun definitions.new

@@ -23,8 +23,8 @@ impl Room {
     }
 }
 
-// Room for so many more items. A list that has to grow gets an eighth of its length at least, so that a long one is
-// seldom moved and holds little that it doesn't need.
+// Room for so many more items. A list that has to grow grows by at least an eighth of its length, so that a long list
+// seldom moves and has little room that it doesn't need.
 pub(crate) fn grow<T>(list: &mut Vec<T>, more: usize) -> Result<(), AllocError>
     ensures items { list.new.items ≡ list.old.items }
     ensures len { vec_len list.new ≡ vec_len list.old }

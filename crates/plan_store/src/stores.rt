@@ -19,24 +19,25 @@ use std::alloc::{AllocError, Global};
 use thiserror::Error;
 use work_calendars::{App, Moment};
 
-/// What a decision has to see. Each window shows the definitions, the bounds, how many serials are issued, the lists in
-/// force, and how many rows each of the two plans has. A row is open where it stands in the long-term plan or waits in
-/// the current plan. A pair that is shown comes with both its rows, wherever they stand.
+/// What a decision has to see. Each window shows the definitions, the bounds, how many serials are issued, the lists
+/// in force, and how many rows each of the two plans has. A row is open if it is in the long-term plan, or waits in
+/// the current plan. A window that shows a pair has both its rows, in whatever set they are.
 #[derive(Clone, Copy, Debug, PartialEq, Eq)]
 pub enum Need {
-    /// What a statement asks that looks at definitions alone: no row and no pair, and nothing of history.
+    /// The need of a statement that reads definitions alone: no row and no pair, and nothing of history.
     Definitions,
-    /// What a statement on one key asks. Rows: those of both plans. Pairs: those whose successor is open, or is the live
-    /// row of the key, in a plan or in history. Of history: at the key's arrival or before it, the last row of its
-    /// application, which is the key's live row where that stands there, and of each application of its list in force.
+    /// The need of a statement on one key. Rows: those of both plans. Pairs: those whose successor is open, or is the
+    /// live row of the key, in a plan or in history. Of history: at the key's arrival or before it, the last row of
+    /// its application, which is the key's live row if that is in history, and of each application of its list in
+    /// force.
     Key(Key),
-    /// What a statement on the long-term plan asks. Rows: those of both plans, and what an operator deleted from the plan
-    /// end on. Pairs: those whose successor is open. Of history: for each row that waits in the current plan, at its
-    /// arrival or before it, the last row of each application of its list, in force or defined; and at the plan end or
-    /// before it, the last row of each application that any list names, in force or defined.
+    /// The need of a statement on the long-term plan. Rows: those of both plans, and what an operator deleted from the
+    /// plan end on. Pairs: those whose successor is open. Of history: for each row that waits in the current plan, at
+    /// its arrival or before it, the last row of each application of its list, in force or defined; and at the plan
+    /// end or before it, the last row of each application that any list names, in force or defined.
     LongTerm,
-    /// What a daily plan to that moment asks. Rows: those of the current plan, and those of the long-term plan that arrive
-    /// before the moment. No pair, and nothing of history.
+    /// The need of a daily plan to that moment. Rows: those of the current plan, and those of the long-term plan that
+    /// arrive before the moment. No pair, and nothing of history.
     Daily(Moment),
 }
 
@@ -46,7 +47,7 @@ pub enum StoreFault {
     /// Memory was refused; the content is as it was.
     #[error("out of memory")]
     Memory,
-    /// The device failed. The store answers so until it is opened again.
+    /// The device failed. The store returns this until it is opened again.
     #[error("the device failed")]
     Device,
 }
@@ -66,7 +67,7 @@ pub trait PlanStore {
     // the content
     ghost content: { Self → ContentValue };
 
-    // what the store reads is what it wrote, and it can be read still
+    // what the store reads is what it wrote, and it can still be read
     ghost is_honest: { Self → Type 0 };
 
     // how often its device failed, up to the greatest number that is counted
@@ -75,7 +76,7 @@ pub trait PlanStore {
     // a crash now may leave this content
     ghost may_leave: { Self → ContentValue → Type 0 };
 
-    // its device told no wrong answer that was seen to be one
+    // its device gave no wrong answer that was recognized as one
     ghost is_clean: { Self → Type 0 };
 
     // no failure was counted, and nothing of its device is in doubt
@@ -102,14 +103,14 @@ pub trait PlanStore {
             self.old self.entry result
             (λ view. Shows need view (content self.old))) };
 
-    /// Lends the job that is kept under the number, if there is one.
+    /// Lends the job that is kept under the number, if there is any.
     fn job<'a>(&'a mut self, number: u64) -> Result<Option<&'a Job>, StoreFault>
         ensures* { sem 𝓛 (LendsRead Self.row is_honest content failures may_leave is_clean is_whole
             self.old self.entry result
             (λ job. option_copied job ≡ (content self.old).jobs number)) };
 
-    /// Hands the sink what a listing shows, in its order, of one application or of all, and answers how many items it
-    /// took. A fault leaves the sink with those before it.
+    /// Passes the sink what a listing shows, in its order, of one application or of all, and returns how many items
+    /// the sink accepted. A fault leaves the sink with those before it.
     fn rows_to<K: RowSink>(
         &mut self,
         alloc: Global,
@@ -143,6 +144,6 @@ pub trait PlanStore {
         ensures { Applies is_honest content failures may_leave is_clean is_whole
             self.old self.new change result };
 
-    // nothing is said of what a crash may leave once the device told a wrong one
+    // nothing is said of what a crash may leave once the device gave a wrong answer
     ghost left_is_clean: { (store : Self) (c : ContentValue) → may_leave store c → is_clean store };
 }

@@ -21,7 +21,7 @@ use planner_machine::Bounds;
 use std::alloc::{AllocError, Global};
 use work_calendars::{App, Moment, Within};
 
-/// What a decision sees of a content: what its need names, and no more. It is lent by a store, and holds no copy.
+/// What a decision sees of a content: what its need names, and no more. A store lends it, and it holds no copy.
 #[derive(Clone, Copy)]
 pub struct View<'a> {
     // of this the definitions, the bounds, the number of serials issued and the lists in force are seen, by any need
@@ -34,7 +34,7 @@ pub struct View<'a> {
     // and of these pairs those whose successor is open, or is the live row of the key
     pub(crate) pairs: &'a Pairs,
     pub(crate) key: &'a Option<Key>,
-    // and of these rows of history the predecessors of those pairs; among them the live row of the key may stand
+    // and of these rows of history the predecessors of those pairs; the live row of the key may be among them
     pub(crate) history: &'a [Row],
     ghost ltp_rows: { AreRows of_row ltp.now },
     ghost cp_rows: { AreRows of_current cp.now },
@@ -119,8 +119,8 @@ impl<'a> View<'a> {
         self.asks_planned(serial) || self.asks_completed(serial)
     }
 
-    /// The pairs of one successor, which is open or, in a window on a key, is its live row, wherever that stands; none of
-    /// any other.
+    /// The pairs of one successor, which is open or, in a window on a key, is its live row, in whatever set that is;
+    /// none of any other.
     pub fn pairs_of_successor(&self, successor: Serial) -> &'a [Pair]
         ensures rising { IsRising pair_cmp result.now }
         ensures all { (pair : PairValue) → Contains result.now pair
@@ -143,7 +143,7 @@ impl<'a> View<'a> {
         self.asked_of(successor)
     }
 
-    // The pairs of one successor, which are asked for.
+    // The pairs of one successor, which the window needs.
     fn asked_of(&self, successor: Serial) -> &'a [Pair]
         requires { asks_pairs self.now.key.now (shown self.now).sets.ltp (shown self.now).sets.cp
             (look_up row_serial self.now.history.now) successor ≡ true }
@@ -154,7 +154,7 @@ impl<'a> View<'a> {
         self.pairs.of_successor(successor)
     }
 
-    /// The predecessor of a pair that is shown, and where it stands: in a plan or in history.
+    /// The predecessor of a pair that is shown, and its place: in a plan or in history.
     pub fn predecessor(&self, pair: &Pair) -> Option<PlacedRow>
         requires { Contains (shown self.now).pairs pair.now }
         ensures { BehindPairs self.now (λ c. IsFoundAt c.sets pair.now.predecessor result) }
@@ -211,7 +211,7 @@ impl<'a> View<'a> {
         self.content.cp.len()
     }
 
-    /// Of history the rows that the need asks for: of applications the last before some moments.
+    /// The rows of history that the need names: of applications, the last before some moments.
     pub fn lasts(&self) -> &'a [Row]
         ensures { ListsSet of_row (shown self.now).sets.history IsAny result.now }
     {
@@ -234,7 +234,7 @@ impl<'a> View<'a> {
         of_app(self.cp, app)
     }
 
-    /// Of history the rows of an application that the need asks for.
+    /// The rows of an application in history that the need names.
     pub fn lasts_of(&self, app: &App) -> &'a [Row]
         ensures { ListsSet of_row (shown self.now).sets.history (λ row. row.key.app
             ≡ app.now) result.now }
@@ -242,8 +242,8 @@ impl<'a> View<'a> {
         of_app(self.lasts, app)
     }
 
-    /// The rows of the long-term plan that arrive before the moment, as a list of their own, which the change of a
-    /// daily plan takes. Costs a few searches for each application, and what moves.
+    /// The rows of the long-term plan that arrive before the moment, as a list of their own, for the change of a daily
+    /// plan. Costs a few searches for each application, and the rows that move.
     pub fn ltp_before(&self, alloc: Global, moment: Moment) -> Result<Vec<Row>, AllocError>
         ensures { IfOk result (λ rows. ListsSet of_row (shown self.now).sets.ltp (λ row.
             row.key.ia < moment) rows.items) }
@@ -274,8 +274,8 @@ impl<'a> View<'a> {
         first_live(of_key(self.cp, key))
     }
 
-    /// The live occurrence that has the key, and where it stands, where the window shows the last of its application up
-    /// to it.
+    /// The live occurrence that has the key, and its place, if the window shows the last one of its application up to
+    /// it.
     pub fn live_row(&self, key: &Key) -> Option<PlacedRow>
         ensures { BehindPart self.now (λ c. ShowsLast c self.now key.now.app (key.now.ia + 1)
             → IsLiveRow c.sets key.now result) }

@@ -1,4 +1,4 @@
--- What becomes of a connection that is handed over with its database.
+-- What happens to a connection that is passed with its database.
 use Rattle.std.specs.Prelude.{◌≡◌, false}
 use Rattle.sqlite.specs.Held.{Held, state}
 use Rattle.sqlite.specs.State.{HasCleanDisk, Survives}
@@ -15,8 +15,8 @@ use Rattle.plan_tables.specs.Kept.{kept_in}
 use Rattle.plan_tables.specs.Stored.{LeavesOne}
 use Rattle.plan_tables.specs.declared.table_store.TableStore.{TableStore}
 
--- the store is over its database, and has its content, and its lists a part of it, where its disk gave back what was
--- written; a crash leaves that alone; no failure was counted, and it is known that the connection is open
+-- the store is over its database and has its content, and its lists have a part of that, if its disk gave back what
+-- was written; a crash leaves that content alone; no failure was counted, and the connection is known to be open
 pub record IsOver {S : Type 0} {g : Ghosts S} (conn : Held S) (store : TableStore S g) : Type 0 where
   pub opened : HasCleanDisk (state g store.conn)
       → IsOpened (state g conn) (state g store.conn) (kept_in (state g store.conn) (content_of store.lists))
@@ -27,8 +27,8 @@ pub record IsOver {S : Type 0} {g : Ghosts S} (conn : Held S) (store : TableStor
   pub sure : store.in_doubt ≡ false
   pub crash : Survives (state g conn) (state g store.conn) (MakesFirst (state g conn))
 
--- it comes back, and with it why its database is not opened, by what is there: one that holds a sound plan for nothing
--- that stands in it
+-- it is returned, with why its database is not opened, by what is there: one that has a sound plan is never refused
+-- for anything in it
 pub record ComesBack {S : Type 0} (g : Ghosts S) (conn : Held S) (back : OpenFault × Held S) : Type 0 where
   pub unopened : HasCleanDisk (state g back.1)
       → IsUnopened (state g conn) (state g back.1) back.0

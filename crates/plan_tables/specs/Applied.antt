@@ -12,15 +12,15 @@ use Rattle.plan_store.specs.declared.listings.What.{What}
 use Rattle.plan_store.specs.declared.stores.PlanStore.{Ghosts}
 use Rattle.plan_store.specs.declared.stores.StoreFault.{StoreFault}
 
--- a store before and after it is told a change, and what the call answers
+-- a store before and after a change, and what the call returns
 abbrev pub AppliesBy : {S : Type 0} → Ghosts S → (before now : S) → Change → Result (Unit {0}) StoreFault → Type 0
 AppliesBy g = Applies g.is_honest g.content g.failures g.may_leave g.is_clean g.is_whole
 
--- a store before and after it is read, and what the call answers
+-- a store before and after it is read, and what the call returns
 abbrev pub ReadsBy : {S T : Type 0} → Ghosts S → (before now : S) → Result T StoreFault → (T → Type 0) → Type 0
 ReadsBy g = ReadsStore g.is_honest g.content g.failures g.may_leave g.is_clean g.is_whole
 
--- a store before and after it lists, the sink before and after, and what the call answers
+-- a store before and after it lists, the sink before and after, and what the call returns
 pub record ListsBy {S K : Type 0} (g : Ghosts S) (before now : S) (Takes Refuses : K → Shown → K → Type 0) (old new : K)
     (what : What) (app : Option (List ℕ)) (result : Result ℕ ListFault) : Type 0 where
   pub all : g.is_honest now → AreNumbered (g.content before).sets

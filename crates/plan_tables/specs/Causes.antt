@@ -14,7 +14,7 @@ use Rattle.table_schema.specs.Rows.{tables_of}
 use Rattle.table_schema.specs.Schema.{HasOwnIndexes}
 use Rattle.table_taking.specs.Taken.{AreTaken}
 
--- want of memory, a failure of the device or a connection that was shut, or neither
+-- lack of memory, a failure of the device or a connection that was closed, or neither
 abbrev pub fault_in : Error → Option StoreFault
 fault_in (SqliteFailure OutOfMemory) = Some Memory
 fault_in (SqliteFailure SystemIoFailure) = Some Device
@@ -23,7 +23,7 @@ fault_in (SqliteFailure DiskFull) = Some Device
 fault_in (SqliteFailure Closed) = Some Device
 fault_in _ = None
 
--- the database can take a change of the content: no index made by hand is of its tables, and these take it
+-- the database can accept a change of the content: no index made by hand is of its tables, and these accept it
 abbrev pub CanTake : State → Content → Change → Type 0
 CanTake s c change = HasOwnIndexes s.now.schema × AreTaken c change (tables_of s.now.trees)
 

@@ -14,7 +14,7 @@ use Rattle.table_facts.specs.Content.{IsContentOf}
 use Rattle.table_opening.specs.Opened.{IsToldBy}
 use Rattle.table_opening.specs.Stored.{AllHaveRowids}
 
--- the database that such files hold, or an empty one where they hold none yet, tells the content
+-- the database that such files hold, or an empty one if they hold none yet, has the content
 pub record IsFoundIn (image : Image) (c : Content) : Type 0 where
   pub found : Database
   pub obeys : IsDatabase found
@@ -26,15 +26,15 @@ pub record IsFoundIn (image : Image) (c : Content) : Type 0 where
 abbrev pub IsFoundInEither : Image → Content → Type 0
 IsFoundInEither image c = IsFoundIn image c ⊎ IsFoundIn (record image { log = [] }) c
 
--- the database has the tables of the plan, and these tell the content
+-- the database has the tables of the plan, and these have the content
 pub record Tells (db : Trees) (c : Content) : Type 0 where
   pub schema : Schema
   pub obeys : IsDatabase (record { schema = schema; trees = db })
   pub plan : HasTables schema
   pub content : IsContentOf (tables_of db) c
 
--- it is a database that a crash of this one might leave, with the tables of the plan, which tell a sound content, no two
--- rows of a table with one rowid
+-- it is a database that a crash of this one might leave, with the tables of the plan, which have a sound content, no
+-- two rows of a table with one rowid
 pub record TellsLeft (s : State) (db : Trees) : Type 0 where
   pub left : s.may_leave db
   pub content : Content

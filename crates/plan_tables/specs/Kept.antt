@@ -1,5 +1,5 @@
 -- What a store over tables keeps: history, the deletions and the kept jobs in their tables alone, all else in lists in
--- memory too, with what was found out of the rest.
+-- memory too, with what was loaded of the rest.
 use Rattle.std.specs.Prelude.{◌≡◌, ◌⊎◌, IsTrue, None}
 use Rattle.sqlite.specs.State.{HasCleanDisk, State}
 use Rattle.planner_machine.specs.Content.{Content}
@@ -14,17 +14,17 @@ use Rattle.table_writing.specs.Redefining.{AreMovesOf}
 use Rattle.plan_tables.specs.Stored.{MayLeave}
 use Rattle.table_writing.specs.declared.redefining.DefinitionMoves.{DefinitionMoves}
 
--- the content of the lists, with history, the deletions and the jobs that the tables tell
+-- the content of the lists, with history, the deletions and the jobs that the tables have
 abbrev pub kept_in : State → Content → Content
 kept_in s lists = told_with (tables_of s.now.trees) lists
 
--- the database keeps it, it is sound, and the lists have a part of what the tables tell
+-- the database keeps it, it is sound, and the lists have a part of what the tables have
 pub record IsKept (s : State) (lists : Content) : Type 0 where
   pub stored : IsStored s (kept_in s lists)
   pub sound : IsSound (kept_in s lists)
   pub part : IsPartOf (told_rest (tables_of s.now.trees)) lists
 
--- what was read of the database is what was written, and it can be read still
+-- what was read of the database is what was written, and it can still be read
 abbrev pub CanRead : State → Type 0
 CanRead s = HasCleanDisk s × IsTrue s.is_open
 
@@ -33,7 +33,7 @@ abbrev pub StaysPut : State → State → Type 0
 StaysPut old new = IsTrue new.is_open → IsTrue old.is_open
     × ((new.now ≡ old.now) ⊎ (new.now ≡ old.committed)) × (new.committed ≡ old.committed)
 
--- the change without its job, as the lists take it
+-- the change without its job, as the lists make it
 abbrev pub jobless : Change → Change
 jobless change = record change { job = None }
 
@@ -43,8 +43,8 @@ pub record IsMet (s : State) (lists : Content) (change : Change) (moves : Defini
   pub fits : Fits change (with_rest rest lists)
   pub told : AreMovesOf change.definitions moves
 
--- a connection that was asked: it is clean and open only where it was, and with the lists as they are now it keeps what it
--- kept with those before; and a crash leaves no other content than before
+-- a connection that was checked: it is clean and open only if it was, and with the lists as they are now it keeps what
+-- it kept with those before; and a crash leaves no other content than before
 pub record LooksOn (old new : State) (was now : Content) : Type 0 where
   pub clean : HasCleanDisk new → HasCleanDisk old
   pub opens : HasCleanDisk new → IsTrue new.is_open → IsTrue old.is_open

@@ -1,4 +1,4 @@
--- What a listing does for which the tables are asked.
+-- What a listing that queries the tables does.
 use Rattle.std.specs.Prelude.{◌≡◌, ◌≢◌, ℕ, false, List, Option, Result, IfErr, IfOk, OnOk, ⊤}
 use Rattle.sqlite.specs.Held.{Held, state}
 use Rattle.sqlite.specs.State.{HasCleanDisk, IsUnchanged, Survives}
@@ -50,10 +50,10 @@ LeavesOpen (unlisted.Unmade unmade.Memory) = ⊤
 LeavesOpen (unlisted.Unmade unmade.Doubt) = ⊥
 LeavesOpen (unlisted.Unmade unmade.Device) = ⊥
 
--- Over a kept content an Ok is the number of all items of the listing, which the sink took in its order, and an error
--- means that it took the first of them and, where it is to blame, refused the next. Whatever the tables have, nothing is
--- changed by an Ok, and it fails by the sink, for want of memory, for a row that tells no fact or for one of the common
--- causes; a crash finds what it found before.
+-- Over a kept content an Ok is the number of all items of the listing, which the sink accepted in its order, and an
+-- error means that it accepted the first of them and, if it is to blame, refused the next. Whatever the tables have,
+-- an Ok changes nothing, and it fails by the sink, for lack of memory, for a malformed row or for one of the four
+-- general errors; a crash finds what it found before.
 pub record ListsKept {S K : Type 0} (g : Ghosts S) (old new : Held S) (lists : Content)
     (Takes Refuses : K → Shown → K → Type 0) (before after : K) (what : Asked) (app : Option (List ℕ))
     (result : Result ℕ ListedFault) : Type 0 where

@@ -21,7 +21,7 @@ use Rattle.table_opening.specs.declared.faults.OpenFault.TheVariants.{Memory, Un
 use Rattle.plan_tables.specs.Adopted.{ComesBack}
 use Rattle.plan_tables.specs.Stored.{HoldsSound}
 
--- a connection comes back and is let go, and what held its database is left
+-- a connection is returned and dropped, and what held its database is left
 pub record IsGivenBack {S : Type 0} (g : Ghosts S) (conn : Held S) (left : OpenFault × S) : Type 0 where
   pub back : Held S
   pub comes : ComesBack g conn (left.0, back)
@@ -32,17 +32,17 @@ pub record IsGivenBack {S : Type 0} (g : Ghosts S) (conn : Held S) (left : OpenF
 -- files that held this were opened, and the database in them is not that of a plan; this is left of them
 pub record HoldsNoPlan {D : Type 0} {g : disk.Ghosts D} (image : Image) (fault : OpenFault) (left : FileStore D g)
     : Type 0 where
-  -- the connection to the database that was found, and as it was let go
+  -- the connection to the database that was found, and as it was dropped
   pub conn : Held (FileStore D g)
   pub back : Held (FileStore D g)
   pub fresh : IsNew conn
   pub found : IsClean (view left) → IsOpened conn × FindsIn image (file_state conn)
   -- why it is not opened, by what is there
   pub unopened : IsClean (view left) → IsUnopened (file_state conn) (file_state back) fault
-  -- where they held a database with a sound plan, for nothing that stands in it
+  -- if they held a database with a sound plan, never for anything in it
   pub common : IsClean (view left) → HoldsSound image → IsCommon (file_state conn) (file_state back) fault
   pub quiet : IsQuiet view faults recovers is_shielded back.store left
-  -- a crash leaves what was found, or, where nothing was in their way, the tables of a content of which nothing is known
+  -- a crash leaves what was found, or, if nothing was in their way, the tables of a content of which nothing is known
   pub stays : IsClean (view left) → (db : Trees) → recovers left db
       → (db ≡ (file_state conn).committed.trees) ⊎ MakesFirst (file_state conn) db
 

@@ -1,4 +1,4 @@
--- What is sought in the tables for a window or a change, and what a call does that seeks it.
+-- What is fetched from the tables for a window or a change, and what a call does that fetches it.
 use Rattle.std.specs.Prelude.{◌≡◌, false, IsTrue, Result, IfErr, OnOk}
 use Rattle.sqlite.specs.Held.{Held, state}
 use Rattle.sqlite.specs.State.{HasCleanDisk, IsUnchanged, Survives}
@@ -17,14 +17,14 @@ use Rattle.plan_tables.specs.declared.keeping.Unmade.TheVariants as unmade
 use Rattle.plan_tables.specs.declared.seeking.Sought.{Sought}
 use Rattle.plan_tables.specs.declared.seeking.Sought.TheVariants as sought
 
--- the lists have what a window for the need asks of history and of the deletions, or know what the change names there
+-- the lists have what a window for the need reads of history and of the deletions, or know what the change names there
 abbrev pub IsFoundFor : Sought → Rest → Content → Type 0
 IsFoundFor (sought.Window need) rest c = IsReadyFor rest need.now c
 IsFoundFor (sought.Change change) rest c = KnowsNamed rest change.now c
 
--- Over a kept content an Ok has what is sought, and nothing is changed in the tables; an error is want of memory over an
--- open connection, a doubt whether it is open, or a failure of the device. The lists have what they had, and more of the
--- rest; a crash finds what it found before.
+-- Over a kept content an Ok has what is sought, and nothing is changed in the tables; an error is lack of memory over
+-- an open connection, a doubt whether it is open, or a failure of the device. The lists keep what they had, and may
+-- have more of the rest; a crash finds what it found before.
 pub record Seeks {S : Type 0} (g : Ghosts S) (old new : Held S) (was now : Content)
     (result : Result (Unit {0}) Unmade) (IsFound : Rest → Content → Type 0) : Type 0 where
   pub found : HasCleanDisk (state g new) → ∥ IsKept (state g old) was ∥₁

@@ -15,7 +15,7 @@ use Rattle.plan_tables.specs.Found.{Tells}
 abbrev pub MayLeave : State → Content → Type 0
 MayLeave s c = (db : Trees) × s.may_leave db × IsContentOf (tables_of db) c
 
--- it has the tables of the plan, which tell a sound content, no two rows of a table with one rowid
+-- it has the tables of the plan, which have a sound content, no two rows of a table with one rowid
 abbrev pub TellsSound : Trees → Type 0
 TellsSound db = (c : Content) × IsSound c × Tells db c × AllHaveRowids (tables_of db)
 
@@ -23,7 +23,7 @@ TellsSound db = (c : Content) × IsSound c × Tells db c × AllHaveRowids (table
 abbrev pub HoldsSound : Image → Type 0
 HoldsSound image = (db : Trees) × HoldsDatabase image db × TellsSound db
 
--- each database that a crash may leave tells a sound content
+-- each database that a crash may leave has a sound content
 abbrev pub LeavesSound : State → Type 0
 LeavesSound s = (db : Trees) → s.may_leave db → ∥ TellsSound db ∥₁
 

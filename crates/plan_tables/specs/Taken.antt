@@ -1,4 +1,4 @@
--- Changes that find room in a database, and the schema that stays.
+-- Changes for which a database has room, and the schema that stays.
 use Rattle.std.specs.Prelude.{◌≡◌, Err, IsTrue, Ok, Result}
 use Rattle.sqlite.specs.State.{HasCleanDisk, State}
 use Rattle.plan_store.specs.declared.changes.Change.{Change}
@@ -8,11 +8,11 @@ use Rattle.table_schema.specs.Rows.{tables_of}
 use Rattle.table_schema.specs.Schema.{HasOwnIndexes}
 use Rattle.table_taking.specs.Taken.{FindsRoom}
 
--- no index made by hand is of the tables of the database, and a change finds room in them
+-- no index made by hand is of the tables of the database, and there is room in them for a change
 abbrev pub HasRoomFor : State → Change → Type 0
 HasRoomFor s change = HasOwnIndexes s.now.schema × FindsRoom change (tables_of s.now.trees)
 
--- a change that is made, or not for want of memory, keeps the schema, and with it that no index is made by hand
+-- a change that is made, or fails for lack of memory, keeps the schema, so there is still no index made by hand
 abbrev pub KeepsSchema : {T : Type 0} → State → State → Result T StoreFault → Type 0
 KeepsSchema old new (Ok _) = HasCleanDisk new → ∥ new.now.schema ≡ old.now.schema ∥₁
 KeepsSchema old new (Err fault) =

@@ -1,4 +1,4 @@
--- Changes of definitions that tables can tell.
+-- Changes of definitions that tables can encode.
 use Rattle.std.specs.Prelude.{◌≡◌, [], ◌∷◌, None, Some, ⊤}
 use Rattle.plan_store.specs.declared.changes.DefinitionChange.{DefinitionChange}
 use Rattle.plan_store.specs.declared.changes.DefinitionChange.TheVariants.{AsBefore, Merged, Removed}
@@ -6,13 +6,13 @@ use Rattle.table_definitions.specs.Telling.{IsTellableBlock}
 use Rattle.table_writing.specs.Redefining.{BringsRows, kind_of}
 use Rattle.table_writing.specs.declared.redefining.DefinitionMoves.{DefinitionMoves}
 
--- the rows of what a block brings tell it from all else
+-- the rows of what a block brings distinguish it from all else
 abbrev pub IsToldChange : DefinitionChange → Type 0
 IsToldChange AsBefore = ⊤
 IsToldChange (Merged block) = IsTellableBlock block
 IsToldChange (Removed kind name) = ⊤
 
--- what moves in the tables for a change of definitions, whether it can be told or not
+-- the changes in the tables for a change of definitions, whether rows can encode it or not
 abbrev pub BringMoves : DefinitionChange → DefinitionMoves → Type 0
 BringMoves AsBefore moves = moves.kind ≡ None
 BringMoves (Merged b) moves = (moves.kind ≡ Some (kind_of b)) × BringsRows b moves

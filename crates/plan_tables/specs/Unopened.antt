@@ -1,11 +1,11 @@
--- Why a database is not opened whose connection was let go.
+-- Why a database is not opened whose connection was dropped.
 use Rattle.sqlite.specs.Held.{Held, state}
 use Rattle.sqlite.specs.State.{HasCleanDisk}
 use Rattle.sqlite.specs.Store.{Ghosts}
 use Rattle.table_opening.specs.Opened.{HasRoom, IsUnmade}
 use Rattle.table_opening.specs.declared.faults.OpenFault.{OpenFault}
 
--- where nothing was in the way of the tables, the connection as it was let go tells why it did not get them
+-- if nothing was in the way of the tables, the connection as it was dropped says why it did not get them
 abbrev pub IsUnmadeBy : {S : Type 0} → Ghosts S → Held S → OpenFault → Type 0
 IsUnmadeBy {S} g conn fault = (left : Held S) × (HasCleanDisk (state g left) → HasRoom (state g conn)
     → IsUnmade (state g conn) (state g left) fault)

@@ -1,4 +1,4 @@
-// The lines that jobs were answered, and what the tables can tell of a change.
+// The reply lines of jobs, and what the tables can encode of a change.
 
 ghost use Rattle.std.specs.Prelude.{◌≡◌, IfOk, IfSome};
 ghost use Rattle.external_dependencies.specs.Link.{link_cmp};
@@ -14,7 +14,7 @@ use planner_machine::Job;
 use std::alloc::{AllocError, Global};
 use table_facts::{answer_is_small, answer_line};
 
-/// The line that the job was answered; no bytes where there is no job.
+/// The line of the job's reply; no bytes if there is no job.
 pub(crate) fn job_line(alloc: Global, job: &Option<Job>) -> Result<Vec<u8>, AllocError>
     ensures { IfOk result (λ line. IfSome job.now
         (λ (job : JobValue). line.items ≡ answer_text job.reply)) }
@@ -42,7 +42,7 @@ fn job_is_small(job: &Option<Job>)
     }
 }
 
-/// What a change brings can be told.
+/// The tables can encode what a change brings.
 pub(crate) fn change_is_tellable(change: &Change)
     ensures { IsTellableChange change.now }
 {

@@ -1,4 +1,4 @@
-// A store is let go at the end of a run.
+// A store is dropped at the end of a run.
 
 ghost use Rattle.std.specs.Prelude.{◌≡◌, ◌⊎◌, false, IfErr, IfOk, IsTrue};
 ghost use Rattle.sqlite.specs.Files.{file_state};
@@ -25,8 +25,9 @@ use sqlite_disk::{Disk, Files};
 use table_facts::tables_have_one_content;
 
 impl<S: Alter + Drop> TableStore<S> {
-    /// Lets the tables go, as a program does at its end. Each database that they may be after a crash has the tables of
-    /// the plan, which tell a sound content; and where no failure was counted, and it is known that the connection is open, what the store kept.
+    /// Drops the tables, as a program does at its end. Each database that a crash may leave of them has the tables of
+    /// the plan with a sound content; and if no failure was counted, and the connection is known to be open, the
+    /// content that the store kept.
     pub fn into_store(self) -> S
         ensures honest { IsClean (S.Store.view result) → HasCleanDisk (state S.Store self.conn) }
         ensures numbered { IsClean (S.Store.view result)
@@ -47,9 +48,9 @@ impl<S: Alter + Drop> TableStore<S> {
 }
 
 impl<D: Disk + Drop> TableStore<FileStore<D>> {
-    /// Lets the files go, as a program does at its end. Whatever a crash left of them, they hold a database that tells a
-    /// sound content. Whoever opens them finds a content that a crash might leave of the tables; and where no failure was
-    /// counted, and it is known that the connection is open, what the store kept and nothing else.
+    /// Closes the files, as a program does at its end. Whatever a crash left of them, they hold a database with a
+    /// sound content. Opening them finds a content that a crash might leave of the tables; and if no failure was
+    /// counted, and the connection is known to be open, what the store kept and nothing else.
     pub fn into_files(self) -> FileStore<D>
         ensures honest { IsClean (view result) → HasCleanDisk (file_state self.conn) }
         ensures sound { IsClean (view result) → AreDatabases (recovers result) }
@@ -80,14 +81,14 @@ fn fault_of_closing(error: &Error) -> StoreFault
 }
 
 impl<D: Disk + Drop> TableStore<FileStore<D>> {
-    /// Copies the log into the database file and gives both files back, as a program does at its end. Both, and the
-    /// database file without its log, whatever a crash left of them, hold a database that a crash might leave of the
-    /// tables, and that tells a sound content. Whoever opens them finds a content that a crash might leave of the tables;
-    /// and where no failure was counted, and it is known that the connection is open, what the store kept and nothing
-    /// else. Where it fails, for want of memory or of the device, nothing is lost: the files come back, and each database
-    /// that they may be after a crash is one that the tables might be; it tells a sound content, and what the store kept
-    /// where no failure was counted and it is known that the connection is open. Where the disk was honest to the end, it
-    /// was honest before.
+    /// Copies the log into the database file and returns both files, as a program does at its end. Whatever a crash
+    /// left of them, both files, and the database file without its log, hold a database that a crash might leave of
+    /// the tables, with a sound content. Opening them finds a content that a crash might leave of the tables; and if
+    /// no failure was counted, and the connection is known to be open, what the store kept and nothing else. If
+    /// copying fails, for lack of memory or because of the device, nothing is lost: the files are returned, and each
+    /// database that a crash may leave of them is one that a crash might leave of the tables; it has a sound content,
+    /// which is what the store kept if no failure was counted and the connection is known to be open. If the disk was
+    /// honest to the end, it was honest before.
     pub fn close(self) -> Result<Files<D>, (StoreFault, FileStore<D>)>
         ensures usable { IfOk result (λ files. IsTrue (D.Disk.is_usable files.log)
             × IsTrue (D.Disk.is_usable files.db)) }

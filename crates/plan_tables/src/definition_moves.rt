@@ -1,4 +1,4 @@
-// What a change of definitions moves in their tables.
+// The changes in the tables of definitions.
 
 ghost use Rattle.std.specs.Prelude.{◌≡◌, ◌∷◌, [], None, Some, IfOk};
 ghost use Rattle.table_writing.specs.Redefining.{BringsRows, kind_of};
@@ -25,7 +25,7 @@ fn nothing(alloc: Global) -> DefinitionMoves
     }
 }
 
-// The rows of a name go.
+// The rows of a name are deleted.
 fn without_name(alloc: Global, kind: Kind, name: Name) -> Result<DefinitionMoves, AllocError>
     ensures kind { IfOk result (λ moves. moves.kind ≡ Some kind) }
     ensures names { IfOk result (λ moves. moves.names.items ≡ name ∷ []) }
@@ -42,7 +42,7 @@ fn without_name(alloc: Global, kind: Kind, name: Name) -> Result<DefinitionMoves
     })
 }
 
-// The rows of a block come.
+// The rows of a block are inserted.
 fn rows_of_block(alloc: Global, block: &Block) -> Result<DefinitionMoves, AllocError>
     ensures kind { IfOk result (λ moves. moves.kind ≡ Some (kind_of block.now)) }
     ensures rows { IfOk result (λ moves. BringsRows block.now moves) }
@@ -88,7 +88,7 @@ fn rows_of_block(alloc: Global, block: &Block) -> Result<DefinitionMoves, AllocE
     }
 }
 
-/// What a change of definitions moves.
+/// The changes in the tables that a change of definitions makes.
 pub(crate) fn moves_of(
     alloc: Global,
     change: &DefinitionChange,

@@ -33,13 +33,13 @@ use table_writing::{DefinitionMoves, commit_change};
 pub(crate) enum Unmade {
     /// Memory was refused; the tables are as they were.
     Memory,
-    /// The same where the connection is open; whether it is could not be asked, since memory was refused again.
+    /// The same if the connection is open; whether it is could not be checked, because memory was refused again.
     Doubt,
     /// The device failed, or the change was refused.
     Device,
 }
 
-// Want of memory, a failure of the device, or none where it is neither.
+// Lack of memory, a failure of the device, or none if it is neither.
 fn fault_in(error: &Error) -> Option<StoreFault>
     ensures { result ≡ fault_in error.now }
 {
@@ -55,7 +55,7 @@ fn fault_in(error: &Error) -> Option<StoreFault>
     }
 }
 
-/// Asks whether the connection is open, which leaves it as it is. Where memory is refused that is not known.
+/// Checks whether the connection is open, and leaves it as it is. If memory is refused, that is not known.
 pub(crate) fn ask_open<S: Alter>(conn: &mut Connection<S>) -> Result<(), StoreFault>
     ensures open { HasCleanDisk (state S.Store conn.new)
         → OnOk result (IsUnchanged (state S.Store conn.old) (state S.Store conn.new)) }
@@ -80,7 +80,7 @@ pub(crate) fn ask_open<S: Alter>(conn: &mut Connection<S>) -> Result<(), StoreFa
     }
 }
 
-/// Why something is not done whose call failed so.
+/// Why something failed whose call returned this error.
 pub(crate) fn cause_of<S: Alter>(conn: &mut Connection<S>, error: &Error) -> Unmade
     ensures open { HasCleanDisk (state S.Store conn.new) → result ≡ Unmade.Memory
         → IsUnchanged (state S.Store conn.old) (state S.Store conn.new) }
@@ -119,8 +119,7 @@ struct Underway {
     rest: Change,
 }
 
-// Makes room in the lists for a change, and begins that of their definitions; or where memory is refused, changes
-// nothing.
+// Makes room in the lists for a change, and begins that of their definitions; if memory is refused, changes nothing.
 fn begin(
     lists: &mut Content,
     alloc: Global,
@@ -152,7 +151,7 @@ fn begin(
     }
 }
 
-// Begins a change in the lists; or where memory is refused, changes nothing.
+// Begins a change in the lists; if memory is refused, changes nothing.
 fn start(lists: &mut Content, alloc: Global, change: Change) -> Result<Underway, AllocError>
     requires { Fits change (content_of lists.old) }
     ensures rest { IfOk result (λ underway.
@@ -179,7 +178,7 @@ fn start(lists: &mut Content, alloc: Global, change: Change) -> Result<Underway,
     Ok(Underway { begun, rest })
 }
 
-// Takes back what was begun.
+// Rolls back what was begun.
 fn undo(lists: &mut Content, underway: Underway)
     requires { CanUndo underway.begun.redefining (content_of lists.old).definitions }
     ensures { content_of lists.new ≡ with_pairs_of underway.begun.room.pairs.items
@@ -207,8 +206,8 @@ fn complete(lists: &mut Content, underway: Underway)
     lists.end_redefining(redefining);
 }
 
-/// Makes a change in the lists and in the tables, all of it or nothing, also over a crash; its job in the tables alone.
-/// The line is that of the answer of its job.
+/// Makes a change in the lists and in the tables, all of it or nothing, even over a crash; its job in the tables
+/// alone. The line is that of the reply of its job.
 pub(crate) fn change_both<S: Alter>(
     conn: &mut Connection<S>,
     lists: &mut Content,

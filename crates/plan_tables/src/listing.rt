@@ -1,4 +1,4 @@
-// Listings for which the tables are asked.
+// Listings that query the tables.
 
 ghost use Rattle.std.specs.Prelude.{◌≡◌, ◌≢◌, false, option_copied, IfErr, IfOk, IsTrue, OnOk};
 ghost use Rattle.sqlite.specs.Held.{state};
@@ -35,7 +35,7 @@ pub(crate) enum Asked {
 pub(crate) enum Unlisted {
     /// The sink refused an item.
     Sink(SinkFault),
-    /// Memory was refused, or the tables could not be asked.
+    /// Memory was refused, or a query of the tables failed.
     Unmade(Unmade),
 }
 
@@ -69,7 +69,7 @@ fn read_rest<S: Alter>(
     }
 }
 
-// Hands the sink the pairs of one application or of all, each with both its rows.
+// Passes the sink the pairs of one application or of all, each with both its rows.
 fn list_pairs<S: Alter, K: RowSink>(
     alloc: Global,
     conn: &mut Connection<S>,
@@ -96,7 +96,7 @@ fn list_pairs<S: Alter, K: RowSink>(
     }
 }
 
-// Hands the sink a listing, of one application or of all.
+// Passes the sink a listing, of one application or of all.
 fn list_facts<S: Alter, K: RowSink>(
     alloc: Global,
     conn: &mut Connection<S>,
@@ -115,7 +115,7 @@ fn list_facts<S: Alter, K: RowSink>(
     }
 }
 
-/// The same; and where it fails, it is asked why.
+/// The same; and if it fails, why.
 pub(crate) fn list_kept<S: Alter, K: RowSink>(
     alloc: Global,
     conn: &mut Connection<S>,

@@ -26,9 +26,9 @@ use table_facts::tables_have_one_content;
 use table_opening::{OpenFault, open_connection_from, open_content};
 
 impl<S: Alter + Drop> TableStore<S> {
-    /// A store over the database of a connection, which has the tables of the plan, of a known version, with rows that
-    /// tell a sound content; or is empty, and gets the tables of what a planner knows that was told nothing. Where it
-    /// is not opened, the database stays as it was, and the connection comes back.
+    /// A store over the database of a connection. The database has the tables of the plan, of a known version, with
+    /// rows of a sound content; or it has none and gets those of a planner before its first statement. If it is not
+    /// opened, the database stays as it was, and the connection is returned.
     pub fn adopt(
         alloc: Global,
         conn: Connection<S>,
@@ -45,7 +45,7 @@ impl<S: Alter + Drop> TableStore<S> {
         }
     }
 
-    // The same, but where it is not opened the connection is let go, and what held the database comes back.
+    // The same, but if it is not opened the connection is dropped, and what held the database is returned.
     fn over_store(alloc: Global, conn: Connection<S>) -> Result<TableStore<S>, (OpenFault, S)>
         requires { conn.in_transaction ≡ false }
         ensures opened { IfOk result (IsOver conn) }
@@ -57,7 +57,7 @@ impl<S: Alter + Drop> TableStore<S> {
         }
     }
 
-    // The same, and nothing comes back.
+    // The same, and nothing is returned.
     fn over_connection(alloc: Global, conn: Connection<S>) -> Result<TableStore<S>, OpenFault>
         requires { conn.in_transaction ≡ false }
         ensures opened { IfOk result (IsOver conn) }
@@ -71,7 +71,7 @@ impl<S: Alter + Drop> TableStore<S> {
 }
 
 impl TableStore<MemStore> {
-    /// A store in memory of what a planner knows that was told nothing. Only memory can be short for it.
+    /// A store in memory of a planner before its first statement. It fails only if memory is refused.
     pub fn open_memory(alloc: Global) -> Result<TableStore<MemStore>, OpenFault>
         ensures empty { IfOk result (λ store.
             kept_in (state over_memory store.conn) (content_of store.lists) ≡ nothing_known) }
@@ -91,10 +91,10 @@ impl TableStore<MemStore> {
 }
 
 impl<S: Start> TableStore<FileStore<FileFrom<S>>> {
-    /// A store over the database in the files at the path, which are made where there are none; `start` stands for what
-    /// they hold. Where it is not opened, the files hold what they held, or, where they held nothing, perhaps tables of
-    /// what a planner knows that was told nothing; and the fault comes with what is left of them, once they were
-    /// opened. The path is taken as it is.
+    /// A store over the database in the files at the path, which are created if there are none; `start` stands for
+    /// what they hold. If it is not opened, the files hold what they held, or, if they held nothing, perhaps the
+    /// tables of a planner before its first statement; and the fault comes with what is left of the files, once they
+    /// were opened. The path is taken as it is.
     pub fn open_path_from(
         rt: &HostRuntime,
         alloc: Global,
@@ -124,8 +124,8 @@ impl<S: Start> TableStore<FileStore<FileFrom<S>>> {
 }
 
 impl TableStore<FileStore<File>> {
-    /// The same over a file of which nothing is known. The path is taken as it is. What is proved of it for whatever the
-    /// file holds is said at `open_path_from`.
+    /// The same over a file of which nothing is known. The path is taken as it is. `open_path_from` says what is
+    /// proved of it whatever the file holds.
     pub fn open_path(
         rt: &HostRuntime,
         alloc: Global,

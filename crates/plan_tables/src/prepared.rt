@@ -12,7 +12,7 @@ use planner_machine::Job;
 use std::alloc::{AllocError, Global};
 use table_writing::DefinitionMoves;
 
-/// What moves in the tables of definitions, and the line that the job was answered.
+/// The changes in the tables of definitions, and the line of the job's reply.
 #[derive(Drop)]
 pub(crate) struct Prepared {
     pub(crate) moves: DefinitionMoves,

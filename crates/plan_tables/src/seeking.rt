@@ -1,4 +1,4 @@
-// What is asked of the tables before a window is lent or a change is made, and brought into the lists.
+// What is fetched from the tables before a window is lent or a change is made, and loaded into the lists.
 
 ghost use Rattle.plan_store.specs.Contents.{content_of};
 ghost use Rattle.fact_gathering.specs.Gathering.{Gathers};
@@ -11,14 +11,14 @@ use plan_store::{Change, Content, Need};
 use sqlite::{Alter, Connection};
 use std::alloc::Global;
 
-/// What something is sought for: a window for a need, or a change.
+/// What rows are fetched for: a window for a need, or a change.
 #[derive(Clone, Copy)]
 pub(crate) enum Sought<'a> {
     Window(&'a Need),
     Change(&'a Change),
 }
 
-// Looks up what is sought, and brings it into the lists.
+// Fetches what is sought, and loads it into the lists.
 fn gather_sought<S: Alter>(
     alloc: Global,
     conn: &mut Connection<S>,
@@ -34,7 +34,7 @@ fn gather_sought<S: Alter>(
     }
 }
 
-/// The same; and where it fails, it is asked why.
+/// The same; and if it fails, why.
 pub(crate) fn seek<S: Alter>(
     alloc: Global,
     conn: &mut Connection<S>,

@@ -48,18 +48,18 @@ use table_taking::fitting_changes_are_taken;
 use work_calendars::App;
 
 /// What a planner knows, in the tables of a database. Lists in memory hold the plans, their pairs and the definitions,
-/// and serve what is read of these; of history and of the deletions they have what was looked up in the tables, and a job
-/// is looked up there each time. After a failure it answers that the device failed.
+/// and serve all reads of these. Of history and of the deletions they have what was fetched from the tables; a job is
+/// fetched each time. After a failure it returns that the device failed.
 #[derive(Drop)]
 pub struct TableStore<S: Alter> {
     conn: Connection<S>,
-    // the plans, their pairs and the definitions, and of history and of the deletions what was found out
+    // the plans, their pairs and the definitions, and of history and of the deletions what was loaded
     lists: Content,
     // how often sqlite failed, or refused for another cause than memory, up to the greatest number that is counted
     failures: u64,
-    // whether memory was refused when it was asked if the connection is open
+    // whether memory was refused when it checked that the connection is open
     in_doubt: bool,
-    // the job that was looked up last, which is lent
+    // the job that was fetched last, which is lent
     found: Option<Job>,
     alloc: Global,
     ghost settled: { conn.in_transaction ≡ false },
@@ -71,7 +71,7 @@ pub struct TableStore<S: Alter> {
 }
 
 impl<S: Alter + Drop> TableStore<S> {
-    /// Whether the tables have no indexes but those of their keys: one that someone made beside may refuse a row.
+    /// Whether the tables have no indexes but those of their keys: an index that a user added may refuse a row.
     pub fn has_own_indexes(&self, alloc: Global) -> Result<bool, Error>
         ensures { IfOk result (λ own. HasTables (state S.Store self.now.conn).now.schema
             → (IsTrue own ↔ HasOwnIndexes (state S.Store self.now.conn).now.schema)) }
@@ -87,8 +87,8 @@ impl<S: Alter + Drop> TableStore<S> {
         conn
     }
 
-    // A store over a database that has the content of the lists, of which it keeps the plans, and of the rest what its
-    // statements are about.
+    // A store over a database that has the content of the lists. It keeps the plans of these lists, and of the rest
+    // what its statements read.
     pub(crate) fn over(alloc: Global, conn: Connection<S>, lists: Content) -> TableStore<S>
         requires mode { conn.in_transaction ≡ false }
         requires opened { HasCleanDisk (state S.Store conn)
@@ -118,7 +118,7 @@ impl<S: Alter + Drop> TableStore<S> {
         }
     }
 
-    // Asks whether the connection is open, where that is not known.
+    // Checks whether the connection is open, if that is not known.
     fn make_sure(&mut self) -> Result<(), StoreFault>
         requires { self.old.failures ≡ 0 }
         ensures sure { OnOk result (self.new.in_doubt ≡ false) }
@@ -161,7 +161,7 @@ impl<S: Alter + Drop> TableStore<S> {
         }
     }
 
-    // Looks up the job that is kept under the number, which can be lent then.
+    // Fetches the job that is kept under the number, which can then be lent.
     fn look_up(&mut self, number: u64) -> Result<(), StoreFault>
         ensures { ReadsBy ⟦<TableStore<S> as PlanStore>⟧ self.old self.new result
             (λ _. self.new.found
@@ -174,7 +174,7 @@ impl<S: Alter + Drop> TableStore<S> {
         self.look_up_job(number)
     }
 
-    // The same, where nothing failed and the connection is known to be open.
+    // The same, if nothing failed and the connection is known to be open.
     fn look_up_job(&mut self, number: u64) -> Result<(), StoreFault>
         requires whole { self.old.failures ≡ 0 }
         requires sure { self.old.in_doubt ≡ false }
@@ -211,7 +211,7 @@ impl<S: Alter + Drop> TableStore<S> {
         }
     }
 
-    // Finds out what is sought, where nothing failed and the connection is known to be open, and brings it into the lists.
+    // Fetches what is sought, if nothing failed and the connection is known to be open, and loads it into the lists.
     fn find_out(&mut self, sought: Sought<'_>) -> Result<(), StoreFault>
         requires whole { self.old.failures ≡ 0 }
         requires sure { self.old.in_doubt ≡ false }
@@ -255,7 +255,7 @@ impl<S: Alter + Drop> TableStore<S> {
         }
     }
 
-    // Makes sure that the connection is open, finds out what is sought, and brings it into the lists.
+    // Ensures that the connection is open, fetches what is sought, and loads it into the lists.
     fn make_ready(&mut self, sought: Sought<'_>) -> Result<(), StoreFault>
         requires { self.old.failures ≡ 0 }
         ensures reads { ReadsBy ⟦<TableStore<S> as PlanStore>⟧ self.old self.new result
@@ -278,7 +278,7 @@ impl<S: Alter + Drop> TableStore<S> {
         self.find_out(sought)
     }
 
-    // Hands the sink a listing for which the tables are asked, where nothing failed and the connection is known to be open.
+    // Passes the sink a listing that queries the tables, if nothing failed and the connection is known to be open.
     fn list_asked<K: RowSink>(
         &mut self,
         alloc: Global,
@@ -349,7 +349,7 @@ impl<S: Alter + Drop> TableStore<S> {
         }
     }
 
-    // What is made of a change before it is written. None is where the store failed before, or where memory is refused.
+    // What is made of a change before it is written. None if the store failed before, or if memory is refused.
     fn prepared(&self, alloc: Global, change: &Change) -> Result<Prepared, StoreFault>
         ensures whole { OnOk result (self.now.failures ≡ 0) }
         ensures moves { IfOk result (λ made. BringMoves change.now.definitions made.moves) }
@@ -376,8 +376,8 @@ impl<S: Alter + Drop> TableStore<S> {
         Ok(self.lists.admits(alloc, change)?)
     }
 
-    // Tests whether a change fits, as any does that was decided over what is kept here. One that doesn't was decided over
-    // bytes that a disk gave back and that were not written, and counts as a failure.
+    // Checks that a change fits, as does any that was decided over what is kept here. One that doesn't was decided
+    // over bytes that a disk gave back and that were not written, and counts as a failure.
     fn admit(&mut self, alloc: Global, change: &Change) -> Result<(), StoreFault>
         requires whole { self.old.failures ≡ 0 }
         requires sure { self.old.in_doubt ≡ false }
@@ -519,8 +519,8 @@ impl<S: Alter + Drop> PlanStore for TableStore<S> {
 
     ghost left_is_clean = { λ _ _ left. left.0 };
 
-    // A store that is read stays as it was. It answers that the device failed where a failure was counted before, and
-    // only there.
+    // A store that is read stays as it was. It returns that the device failed if a failure was counted before, and
+    // only then.
     fn definitions(&mut self) -> Result<Definitions, StoreFault>
         ensures kept { self.new ≡ self.old }
         ensures answer { self.old.failures ≡ 0 → (result ≡ Ok self.old.lists.definitions)
@@ -594,9 +594,9 @@ impl<S: Alter + Drop> PlanStore for TableStore<S> {
         }
     }
 
-    // The clauses of every store, and why the device is blamed: over an open connection whose tables take the change it
-    // failed meanwhile, by the count of sqlite, or a limit on steps is set. They take each change that finds room, and
-    // keep their schema.
+    // The clauses of every store, and why the device is blamed: over an open connection whose tables accept the change
+    // it failed meanwhile, by the count of sqlite, or a limit on steps is set. The tables accept each change for which
+    // there is room, and keep their schema.
     fn apply(&mut self, alloc: Global, change: Change) -> Result<(), StoreFault>
         requires fits { CanRead (state S.Store self.old.conn) → Fits change
             (kept_in (state S.Store self.old.conn) (content_of self.old.lists)) }

@@ -13,7 +13,7 @@ use Rattle.planner_cli.specs.Changes.{change_of, daily_change, plan_change}
 use Rattle.planner_cli.specs.Kinds.{definitions_kind, what_of}
 use Rattle.planner_cli.specs.Texts.{data_text, line_text}
 
--- the listing that is asked for
+-- the listing that is requested
 abbrev pub list_asked : What → Option (List ℕ) → Statement
 list_asked what.Ltp app = ListRows LongTermPlan app
 list_asked what.Cp app = ListRows CurrentPlan app
@@ -38,7 +38,7 @@ define_asked line number kind (Whole bytes) = DefineJob number (data_text line b
 define_asked line number kind TooLong = DefineJob number (line_text line) kind None
 define_asked line number kind Unended = DefineJob number (line_text line) kind None
 
--- a line with data, which no other statement takes
+-- a line with data, which no other statement has
 abbrev pub asked_with : List ℕ → Block → LineStatement → Option Statement
 asked_with line block (statement.Define kind job) = Some (define_asked line job (definitions_kind kind) block)
 asked_with line block _ = None

@@ -1,4 +1,4 @@
--- The change of the planner's machine that a statement asks for.
+-- The change of the planner's machine that a statement requests.
 use Rattle.planner_machine.specs.Statement.{Act, Add, AddCurrent, Change, Create, DailyExtend, DailyExtendBy, Delete}
 use Rattle.planner_machine.specs.Statement.{Extend, ModifyAll, ModifyOne, Replan, Undefine}
 use Rattle.statements.specs.declared.statements.ChangeStatement.{ChangeStatement}

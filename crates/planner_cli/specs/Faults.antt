@@ -17,7 +17,7 @@ abbrev pub cause_of : RunFault → Cause
 cause_of (Faults.Memory tally) = Causes.Memory
 cause_of (Faults.Device part tally) = Causes.Device part
 
--- what was answered before
+-- the statements acknowledged before it
 abbrev pub tally_in : RunFault → Tally
 tally_in (Faults.Memory tally) = tally
 tally_in (Faults.Device part tally) = tally

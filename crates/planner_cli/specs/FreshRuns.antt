@@ -30,8 +30,8 @@ pub record PlansAnew (item : Item) (c : Content) (reply : AnswerLines) : Type 0 
   pub unknown : c.jobs number ≡ None
   pub accepted : is_accepted reply ≡ true
 
--- where the content is c, the item gives and takes away no definition: if it is `define` or `undefine`, it is not
--- accepted, or answered from a kept job
+-- where the content is c, the item adds and removes no definition: if it is `define` or `undefine`, it is not
+-- accepted, or a kept job gives its reply
 abbrev pub LeavesDefinitions : Item → Content → AnswerLines → Type 0
 LeavesDefinitions item c reply = (s : Statement) → Asks item (Some s) → Redefines s → is_accepted reply ≡ true
     → IsRepeated s c
@@ -43,7 +43,7 @@ KeepsDefinitions [] replies c c' run = Unit {0}
 KeepsDefinitions (item ∷ items) replies c c' run =
     LeavesDefinitions item c run.0 × KeepsDefinitions items run.1 run.2 c' run.5
 
--- one of the items makes the plan anew, and none after it gives or takes away a definition
+-- one of the items makes the plan anew, and none after it adds or removes a definition
 abbrev pub MakesFresh : (items : List Item) (replies : List AnswerLines) (c c' : Content)
     → Answers Step c items replies c' → Type 0
 MakesFresh [] replies c c' run = ⊥
@@ -51,8 +51,8 @@ MakesFresh (item ∷ items) replies c c' run =
     (PlansAnew item c run.0 × KeepsDefinitions items run.1 run.2 c' run.5)
     ⊎ MakesFresh items run.1 run.2 c' run.5
 
--- the items lead to fresh content: one of them makes the plan anew, or the content was fresh before; and since then
--- none gives or takes away a definition
+-- the items lead to fresh content: one of them makes the plan anew, or the content was fresh before; and after that
+-- none adds or removes a definition
 abbrev pub LeadsFresh : (items : List Item) (replies : List AnswerLines) (c c' : Content)
     → Answers Step c items replies c' → Type 0
 LeadsFresh items replies c c' run =
@@ -70,12 +70,12 @@ RunLeavesFresh =
     (ends : Ends) (tally : Tally) → IsSound ends.before → (ran : Ran Step ends tally)
     → LeadsFresh ran.items ran.replies ends.before ends.after ran.answers → IsFresh ends.after
 
--- the item in hand, if there is one, is neither `define` nor `undefine`
+-- the item in progress, if there is one, is neither `define` nor `undefine`
 abbrev pub KeepsInHand : Option Item → Type 0
 KeepsInHand hand = (item : Item) (s : Statement) → hand ≡ Some item → Asks item (Some s) → Redefines s → ⊥
 
--- a run that a fault ended: what the items that were answered left is fresh; and so is what the run left, unless the
--- item in hand may have changed a definition
+-- a run that a fault ended: what the acknowledged items left is fresh; and so is what the run left, unless the item in
+-- progress may have changed a definition
 abbrev pub FaultLeavesFresh : Type 0
 FaultLeavesFresh =
     (c c' : Content) (written written' read : Option (List ℕ)) (fault : RunFault) → IsSound c

@@ -19,11 +19,11 @@ pub record BeginsList (c : Content) (item : Item) (lines : List (List ℕ)) : Ty
   pub whole : IsListing what app c (first ++ rest)
   pub are_lines : AreLinesOf IsShownText first lines
 
--- these are the lines of the first things that the item in hand lists
+-- these are the lines of the first things that the item in progress lists
 abbrev pub ListsInHand : Content → Option Item → List (List ℕ) → Type 0
 ListsInHand c hand lines = (item : Item) × (hand ≡ Some item) × BeginsList c item lines
 
--- what is written of the item in hand before a fault: nothing, or the first lines of a listing
+-- what is written of the item in progress before a fault: nothing, or the first lines of a listing
 abbrev pub BeginsInHand : Content → Option Item → List ℕ → Type 0
 BeginsInHand c hand front =
     (front ≡ []) ⊎ ((lines : List (List ℕ)) × ListsInHand c hand lines × (front ≡ flat_map ended lines))

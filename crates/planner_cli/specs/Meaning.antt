@@ -1,4 +1,4 @@
--- The meaning of a text: what is answered to its items, in order, and what is known after them.
+-- The meaning of a text: the replies to its items, in order, and what is known after them.
 use Rattle.std.specs.Prelude.{◌≡◌, List, [], ◌∷◌, ◌+◌, count_by}
 use Rattle.std.specs.Io.Iter.{u64_saturate}
 use Rattle.stream_items.specs.Items.{Item}

@@ -1,4 +1,4 @@
--- What an answer prints where it shows no rows.
+-- What a reply without rows prints.
 use Rattle.std.specs.Prelude.{ℕ, List, [], Ok, Err}
 use Rattle.occurrences.specs.declared.refusal.Refusal.{Refusal}
 use Rattle.plan_listings.specs.Reply.{reply_text, refusal_text}

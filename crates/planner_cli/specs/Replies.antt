@@ -1,8 +1,8 @@
--- What is answered to an item, and what the answers print.
+-- The replies to an item, and what they print.
 use Rattle.std.specs.Prelude.{◌≡◌, ℕ, List, [], ◌∷◌, ◌++◌, Bool, not, codes, nat_eq, flat_map}
 use Rattle.std.specs.List.{starts_with}
 
--- an answer: the rows that are printed first, and its reply line, each without its line feed
+-- a reply: the rows that are printed first, and its reply line, each without its line feed
 pub record AnswerLines : Type 0 where
   pub rows : List (List ℕ)
   pub line : List ℕ
@@ -30,7 +30,7 @@ pub record Prints (reply : AnswerLines) (text : List ℕ) (accepted : Bool) : Ty
   pub accepted_is : accepted ≡ is_accepted reply
   pub refused_is : not accepted ≡ is_refused reply
 
--- what a step answers: a reply that it may give, with what is known after it, and the bytes that the reply prints
+-- what a step returns: a reply that it may give, with what is known after it, and the bytes that the reply prints
 pub record Answered {S : Type 0} (Gives : AnswerLines → S → Type 0) (after : S)
     (text : List ℕ) (accepted : Bool) : Type 0 where
   pub reply : AnswerLines

@@ -14,7 +14,7 @@ use Rattle.planner_cli.specs.Steps.{Step}
 use Rattle.planner_cli.specs.declared.faults.RunFault.{RunFault}
 use Rattle.planner_cli.specs.declared.tally.Tally.{Tally}
 
--- at that place, counted from 0, stands an item that is a statement with a job number
+-- at that place, counted from 0, is an item that is a statement with a job number
 abbrev pub IsJobItem : List Item → ℕ → Type 0
 IsJobItem items place =
     (item : Item) × (slice_get items place ≡ Some item)
@@ -24,8 +24,8 @@ IsJobItem items place =
 abbrev pub RepliesAgree : List Item → List AnswerLines → List AnswerLines → Type 0
 RepliesAgree items replies again = (place : ℕ) → IsJobItem items place → slice_get again place ≡ slice_get replies place
 
--- there is an answering of the items from c, as one run gives it: it leaves c', and each job gets the reply there that
--- it has in `again`. And there is no other: each answering of the items from c ends so
+-- one run gives these replies to the items from c: it leaves c', and each job gets the reply there that it has in
+-- `again`. And there is no other: each such run leaves c', and gives each job that reply
 pub record EndsAsOneRun (items : List Item) (c c' : Content) (again : List AnswerLines) : Type 0 where
   pub replies : List AnswerLines
   pub answers : Answers Step c items replies c'

@@ -34,7 +34,7 @@ daily_mark WouldBeCarried = byte "="
 daily_mark WouldBeHistory = byte "H"
 daily_mark WouldBeDeleted = byte "X"
 
--- the row behind its mark, and in a trial of a daily plan the letter of its status behind it
+-- the row after its mark, and in a trial of a daily plan the letter of its status after it
 abbrev pub plan_signed : PlanChange → Signed
 plan_signed change = plan_sign (plan_mark change.mark) change.row
 

@@ -31,8 +31,8 @@ ends_of before after written_before written_after remaining = record {
   remaining = remaining;
 }
 
--- a run to the end of a stream: all its items are answered and counted, and what their replies print is written. Where
--- the bytes to read are known, the items are those that they read as
+-- a run to the end of a stream: all its items are acknowledged and counted, and what their replies print is written.
+-- If the bytes to read are known, the items are those that they read as
 pub record Ran (Step : StepOf Content) (ends : Ends) (tally : Tally) : Type 0 where
   pub items : List Item
   pub replies : List AnswerLines
@@ -45,12 +45,12 @@ pub record Ran (Step : StepOf Content) (ends : Ends) (tally : Tally) : Type 0 wh
 abbrev pub IsFrontOf : List ℕ → List ℕ → Type 0
 IsFrontOf xs ys = (n : ℕ) × (n ≤ length ys) × (xs ≡ take n ys)
 
--- the item in hand, if there is one, and those after it
+-- the item in progress, if there is one, and those after it
 abbrev pub with_hand : Option Item → List Item → List Item
 with_hand None rest = rest
 with_hand (Some item) rest = item ∷ rest
 
--- the item in hand, if there is one, is answered by a step that leaves t
+-- a step on the item in progress, if there is one, leaves t
 abbrev pub LeavesInHand : {S : Type 0} (Step : StepOf S) → S → Option Item → S → Type 0
 LeavesInHand Step s hand t = (item : Item) × (hand ≡ Some item) × ((reply : AnswerLines) × Step s item reply t)
 
@@ -64,15 +64,14 @@ abbrev pub IsListCutOff : Content → Option Item → Content → List ℕ → T
 IsListCutOff s hand t tail =
     (t ≡ s) × ((lines : List (List ℕ)) × ListsInHand s hand lines × IsFrontOf tail (flat_map ended lines))
 
--- the first lines of a listing, if the item in hand is one, and then a front of the line of the fault
+-- the first lines of a listing, if the item in progress is one, and then a front of the line of the fault
 abbrev pub WritesFault : Content → Option Item → (line tail : List ℕ) → Type 0
 WritesFault s hand line tail =
     (front : List ℕ) × (last : List ℕ) × (tail ≡ front ++ last) × BeginsInHand s hand front × IsFrontOf last line
 
--- how a run ended after the answers, where `between` was known and this item was in hand, if one was: with a front of
--- the line of the fault, and nothing changed. Where the item in hand is `list`, its first lines may stand
--- before. Where the store failed, the item's change may be made; where the writer failed, it is, and a front of its
--- answer is written
+-- how a run ended after the replies, if `between` was known and this item was in progress, if one was: with a front of
+-- the line of the fault, and nothing changed. If the item in progress is `list`, its first lines may come before. If
+-- the store failed, the item's change may be made; if the writer failed, it is, and a front of its reply is written
 abbrev pub EndsBy : (Step : StepOf Content)
     → Cause → (line : List ℕ) → (between t : Content) → (hand : Option Item) → (tail : List ℕ) → Type 0
 EndsBy Step Memory line between t hand tail = (t ≡ between) × WritesFault between hand line tail
@@ -82,8 +81,8 @@ EndsBy Step (Device Reader) line between t hand tail = (t ≡ between) × IsFron
 EndsBy Step (Device Writer) line between t hand tail =
     IsCutOff Step between hand t tail ⊎ IsListCutOff between hand t tail
 
--- a run that a fault ended: the items in `done` are answered, and counted. Where the bytes to read are known, they read
--- as these items, the one in hand, and others
+-- a run that a fault ended: the items in `done` are acknowledged and counted. If the bytes to read are known, they
+-- read as these items, the one in progress, and others
 pub record Stopped (Step : StepOf Content) (line : Cause → List ℕ) (ends : Ends) (fault : RunFault) : Type 0 where
   pub done : List Item
   pub hand : Option Item
@@ -105,15 +104,15 @@ abbrev pub StoppedSomehow : (Step : StepOf Content) (line : Cause → List ℕ) 
 StoppedSomehow Step line ends fault = (last : Content) × Stopped Step line (with_last ends last) fault
 
 -- a run that a fault ended, and what a crash may leave then: what the items in `done` left, or that after the item in
--- hand. Of what the store has then nothing is said
+-- progress. Nothing is said of what the store has then
 pub record Crashed (Step : StepOf Content) (line : Cause → List ℕ) (ends : Ends) (fault : RunFault) (c : Content)
     : Type 0 where
   pub last : Content
   pub stopped : Stopped Step line (with_last ends last) fault
   pub leaves : (c ≡ stopped.between) ⊎ LeavesInHand Step stopped.between stopped.hand c
 
--- one item was not answered: want of memory changes nothing; a store that fails may have made its change; a writer that
--- fails has taken a front of the answer, and the change is made. Of `list` the first lines may be written
+-- one item was not acknowledged: lack of memory changes nothing; a store that fails may have made its change; a writer
+-- that fails has accepted a front of the reply, and the change is made. Of `list` the first lines may be written
 abbrev pub ItemBreaks : (Step : StepOf Content)
     → Cause → Content → Content → Option (List ℕ) → Option (List ℕ) → Item → Type 0
 ItemBreaks Step Memory s t old new item =

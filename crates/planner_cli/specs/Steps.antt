@@ -1,4 +1,4 @@
--- The step of the planner: what an item is answered, and the content after it.
+-- The step of the planner: the reply to an item, and the content after it.
 use Rattle.std.specs.Prelude.{◌≡◌, ℕ, List, [], Option, None, Some, Ok}
 use Rattle.occurrences.specs.declared.refusal.Refusal.TheVariants.{NotAStatement}
 use Rattle.plan_listings.specs.Line.{AreLinesOf}
@@ -28,7 +28,7 @@ ShowsRows (ListLinks app) c (Ok reply) rows =
     (items : List Shown) × ShowLinks app c items × AreLinesOf IsShownText items rows
 ShowsRows statement c answer rows = rows ≡ []
 
--- a statement is answered by a step of the planner's machine, and the reply prints its rows and its answer
+-- a statement gets its reply by a step of the planner's machine, and the reply prints its rows and its reply line
 pub record Serves (statement : Statement) (c : Content) (reply : AnswerLines) (c' : Content) : Type 0 where
   pub answer : Answer
   pub steps : Steps statement c answer c'
@@ -37,7 +37,7 @@ pub record Serves (statement : Statement) (c : Content) (reply : AnswerLines) (c
   -- its values are such as a line and a block give
   pub well_formed : IsStatement statement
 
--- what is printed answers a trial of the change, and the content stays as it is
+-- what is printed is the reply to a trial of the change, and the content stays as it is
 abbrev pub PrintsTrial : Change → Content → Printed → Type 0
 PrintsTrial change c printed =
     (reply : AnswerLines) × Serves (Trial change) c reply c × Prints reply printed.text.items printed.is_accepted

@@ -1,4 +1,4 @@
--- What a call that answers does to a store.
+-- What a call that makes a reply does to a store.
 use Rattle.std.specs.Prelude.{◌≡◌, ◌⊎◌, ℕ, ◌<◌, ◌≤◌, IfErr, IfOk, OnErr, OnOk, Result}
 use Rattle.planner_machine.specs.Content.{Content}
 use Rattle.planner_cli.specs.Replies.{Answered, AnswerLines}
@@ -25,17 +25,17 @@ LeavesOwn g s = LeavesOnly (g.may_leave s) (g.content s)
 abbrev pub ReadsBy : {S T : Type 0} → Ghosts S → (before now : S) → Result T StoreFault → (T → Type 0) → Type 0
 ReadsBy g = ReadsStore g.is_honest g.content g.failures g.may_leave g.is_clean g.is_whole
 
--- a store before and after a call, and what the call answers; of a change that it makes, what that would leave
+-- a store before and after a call, and what the call returns; of a change that it makes, what that would leave
 pub record Answering {S T : Type 0} (g : Ghosts S) (before now : S) (result : Result T StoreFault)
     (Gives : T → Content → Type 0) (IsMade : Content → Type 0) : Type 0 where
-  -- the answer of an honest store is right for the content that it is left with
+  -- what an honest store returns is right for the content that it is left with
   pub answers : g.is_honest now → IfOk result (λ given. Gives given (g.content now))
   -- where memory is refused, its content stays
   pub unchanged : g.is_honest now → IfErr result (λ fault. fault ≡ Memory → g.content now ≡ g.content before)
   -- where the device fails, its content stays, or is that after the change
   pub whole : g.is_honest now → OnErr result ((g.content now ≡ g.content before) ⊎ IsMade (g.content now))
-  -- where a crash before the call would have left the content alone: after an answer a crash leaves the new content
-  -- alone, and after a fault the old one, or that after the change, whatever became of the store
+  -- where a crash before the call would have left the content alone: after a reply a crash leaves the new content
+  -- alone, and after a fault the old one, or that after the change, whatever happened to the store
   pub settled : g.is_honest now → LeavesOwn g before → OnOk result (LeavesOwn g now)
   pub crash : g.is_honest before → g.is_clean now → LeavesOwn g before
       → OnErr result ((c : Content) → g.may_leave now c → (c ≡ g.content before) ⊎ IsMade c)

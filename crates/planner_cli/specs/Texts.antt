@@ -1,4 +1,4 @@
--- The texts of jobs, by which a job that is asked again is known.
+-- The texts of jobs, which show whether a job is repeated.
 use Rattle.std.specs.Prelude.{ℕ, List, ◌∷◌, ◌++◌}
 use Rattle.statement_words.specs.Line.{joined, words_of}
 

@@ -1,4 +1,4 @@
--- What comes of a verdict.
+-- What a verdict leads to.
 use Rattle.std.specs.Prelude.{◌≡◌, ◌≢◌, ◌⊎◌, ℕ, List, None, Option, Some, Ok, Err}
 use Rattle.occurrences.specs.declared.refusal.Refusal.TheVariants.{JobWithAnotherText}
 use Rattle.planner_machine.specs.declared.job.Job.{Job}
@@ -20,7 +20,7 @@ use Rattle.planner_cli.specs.Kinds.{count_of}
 use Rattle.planner_cli.specs.declared.decisions.JobChange.{JobChange}
 use Rattle.planner_cli.specs.declared.decisions.JobChange.TheVariants as by_job
 
--- the answer that a verdict gives
+-- the reply that a verdict gives
 abbrev pub answer_in : Verdict → Answer
 answer_in (Done change reply) = Ok reply
 answer_in (Refused refusal) = Err refusal
@@ -44,19 +44,19 @@ abbrev pub FitsVerdict : Verdict → Content → Type 0
 FitsVerdict (Done change reply) c = Fits change c × ((after change c).jobs ≡ c.jobs)
 FitsVerdict (Refused refusal) c = Unit {0}
 
--- what the job that is kept under a number, if there is one, answers to a text: its answer where the text is its own,
--- else that the text is another
+-- what the job that is kept under a number, if there is one, replies to a text: its reply if the text is its own, else
+-- that the text is another
 abbrev pub IsKeptAnswer : Option Job → List ℕ → Option Answer → Type 0
 IsKeptAnswer None text found = found ≡ None
 IsKeptAnswer (Some job) text found = (answer : Answer) × (found ≡ Some answer)
     × (((job.text ≡ text) × (answer ≡ job.reply)) ⊎ ((job.text ≢ text) × (answer ≡ Err JobWithAnotherText)))
 
--- the change of the machine that a job asks for
+-- the change of the machine that a job requests
 abbrev pub job_change : JobChange → Change
 job_change (by_job.Define block) = Define block
 job_change (by_job.Statement change) = change_of change
 
--- the daily plan that a change without data asks for, if it asks for one
+-- the daily plan that a change without data requests, if it requests one
 abbrev pub daily_in : ChangeStatement → Option DailyFunction
 daily_in (statement.Daily function) = Some function
 daily_in (statement.Undefine kind name) = None
@@ -66,7 +66,7 @@ daily_in (statement.Delete key) = None
 daily_in (statement.AddCurrent key) = None
 daily_in (statement.Act action key) = None
 
--- and that a job asks for
+-- and that a job requests
 abbrev pub daily_of : JobChange → Option DailyFunction
 daily_of (by_job.Define block) = None
 daily_of (by_job.Statement change) = daily_in change

@@ -1,4 +1,4 @@
-//! Answers on their way to print: the bytes of rows and reply lines.
+//! Replies on their way to the writer: the bytes of rows and reply lines.
 ghost use Rattle.std.specs.Prelude.{◌≡◌, ℕ, List, flat_map, IfErr, IfOk};
 ghost use Rattle.planner_cli.specs.Outcomes.{answer_text, answering, refusing};
 ghost use Rattle.planner_cli.specs.Replies.{ended, Prints};
@@ -21,7 +21,7 @@ pub struct Printed {
     pub is_accepted: bool,
 }
 
-/// What an answer prints, after the bytes of the rows before it.
+/// What a reply prints, after the bytes of the rows before it.
 pub(crate) fn print_answer(
     alloc: Global,
     rows: Vec<u8>,
@@ -71,7 +71,7 @@ pub(crate) fn accepted(alloc: Global, rows: Vec<u8>, reply: &Reply) -> Result<Pr
     })
 }
 
-/// What an answer without rows prints.
+/// What a reply without rows prints.
 pub(crate) fn print_alone(alloc: Global, answer: &Answer) -> Result<Printed, StoreFault>
     ensures prints { IfOk result (λ printed.
         Prints (answering answer.now) printed.text.items printed.is_accepted) }

@@ -24,7 +24,7 @@ use run_cycles::Named;
 use std::alloc::{AllocError, Global};
 use work_calendars::{App, Day};
 
-/// Lists the days that an application's run cycles name. Indexes of calendars that were asked for lately are kept.
+/// Lists the days that an application's run cycles name. A cache keeps the indexes of calendars that were used lately.
 pub(crate) fn answer_days<S: PlanStore>(
     alloc: Global,
     store: &mut S,
@@ -62,7 +62,7 @@ fn days(
 }
 
 // The occurrences that an application's run cycles name from `from` to `to`, by day and time, or the refusal of the
-// least number that holds. Errs for want of memory alone.
+// least number that holds. Errs only if memory is refused.
 fn named_days(
     alloc: Global,
     all: &Definitions,
@@ -91,7 +91,7 @@ fn named_days(
     Ok(Ok(list))
 }
 
-// The application that a question is about, where nothing is wrong with the question; else the refusal of the least
+// The application that a `days` statement names, if nothing refuses the statement; else the refusal of the least
 // number that holds.
 fn application_for(all: &Definitions, app: &App, from: Day, to: Day) -> Result<Application, Refusal>
     ensures active { IfOk result (IsActive all.now app.now) }
@@ -127,7 +127,7 @@ fn are_bad_days(from: Day, to: Day) -> bool
     to < from || to > Day::LAST_PLANNING || from.number() + LONGEST_WINDOW <= to.number()
 }
 
-// The refusal of the least number that holds of the definitions of an active application, if one does.
+// The refusal of the least number that the definitions of an active application give, if they give one.
 fn missing_definition(all: &Definitions, app: &App, application: &Application) -> Option<Refusal>
     requires { IsActive all.now app.now application.now }
     ensures some { IfSome result (λ r. (c : Content) → c.definitions ≡ all.now → (from to : ℕ)

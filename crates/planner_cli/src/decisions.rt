@@ -18,16 +18,16 @@ use statements::{ChangeStatement, DailyFunction, PlanFunction};
 use std::alloc::{AllocError, Global};
 use work_calendars::Moment;
 
-/// A change that a job asks for.
+/// A change that a job requests.
 #[derive(Drop)]
 pub enum JobChange {
-    /// To take in what a block defines.
+    /// To merge what a block defines.
     Define(Block),
     /// What a statement without data changes.
     Statement(ChangeStatement),
 }
 
-/// The daily plan that a job asks for, if it asks for one.
+/// The daily plan that a job requests, if it requests one.
 pub(crate) fn daily_of(job: &JobChange) -> Option<DailyFunction>
     ensures { result ≡ daily_of job.now }
 {
@@ -52,7 +52,7 @@ fn daily_in(change: &ChangeStatement) -> Option<DailyFunction>
     }
 }
 
-/// What the decision on a change has to see, where a daily plan has that end.
+/// What the decision on a change has to see, if a daily plan has that end.
 pub(crate) fn need_of(end: Option<Moment>, job: &JobChange) -> Need
     ensures { result ≡ need_of end job.now }
 {
@@ -77,7 +77,7 @@ fn need_of_change(end: Option<Moment>, change: &ChangeStatement) -> Need
     }
 }
 
-/// The verdict on a change, where a daily plan has that end.
+/// The verdict on a change, if a daily plan has that end.
 pub(crate) fn decide(
     alloc: Global,
     view: &View<'_>,

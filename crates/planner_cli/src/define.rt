@@ -23,7 +23,7 @@ pub(crate) fn define(alloc: Global, block: Block) -> Verdict
     Verdict::Done(change, Reply::Defined { names })
 }
 
-/// `undefine`: the definition of the name is taken away. Refused where there is none (13).
+/// `undefine`: the definition of the name is removed. Refused if there is none (13).
 pub(crate) fn undefine(alloc: Global, view: &View<'_>, kind: Kind, name: &Name) -> Verdict
     ensures { (c : Content) → Shows need.Definitions view.now c
         → VerdictIs (decided.undefine kind name.now) c result }

@@ -1,4 +1,4 @@
-//! Where a daily plan ends: what its window is asked for by.
+//! Where a daily plan ends: its window is requested by that moment.
 ghost use Rattle.std.specs.Prelude.{◌≡◌, IfOk};
 ghost use Rattle.planner_machine.specs.Content.{Content};
 ghost use Rattle.plan_store.specs.Views.{Shows};
@@ -14,7 +14,7 @@ use statements::DailyFunction;
 use std::alloc::{AllocError, Global};
 use work_calendars::Moment;
 
-/// Asks a store for the end of a daily plan. It reads no row.
+/// Fetches the end of a daily plan from a store. It reads no row.
 pub(crate) fn find_end<S: PlanStore>(
     alloc: Global,
     store: &mut S,

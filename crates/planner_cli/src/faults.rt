@@ -38,13 +38,13 @@ pub enum Cause {
     Device(Part),
 }
 
-/// The fault that ended a run, and the tally of the statements answered before it.
+/// The fault that ended a run, with the tally of the statements acknowledged before it.
 #[derive(Debug, Drop, Error)]
 pub enum RunFault {
     /// Fault 40: memory was refused.
     #[error("fault 40: memory was refused")]
     Memory {
-        /// What was answered before.
+        /// The statements acknowledged before it.
         tally: Tally,
     },
     /// Fault 41: the store, the reader or the writer failed.
@@ -52,13 +52,13 @@ pub enum RunFault {
     Device {
         /// The part that failed.
         part: Part,
-        /// What was answered before.
+        /// The statements acknowledged before it.
         tally: Tally,
     },
 }
 
 impl RunFault {
-    /// The fault of a cause, after what was answered.
+    /// The fault of a cause, after these statements.
     pub(crate) fn new(cause: Cause, tally: Tally) -> RunFault
         ensures cause { cause_of result ≡ cause }
         ensures tally { tally_in result ≡ tally }
@@ -79,7 +79,7 @@ impl RunFault {
         }
     }
 
-    /// What was answered before.
+    /// The statements acknowledged before it.
     pub fn tally(&self) -> Tally
         ensures { result ≡ tally_in self.now }
     {
@@ -100,7 +100,7 @@ impl RunFault {
     }
 }
 
-/// The cause that a fault of reading is.
+/// The cause that a fault of reading stands for.
 pub fn cause_of_read(fault: ReadFault) -> Cause
     ensures { result ≡ read_cause fault }
 {
@@ -110,7 +110,7 @@ pub fn cause_of_read(fault: ReadFault) -> Cause
     }
 }
 
-/// The cause that a fault of the store is.
+/// The cause that a fault of the store stands for.
 pub fn cause_of_store(fault: StoreFault) -> Cause
     ensures { result ≡ store_cause fault }
 {

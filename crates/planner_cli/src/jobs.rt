@@ -1,5 +1,5 @@
-//! Changes with job numbers: a job that was answered is answered as then, and any other is decided, made, and kept
-//! with its answer in the same change.
+//! Changes with job numbers. A kept job gets its reply again. Any other is decided, made, and kept with its reply in
+//! the same change.
 ghost use Rattle.std.specs.Prelude.{◌≡◌, ◌≢◌, ◌⊎◌, None, Some, Err, Option};
 ghost use Rattle.planner_machine.specs.Content.{Content};
 ghost use Rattle.planner_machine.specs.Jobs.{AnswersJob};
@@ -22,8 +22,8 @@ use planner_machine::{Answer, Job, JobText, streams};
 use std::alloc::Global;
 use work_calendars::Moment;
 
-/// Answers a change that carries a job number. A job that is kept under the number is answered as then, or refused
-/// where its text is another (12), and nothing changes.
+/// Replies to a change that has a job number. If a job is kept under the number, its reply is given again, or the
+/// change is refused if its text is another (12), and nothing changes.
 pub(crate) fn answer_job<S: PlanStore>(
     alloc: Global,
     store: &mut S,
@@ -45,7 +45,7 @@ pub(crate) fn answer_job<S: PlanStore>(
     }
 }
 
-// The answer of the job that is kept under the number, if there is one.
+// The reply of the job that is kept under the number, if there is one.
 fn kept_answer<S: PlanStore>(
     store: &mut S,
     number: u64,
@@ -60,7 +60,7 @@ fn kept_answer<S: PlanStore>(
     }
 }
 
-// What a job that is kept answers to that text.
+// What a kept job replies to that text.
 fn answer_of(job: &Job, text: &JobText) -> Answer
     ensures { IsKeptAnswer (Some job.now) text.now (Some result) }
 {
@@ -125,7 +125,7 @@ fn perform_within<S: PlanStore>(
     settle(alloc, store, number, text, verdict)
 }
 
-// Makes what a verdict says: the reply is made first, then the change, in which the job is kept.
+// Carries out a verdict: makes the reply first, and then the change, in which the job is kept.
 fn settle<S: PlanStore>(
     alloc: Global,
     store: &mut S,
@@ -154,7 +154,7 @@ fn settle<S: PlanStore>(
     }
 }
 
-// The change of a verdict, and its answer. A refusal changes nothing.
+// The change of a verdict, and its reply. A refusal changes nothing.
 fn parts_of(alloc: Global, verdict: Verdict) -> (Change, Answer)
     ensures answer { result.1 ≡ answer_in verdict }
     ensures fits { (c : Content) → FitsVerdict verdict c → Fits result.0 c }

@@ -9,10 +9,10 @@ use planner_machine::{
 };
 use statements::one_statement_per_line;
 
-/// Law: a stream that is run again from its start, on what its first statements left, ends as one uninterrupted run: there
-/// is such a run from the first content, it leaves the same content, and each statement with a job number is answered as
-/// in that run; so also after whole runs, faults and crashes, however many, wherever they came. It speaks of the steps
-/// that `run` takes, over any store.
+/// Law: a stream that is run again from its start, on what its first statements left, ends as one uninterrupted run.
+/// There is such a run from the first content; it leaves the same content, and each statement with a job number gets
+/// the same reply as in that run. This holds after whole runs, faults and crashes, however many, and wherever they
+/// came. It is about the steps that `run` takes, over any store.
 pub fn reruns()
     ensures one_run { RerunEndsAsOneRun }
     ensures after_runs { RerunAfterRuns }
@@ -24,8 +24,8 @@ pub fn reruns()
 
 /// Law: where an `ltp-create` or `ltp-modify-all` of a stream is accepted, and not from a kept job, and no `define` or
 /// `undefine` is accepted after it, fresh content is left, whatever was there before; and from fresh content a stream
-/// without an accepted `define` or `undefine` leaves fresh content. After a fault the same holds of what was answered. It
-/// speaks of the steps that `run` takes, over any store.
+/// without an accepted `define` or `undefine` leaves fresh content. After a fault the same holds of the acknowledged
+/// statements. It is about the steps that `run` takes, over any store.
 pub fn fresh_plans()
     ensures items { ItemsLeaveFresh }
     ensures ran { RunLeavesFresh }

@@ -1,4 +1,4 @@
-//! The planner's job stream: what each statement changes and is answered, and a run over a whole stream.
+//! The planner's job stream: what each statement changes and what its reply is, and a run over a whole stream.
 //!
 //! ```text
 //! let mut reader = b"list\nhelp\n".as_slice(); // neither line is a statement

@@ -1,4 +1,4 @@
-//! `list`: rows go to the writer as the store hands them out.
+//! `list`: rows go to the writer as the store yields them.
 ghost use Rattle.std.specs.Prelude.{◌≡◌, ◌⊎◌, ℕ, ◌≤◌, IfErr, IfOk, List, OnErr, OnOk, Some, option_copied};
 ghost use Rattle.std.specs.Io.KnownBytes.{Appends};
 ghost use Rattle.planner_machine.specs.Content.{Content};
@@ -78,7 +78,7 @@ fn write_line<W: Write>(writer: &mut W, line: &[u8]) -> Result<(), Cause>
     write_bytes(writer, b"\n")
 }
 
-// Writes the lines of a listing, each as the store hands its item out.
+// Writes the lines of a listing, each as the store yields its item.
 fn write_lines<S: PlanStore, W: Write>(
     alloc: Global,
     store: &mut S,
@@ -108,7 +108,7 @@ fn write_lines<S: PlanStore, W: Write>(
     store.rows_to(alloc, what, app, &mut sink)
 }
 
-/// Answers `list`: the rows, one after another, and then how many they are. Nothing changes.
+/// Replies to `list`: the rows, one after another, and then how many they are. Nothing changes.
 pub(crate) fn answer_list<S: PlanStore, W: Write>(
     alloc: Global,
     store: &mut S,

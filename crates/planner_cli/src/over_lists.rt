@@ -25,7 +25,7 @@ pub fn run_lists<R: BufRead, W: Write>(
     // The replies are what was written, and their statements lead from nothing to a sound content.
     ensures ran { IfOk result (λ tally. (c : Content) × RanPlan (ends_of nothing_known c
         (W.contents writer.old) (W.contents writer.new) (R.remaining reader.old)) tally) }
-    // After a fault the same holds of those that were answered.
+    // After a fault the same holds of the acknowledged statements.
     ensures fault { IfErr result (λ fault. (c : Content) × StoppedPlan (ends_of nothing_known c
         (W.contents writer.old) (W.contents writer.new) (R.remaining reader.old)) fault) }
     // Its store never fails.

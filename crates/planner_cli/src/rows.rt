@@ -1,4 +1,4 @@
-//! Rows on their way to an answer.
+//! Rows on their way to a reply.
 ghost use Rattle.std.specs.Prelude.{◌≡◌, ◌++◌, ℕ, List, IfOk, OnOk, flat_map};
 ghost use Rattle.planner_cli.specs.Replies.{ended};
 ghost use Rattle.planner_cli.specs.Rows.{AreDaysLines};

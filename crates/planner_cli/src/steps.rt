@@ -1,4 +1,4 @@
-//! The step of the planner: a change, or a line with data, is answered, and what the store keeps changes.
+//! The step of the planner: a change, or a line with data, gets its reply, and the content of the store changes.
 ghost use Rattle.std.specs.Prelude.{◌≡◌, ◌≤◌, Some, length};
 ghost use Rattle.planner_machine.specs.Sound.{IsSound};
 ghost use Rattle.planner_machine.specs.Statement.{DefineJob, Job as JobStatement};
@@ -27,8 +27,8 @@ use statements::{ChangeStatement, Statement, read_statement};
 use std::alloc::Global;
 use stream_items::Block;
 
-/// Answers a change without data. The reply is made before anything is changed; where memory for it is refused, nothing
-/// is.
+/// Replies to a change without data. The reply is made before anything is changed; if memory for it is refused,
+/// nothing changes.
 pub(crate) fn answer_change<S: PlanStore>(
     alloc: Global,
     store: &mut S,
@@ -46,7 +46,7 @@ pub(crate) fn answer_change<S: PlanStore>(
     answer_job(alloc, store, number, text, JobChange::Statement(*change))
 }
 
-/// Answers a line with data.
+/// Replies to a line with data.
 pub(crate) fn answer_with_data<S: PlanStore>(
     alloc: Global,
     store: &mut S,
@@ -64,7 +64,7 @@ pub(crate) fn answer_with_data<S: PlanStore>(
     }
 }
 
-// Answers a statement with data, which `define` alone takes.
+// Replies to a statement with data, which only `define` has.
 fn answer_block<S: PlanStore>(
     alloc: Global,
     store: &mut S,
@@ -93,7 +93,7 @@ fn answer_block<S: PlanStore>(
     }
 }
 
-/// Answers `define` and its data.
+/// Replies to `define` and its data.
 pub(crate) fn answer_define<S: PlanStore>(
     alloc: Global,
     store: &mut S,
@@ -115,7 +115,7 @@ pub(crate) fn answer_define<S: PlanStore>(
     }
 }
 
-// Answers `define` with the bytes of its block.
+// Replies to `define` with the bytes of its block.
 fn answer_data<S: PlanStore>(
     alloc: Global,
     store: &mut S,

@@ -32,11 +32,10 @@ use std::alloc::Global;
 use std::io::{BufRead, Write};
 use stream_items::{Block, Item, Page};
 
-/// Answers the items of a stream in order, each by a step of the planner on what the store keeps,
-/// and by the bytes that its reply prints. It ends with the stream or at the first fault. A fault
-/// of memory, of the store or of the reader writes a last line, `fault 40` or `fault 41`, for
-/// which no memory is taken; one of the writer writes none. However long a line or a block is, no more
-/// than the first 1,026 bytes of one line and the first 262,145 bytes of one block are held.
+/// Processes the items of a stream in order: each is a step of the planner on the content of the store, and its reply
+/// is printed. It ends with the stream or at the first fault. A fault of memory, of the store or of the reader writes
+/// a last line, `fault 40` or `fault 41`, which needs no memory; a fault of the writer writes none. However long a
+/// line or a block is, only the first 1,026 bytes of one line and the first 262,145 bytes of one block are held.
 pub fn run<S: PlanStore, R: BufRead, W: Write>(
     alloc: Global,
     store: &mut S,
@@ -58,8 +57,8 @@ pub fn run<S: PlanStore, R: BufRead, W: Write>(
     run_reported(alloc, store, reader, writer).0
 }
 
-/// The same, and whether all that ends the run was written: after a fault its whole line. It is not
-/// where the writer took no more.
+/// The same, and whether all was written that ends the run: after a fault its whole line. That isn't so if the writer
+/// accepted no more.
 pub fn run_reported<S: PlanStore, R: BufRead, W: Write>(
     alloc: Global,
     store: &mut S,
@@ -92,7 +91,7 @@ pub fn run_reported<S: PlanStore, R: BufRead, W: Write>(
     }
 }
 
-/// Answers the items of a stream up to its end or the first fault, whose line is not written yet.
+/// Processes the items of a stream up to its end or the first fault, whose line is not written yet.
 fn answer_all<S: PlanStore, R: BufRead, W: Write>(
     alloc: Global,
     store: &mut S,
@@ -144,8 +143,8 @@ fn answer_all<S: PlanStore, R: BufRead, W: Write>(
     Err(RunFault::new(Cause::Device(Part::Reader), tally))
 }
 
-/// Answers one item: the reply is made, then the store changes, then the reply is written and flushed. The rows of a
-/// listing are written as the store hands them out. Answers whether the item was accepted.
+/// Processes one item: makes the reply, then changes the store, then writes the reply and flushes. The rows of a
+/// listing are written as the store yields them. Returns whether the item was accepted.
 fn answer_one<S: PlanStore, W: Write>(
     alloc: Global,
     store: &mut S,
@@ -171,7 +170,7 @@ fn answer_one<S: PlanStore, W: Write>(
     }
 }
 
-/// Answers a line without data.
+/// Processes a line without data.
 fn answer_alone<S: PlanStore, W: Write>(
     alloc: Global,
     store: &mut S,
@@ -193,7 +192,7 @@ fn answer_alone<S: PlanStore, W: Write>(
     }
 }
 
-/// Answers a statement without data.
+/// Processes a statement without data.
 fn answer_statement<S: PlanStore, W: Write>(
     alloc: Global,
     store: &mut S,
@@ -240,7 +239,7 @@ fn answer_statement<S: PlanStore, W: Write>(
     }
 }
 
-/// Writes the line of a fault, as far as the writer takes it. Answers whether it took the whole line.
+/// Writes the line of a fault, as far as the writer accepts it. Returns whether that was the whole line.
 fn write_fault<W: Write>(writer: &mut W, cause: Cause) -> bool
     ensures front { (n : ℕ) × (n ≤ length (fault_line cause))
         × Appends (W.contents writer.old) (W.contents writer.new) (take n (fault_line cause)) }
@@ -270,8 +269,8 @@ fn line_of_fault(cause: Cause) -> &'static [u8]
     }
 }
 
-/// The exit status of a run: 0 where all statements were accepted, 4 where some were refused, 8
-/// after a fault. It takes no memory.
+/// The exit status of a run: 0 where all statements were accepted, 4 where some were refused, 8 after a fault. It
+/// allocates no memory.
 pub fn exit_status(outcome: &Result<Tally, RunFault>) -> u8
     ensures { result ≡ status_of outcome.now }
 {

@@ -1,4 +1,4 @@
-//! Trials: the decision of a statement, and the rows that it would change, shown and not changed.
+//! Trials: the decision of a statement, and the rows that it would change, which are shown and not changed.
 ghost use Rattle.std.specs.Prelude.{◌≡◌, IfOk, filter, map};
 ghost use Rattle.planner_machine.specs.Content.{Content};
 ghost use Rattle.planner_machine.specs.DailyPlan.{is_completed, is_deleted, is_uncompleted};

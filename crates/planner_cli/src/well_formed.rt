@@ -4,7 +4,7 @@ ghost use Rattle.planner_cli.specs.Changes.{change_of, plan_change};
 
 use statements::{ChangeStatement, DailyFunction, PlanFunction};
 
-/// Law: so are those of a change of the long-term plan: a first day is a day.
+/// Law: the same of a change of the long-term plan: a first day is a day.
 pub(crate) fn plan_is_well_formed(function: &PlanFunction)
     ensures { IsWellFormed (plan_change function.now) }
 {
@@ -18,7 +18,7 @@ pub(crate) fn plan_is_well_formed(function: &PlanFunction)
     }
 }
 
-/// Law: so are those of any change without data.
+/// Law: the same of any change without data.
 pub(crate) fn change_is_well_formed(change: &ChangeStatement)
     ensures { IsWellFormed (change_of change.now) }
 {

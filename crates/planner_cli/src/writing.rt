@@ -10,8 +10,8 @@ use crate::faults::{Cause, Part, cause_of_store};
 use plan_store::StoreFault;
 use std::io::Write;
 
-/// Writes all bytes. Every error of the writer counts, and so does a write that takes nothing; the
-/// bytes that were taken before it stay written.
+/// Writes all bytes. Every error of the writer is an error, and so is a write that accepts nothing; the bytes that
+/// were accepted before it stay written.
 pub fn write_bytes<W: Write>(writer: &mut W, bytes: &[u8]) -> Result<(), Cause>
     ensures ok { OnOk result (Appends (W.contents writer.old) (W.contents writer.new) bytes.now) }
     ensures err { IfErr result (λ cause. cause ≡ Device Writer) }
@@ -44,7 +44,7 @@ pub fn write_out<W: Write>(writer: &mut W, bytes: &[u8]) -> Result<(), Cause>
     }
 }
 
-/// Writes what an answer prints, where one was made. Answers whether it is accepted.
+/// Writes what a reply prints, if one was made. Returns whether it is accepted.
 pub(crate) fn write_answer<W: Write>(
     writer: &mut W,
     answered: Result<Printed, StoreFault>,

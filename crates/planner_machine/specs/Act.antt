@@ -61,7 +61,7 @@ IsUncompleted c successor n = Contains c.pairs (pair_of successor n) × (IsCompl
 abbrev pub IsLeastUncompleted : Content → ℕ → ℕ → Type 0
 IsLeastUncompleted c successor n = IsUncompleted c successor n × ((m : ℕ) → IsUncompleted c successor m → n ≤ m)
 
--- only a start asks for the predecessors
+-- only a start reads the predecessors
 abbrev pub ActionRefused : Key → Action → Content → Refusal → Type 0
 ActionRefused key action c NoPlan = c.sets.bounds ≡ None
 ActionRefused key action c NoSuchOccurrence = (serial : ℕ) (status : Status) → IsCurrent c.sets key serial status → ⊥

@@ -30,7 +30,7 @@ IsOutside b ia _ = (ia < midnight b.first_day) ⊎ (b.plan_end ≤ ia)
 abbrev pub IsLiveKey : Sets → Key → Type 0
 IsLiveKey s key = (serial : ℕ) × (p : PlacedRow) × StandsAt s serial p × IsLive p.place × (p.row.key ≡ key)
 
--- whether the calendars name the key or not, and whether it stands in the deletions or not
+-- whether or not the calendars name the key, and whether or not it is in the deletions
 abbrev pub Adds : Place → Key → Definitions → Sets → Reply → Sets → Type 0
 Adds place key all s reply s' = (reply ≡ Numbered (s.issued + 1)) × (s' ≡ with_made place (added key ∷ []) s)
 

@@ -14,7 +14,7 @@ use Rattle.planner_machine.specs.declared.content.Bounds.{Bounds}
 use Rattle.occurrences.specs.declared.place.CurrentRow.{CurrentRow}
 use Rattle.planner_machine.specs.declared.job.Job.{Job}
 
--- the rows: how far the plans reach, which nothing says before the long-term plan is created; how many serials are
+-- the rows: how far the plans reach, which is not known before the long-term plan is created; how many serials are
 -- issued; and four sets, each a look-up by serial: the long-term plan, the current plan, history, and the deletions
 pub record Sets : Type 0 where
   pub bounds : Option Bounds
@@ -60,7 +60,7 @@ alone row (Deleted reason) =
 abbrev pub empty_seat : Seat
 empty_seat = record { ltp = None; cp = None; history = None; deletions = None }
 
--- the row stands there under the serial, and nothing else stands anywhere under it
+-- the row is there under the serial, and nothing else is anywhere under it
 abbrev pub StandsAt : Sets → ℕ → PlacedRow → Type 0
 StandsAt s serial p = seat s serial ≡ alone p.row p.place
 

@@ -19,7 +19,7 @@ abbrev pub ExtendsDailyBy : ℕ → Count → MakesOfRows
 ExtendsDailyBy n count all s reply s' = (b : Bounds) × (s.bounds ≡ Some b)
     × ((t : ℕ) × IsNewEnd all b.plan_end n count t × PlansDaily t s reply s')
 
--- refused where there is no plan, and where the days give no new end that isn't a bad one
+-- refused where there is no plan, and where the days give no new end, or one that isn't allowed
 abbrev pub DailyExtendByRefused : ℕ → Count → Content → Refusal → Type 0
 DailyExtendByRefused n count c NoPlan = c.sets.bounds ≡ None
 DailyExtendByRefused n count c PlanEndOutOfRange = (b : Bounds) × (c.sets.bounds ≡ Some b)

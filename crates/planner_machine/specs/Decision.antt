@@ -6,7 +6,7 @@ use Rattle.occurrences.specs.declared.refusal.Refusal.TheVariants.{FaultyData, C
 use Rattle.occurrences.specs.declared.refusal.Refusal.TheVariants.{PredecessorUncompleted}
 use Rattle.occurrences.specs.declared.reply.Reply.{Reply}
 
--- why a statement is refused, and what it answers and leaves, over a content or whatever else it changes
+-- why a statement is refused, and its reply and what it leaves, over a content or whatever else it changes
 pub record Decision (State : Type 0) : Type 1 where
   pub Refuses : State → Refusal → Type 0
   pub Does : State → Reply → State → Type 0
@@ -15,13 +15,12 @@ pub record Decision (State : Type 0) : Type 1 where
 abbrev pub IsLeastRefusal : (Refusal → Type 0) → Refusal → Type 0
 IsLeastRefusal Holds r = Holds r × ((q : Refusal) → Holds q → refusal_number r ≤ refusal_number q)
 
--- the statement is answered by the least refusal that holds, and nothing changes; or none holds, and it does what it
--- does
+-- the reply is the least refusal that holds, and nothing changes; or none holds, and the statement does what it does
 abbrev pub Decides : {State : Type 0} → Decision State → State → Result Reply Refusal → State → Type 0
 Decides d c (Err r) c' = IsLeastRefusal (d.Refuses c) r × (c' ≡ c)
 Decides d c (Ok reply) c' = ((q : Refusal) → d.Refuses c q → ⊥) × d.Does c reply c'
 
--- what a trial of a statement is answered: what the statement would be; and nothing changes
+-- the reply to a trial of a statement: what the reply to the statement would be; and nothing changes
 abbrev pub trial : {State : Type 0} → Decision State → Decision State
 trial {State} d = record { Refuses = d.Refuses; Does = λ c reply c'. (c' ≡ c) × ((left : State) × d.Does c reply left) }
 
@@ -45,16 +44,16 @@ module _ {State : Type 0} (Sound : State → Type 0) (d : Decision State) where
   HasOneDetail = (c : State) (q r : Refusal) → Sound c → d.Refuses c q → d.Refuses c r
       → refusal_number q ≡ refusal_number r → detail_of q ≡ detail_of r
 
-  -- where nothing is refused, one thing is done
+  -- if nothing is refused, exactly one thing is done
   abbrev pub DoesOne : Type 0
   DoesOne = (c : State) (reply reply' : Reply) (c' c'' : State) → Sound c → d.Does c reply c' → d.Does c reply' c''
       → (reply ≡ reply') × (c' ≡ c'')
 
-  -- one answer, and one content after it
+  -- one reply, and one content after it
   abbrev pub DecidesOne : Type 0
   DecidesOne = (c : State) (a a' : Result Reply Refusal) (c' c'' : State) → Sound c → Decides d c a c'
       → Decides d c a' c'' → (a ≡ a') × (c' ≡ c'')
 
-  -- what is sound stays sound, whatever is answered
+  -- sound content stays sound, whatever the reply
   abbrev pub KeepsSound : Type 0
   KeepsSound = (c : State) (a : Result Reply Refusal) (c' : State) → Sound c → Decides d c a c' → Sound c'

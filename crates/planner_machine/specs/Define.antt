@@ -21,7 +21,7 @@ abbrev pub UndefineRefused : Kind → List ℕ → Content → Refusal → Type 
 UndefineRefused kind name c NotDefined = IsDefined c.definitions kind name → ⊥
 UndefineRefused kind name c _ = ⊥
 
--- one name of one kind is taken away
+-- one name of one kind is removed
 abbrev pub undefine : Kind → List ℕ → Decision Content
 undefine kind name = record {
   Refuses = UndefineRefused kind name;

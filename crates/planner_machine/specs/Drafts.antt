@@ -40,8 +40,8 @@ NamesDraft all draft = (app : List ℕ) × (x : Named) × IsNamed all app x × (
 abbrev pub NamesWithin : Definitions → ℕ → ℕ → Draft → Type 0
 NamesWithin all first end draft = NamesDraft all draft × (first ≤ draft.key.ia) × (draft.key.ia < end)
 
--- a key that a planning statement makes: it is named, no row of the long-term plan has it, and it stands nowhere in the
--- deletions as one that an operator deleted
+-- a key that a planning statement makes: it is named, no row of the long-term plan has it, and the deletions don't
+-- have it as one that an operator deleted
 pub record IsMade (Names : Draft → Type 0) (s : Sets) (draft : Draft) : Type 0 where
   pub named : Names draft
   pub not_planned : (serial : ℕ) (row : Row) → s.ltp serial ≡ Some row → row.key ≢ draft.key

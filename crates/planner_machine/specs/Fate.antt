@@ -17,7 +17,7 @@ use Rattle.external_dependencies.specs.declared.rows.PlacedRow.{PlacedRow}
 use Rattle.planner_machine.specs.declared.content.Draft.{Draft}
 use Rattle.planner_machine.specs.Drafts.{NamesDraft}
 
--- how an occurrence stood before, and how it stands after: its row and its place
+-- where an occurrence was before, and where it is after: its row and its place
 abbrev pub Fate : Type 1
 Fate = PlacedRow → PlacedRow → Type 0
 
@@ -73,7 +73,7 @@ pub record StaysNamed (all : Definitions) (p q : PlacedRow) : Type 0 where
     place = LongTerm;
   }
 
--- its key is named no more, and it is withdrawn
+-- its key is no longer named, and it is withdrawn
 pub record IsWithdrawn (all : Definitions) (p q : PlacedRow) : Type 0 where
   pub unnamed : (draft : Draft) → NamesDraft all draft → draft.key ≢ p.row.key
   pub goes : q ≡ record { row = p.row; place = Deleted Withdrawn }

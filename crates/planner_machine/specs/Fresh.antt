@@ -26,7 +26,7 @@ use Rattle.planner_machine.specs.Stream.{IsStatement, Runs}
 abbrev pub draft_of_row : Row → Draft
 draft_of_row row = record { key = row.key; deadline = row.deadline; origin = row.origin }
 
--- the key of a row that stands so is left out: an added one of the long-term plan, or one that an operator deleted
+-- the key of such a row is left out: an added one of the long-term plan, or one that an operator deleted
 abbrev pub LeavesOut : Origin → Place → Type 0
 LeavesOut origin LongTerm = origin ≡ Added
 LeavesOut origin (Current status) = ⊥
@@ -49,7 +49,7 @@ abbrev pub NamesInPlan : Definitions → Bounds → Draft → Type 0
 NamesInPlan all b = NamesWithin all b.plan_end (midnight (b.last_day + 1))
 
 -- there is a plan; each generated row of the long-term plan is, with its run cycle and its deadline, named now; and
--- each draft that is named now stands so, but those whose keys are left out
+-- each draft that is named now is there, except those whose keys are left out
 pub record AreFresh (all : Definitions) (s : Sets) : Type 0 where
   pub bounds : Bounds
   pub planned : s.bounds ≡ Some bounds
@@ -87,13 +87,13 @@ abbrev pub IsRefused : Answer → Type 0
 IsRefused (Ok reply) = ⊥
 IsRefused (Err refusal) = Unit {0}
 
--- the statement is answered from a kept job
+-- a kept job gives the reply to the statement
 abbrev pub IsRepeated : Statement → Content → Type 0
 IsRepeated (DefineJob number text kind given) c = c.jobs number ≢ None
 IsRepeated (Job number text change) c = c.jobs number ≢ None
 IsRepeated statement c = ⊥
 
--- no definition is given or taken away: each statement that would do it is refused, or answered from a kept job
+-- no definition is added or removed: each statement that would do it is refused, or a kept job gives its reply
 abbrev pub KeepsDefinitions : (stream : List Statement) (answers : List Answer) (c c' : Content)
     → Runs stream c answers c' → Type 0
 KeepsDefinitions (s ∷ stream) (a ∷ answers) c c' run =

@@ -7,7 +7,7 @@ use Rattle.external_dependencies.specs.Link.{link_cmp}
 use Rattle.external_dependencies.specs.Rising.{IsRising}
 use Rattle.external_dependencies.specs.declared.links.Link.{Link}
 
--- the predecessor stands in the list that is defined for the application, with this limit
+-- the predecessor is in the list that is defined for the application, with this limit
 abbrev pub IsDefinedLink : Definitions → Link → Type 0
 IsDefinedLink all link = (listed : List Predecessor) × (map.get all.predecessors link.app ≡ Some listed)
     × Contains listed (record { name = link.predecessor; within = link.within })

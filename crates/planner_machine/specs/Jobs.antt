@@ -15,9 +15,9 @@ kept number text reply = record { number = number; text = text; reply = reply }
 abbrev pub with_job : Job → Content → Content
 with_job job c = record c { jobs = λ number. if nat_eq job.number number then Some job else c.jobs number }
 
--- a job under whose number this is kept. Nothing: its statement is decided, and the answer is kept, a refusal too. A
--- job of the same text: it is answered as then, and nothing changes. A job of another text: it is refused, and
--- nothing changes
+-- the reply by what is kept under the job number. Nothing: the statement is decided, and its reply is kept, a refusal
+-- too. A job of the same text: its reply is given again, and nothing changes. A job of another text: the statement is
+-- refused, and nothing changes
 abbrev pub AnswersKept : ℕ → List ℕ → Decision Content → Content → Option Job → Result Reply Refusal → Content → Type 0
 AnswersKept number text d c None answer c' =
     (left : Content) × Decides d c answer left × (c' ≡ with_job (kept number text answer) left)

@@ -25,8 +25,8 @@ use Rattle.planner_machine.specs.Sound.{IsShown, IsSound}
 use Rattle.planner_machine.specs.Statement.{Change, Create, DailyExtend, DailyExtendBy, Define, MakesDrafts}
 use Rattle.planner_machine.specs.Statement.{decision_of, fate_of, place_of_made}
 
--- each serial that stood somewhere stands where its fate puts it; and the new serials, from issued + 1 on, are those
--- of the drafts in their order, each with its row in the place where it is made
+-- each serial that was in some place is where its fate puts it; and the new serials, from issued + 1 on, are those of
+-- the drafts in their order, each with its row in the place where it is made
 pub record Follows (place : Place) (fate : Fate) (drafts : List Draft) (s s' : Sets) : Type 0 where
   pub issues : s'.issued ≡ s.issued + length drafts
   pub old : (serial : ℕ) (p : PlacedRow) → StandsAt s serial p → (q : PlacedRow) × fate p q × StandsAt s' serial q
@@ -40,7 +40,7 @@ FollowsFate change =
     → (drafts : List Draft) × MakesDrafts change c.definitions c.sets drafts
     × Follows (place_of_made change) (fate_of change c.definitions c.sets.bounds) drafts c.sets c'.sets
 
--- a statement has one answer, and leaves one content
+-- a statement has one reply, and leaves one content
 abbrev pub AnswersOnce : Change → Type 0
 AnswersOnce change = DecidesOne IsSound (decision_of change)
 
@@ -65,14 +65,14 @@ abbrev pub KeepsItself : Change → Type 0
 KeepsItself change = (all : Definitions) (bounds : Option Bounds) (p q : PlacedRow) → fate_of change all bounds p q
     → IsItself p q
 
--- a daily plan on whole sets is the fates of all rows together: what stands somewhere after it is what stood under
--- that serial, by its fate
+-- a daily plan on whole sets is the fates of all rows together: what is anywhere after it is what was under that
+-- serial, by its fate
 abbrev pub DailyIsFates : Type 0
 DailyIsFates =
     (t : ℕ) (c : Content) → IsSound c → (serial : ℕ) (q : PlacedRow)
     → StandsAt (daily t c.sets) serial q ↔ ((p : PlacedRow) × StandsAt c.sets serial p × DailyFate t p q)
 
--- a daily plan by days is the daily plan to the new end that they give: it is answered so, and leaves that content
+-- a daily plan by days is the daily plan to the new end that they give: it has that reply, and leaves that content
 abbrev pub DailyByIsToEnd : Type 0
 DailyByIsToEnd =
     (n : ℕ) (count : Count) (c : Content) (b : Bounds) (t : ℕ) → c.sets.bounds ≡ Some b

@@ -9,7 +9,7 @@ use Rattle.planner_machine.specs.declared.content.Bounds.{Bounds}
 use Rattle.planner_machine.specs.declared.content.Draft.{Draft}
 use Rattle.planner_machine.specs.Content.{Seat, Sets, alone, seat}
 
--- the first, or the second where the first has nothing
+-- the first, or the second if the first has nothing
 abbrev pub or_else : {X : Type 0} → Option X → Option X → Option X
 or_else None y = y
 or_else (Some x) y = Some x

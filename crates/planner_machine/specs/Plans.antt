@@ -13,7 +13,7 @@ use Rattle.planner_machine.specs.Moves.{size}
 use Rattle.app_occurrences.specs.Active.{IsActive, IsLeastName}
 use Rattle.planner_machine.specs.Pairs.{ArePairs}
 
--- what a statement answers and makes of the rows, by the definitions
+-- a statement's reply, and what it makes of the rows, by the definitions
 abbrev pub MakesOfRows : Type 1
 MakesOfRows = Definitions → Sets → Reply → Sets → Type 0
 
@@ -27,7 +27,7 @@ pub record ChangesPlans (Makes : MakesOfRows) (Puts : PutsLists) (c : Content) (
   pub definitions : c'.definitions ≡ c.definitions
   pub jobs : c'.jobs ≡ c.jobs
 
--- of the applications that it holds for, the least in byte order
+-- of the applications that pass the test, the least in byte order
 abbrev pub IsLeastApp : (List ℕ → Type 0) → List ℕ → Type 0
 IsLeastApp Holds app = IsLeastName Holds (Some app)
 

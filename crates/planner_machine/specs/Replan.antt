@@ -1,4 +1,4 @@
--- `dp-replan`: a daily plan to the plan end as it is, which takes nothing from the long-term plan.
+-- `dp-replan`: a daily plan to the plan end as it is, which moves nothing out of the long-term plan.
 use Rattle.std.specs.Prelude.{◌≡◌, None, Some}
 use Rattle.occurrences.specs.declared.refusal.Refusal.{Refusal}
 use Rattle.occurrences.specs.declared.refusal.Refusal.TheVariants.{NoPlan}

@@ -11,11 +11,11 @@ job_number (DefineJob number text kind given) = Some number
 job_number (Job number text change) = Some number
 job_number statement = None
 
--- at that place of the stream, counted from 0, stands a statement with that job number
+-- at that place of the stream, counted from 0, is a statement with that job number
 abbrev pub IsJobAt : List Statement → (place number : ℕ) → Type 0
 IsJobAt stream place number = (s : Statement) × (slice_get stream place ≡ Some s) × (job_number s ≡ Some number)
 
--- wherever the stream has a statement with a job number, it has the same answer in both lists of answers
+-- wherever the stream has a statement with a job number, it has the same reply in both lists of replies
 abbrev pub AnswersAgree : List Statement → List Answer → List Answer → Type 0
 AnswersAgree stream answers again = (place number : ℕ) → IsJobAt stream place number
     → slice_get again place ≡ slice_get answers place

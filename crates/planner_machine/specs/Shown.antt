@@ -1,4 +1,4 @@
--- What `list` and the trials show: rows and their marks. How they print is said above.
+-- What `list` and the trials show: rows and their marks. The crates above say how they print.
 use Rattle.std.specs.Prelude.{◌≡◌, ◌⊎◌, ◌↔◌, ℕ, ◌<◌, List, length, Contains, Option, Some, None}
 use Rattle.std.specs.List.{AllPairs}
 use Rattle.occurrences.specs.Row.{RowBefore}
@@ -82,7 +82,7 @@ pub record ListsLinks (app : Option (List ℕ)) (c : Content) (shown : List Link
   pub rising : IsRising link_cmp shown
   pub exactly : (link : Link) → Contains shown link ↔ IsInForce app c link
 
--- all refuse nothing, answer how many items they show, and change nothing
+-- all refuse nothing, reply how many items they show, and change nothing
 
 abbrev pub list_rows : Listed → Option (List ℕ) → Decision Content
 list_rows listed app = record {

@@ -106,7 +106,7 @@ pub record HasBounds (c : Content) : Type 0 where
 
 -- 3. Serials
 
--- each serial from 1 to the number issued stands in exactly one set, under a row that has it, and no other serial in
+-- each serial from 1 to the number issued is in exactly one set, under a row that has it, and no other serial is in
 -- any
 pub record AreNumbered (s : Sets) : Type 0 where
   pub placed : (serial : ℕ) → 1 ≤ serial → serial ≤ s.issued → (p : PlacedRow) × StandsAt s serial p
@@ -133,7 +133,7 @@ ArrivesIn b ia (Deleted _) = Unit {0}
 pub record HaveArrivals (s : Sets) : Type 0 where
   pub in_bounds : (b : Bounds) → s.bounds ≡ Some b → (serial : ℕ) (p : PlacedRow) → StandsAt s serial p
       → ArrivesIn b p.row.key.ia p.place
-  -- no generated row of the long-term plan has a key that stands in the deletions as one that an operator deleted
+  -- no generated row of the long-term plan has a key that the deletions have as one that an operator deleted
   pub not_deleted : (serial : ℕ) (row : Row) → s.ltp serial ≡ Some row → IsGenerated row.origin
       → (other : ℕ) (deletion : Deletion) → s.deletions other ≡ Some deletion → deletion.reason ≡ Operator
       → deletion.row.key ≢ row.key
@@ -158,7 +158,8 @@ pub record HasPairs (c : Content) : Type 0 where
       → Contains c.pairs (record { successor = successor; predecessor = m })
       → Contains c.pairs (record { successor = successor; predecessor = n })
       → StandsAt c.sets m p → StandsAt c.sets n q → p.row.key.app ≡ q.row.key.app → m ≡ n
-  -- which arrives at or before the successor, or before it where it is of the same application; no limit is asked for
+  -- which arrives at or before the successor, or before it where it is of the same application; the limit doesn't
+  -- matter
   pub in_time : (pair : Pair) (p q : PlacedRow) → Contains c.pairs pair → IsClosedAt c.sets pair.successor
       → StandsAt c.sets pair.successor p → StandsAt c.sets pair.predecessor q
       → IsCandidate p.row.key q.row.key.app None (arrival_of q.row)

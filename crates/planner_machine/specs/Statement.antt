@@ -128,7 +128,7 @@ AnswersDefine number text kind given c answer c' =
     ((record_number : ℕ) × IsFaulty kind given record_number × (answer ≡ Err (FaultyData record_number)) × (c' ≡ c))
     ⊎ ((block : Block) × AreRead kind given block × AnswersJob number text (define block) c answer c')
 
--- one step: where the content is c, the statement gets the answer, and leaves c'
+-- one step: where the content is c, the statement gets the reply, and leaves c'
 abbrev pub Steps : Statement → Content → Answer → Content → Type 0
 Steps (DefineJob number text kind given) c answer c' = AnswersDefine number text kind given c answer c'
 Steps (Job number text change) c answer c' = AnswersJob number text (decision_of change) c answer c'

@@ -1,4 +1,4 @@
--- Streams of statements: what they answer and leave, and where each occurrence goes.
+-- Streams of statements: their replies, what they leave, and where each occurrence goes.
 use Rattle.std.specs.Prelude.{◌≡◌, ◌⊎◌, ℕ, ◌+◌, ◌≤◌, List, [], ◌∷◌, All, Option, Some, None, Ok, slice_get}
 use Rattle.occurrences.specs.declared.place.Place.{Place}
 use Rattle.occurrences.specs.declared.place.Place.TheVariants.{LongTerm}
@@ -16,7 +16,7 @@ use Rattle.planner_machine.specs.Statement.{fate_of, place_of_made}
 use Rattle.app_definitions.specs.Definitions.{names_given}
 use Rattle.app_definitions.specs.declared.kinds.Block.{Block}
 
--- each statement in turn: its answer, and the content after the last
+-- each statement in turn: its reply, and the content after the last
 abbrev pub Runs : List Statement → Content → List Answer → Content → Type 0
 Runs [] c [] c' = c' ≡ c
 Runs [] c (a ∷ answers) c' = ⊥
@@ -30,8 +30,8 @@ IsStatement (DefineJob number text kind given) = (1 ≤ number) × (number ≤ G
 IsStatement (Job number text change) = (1 ≤ number) × (number ≤ GREATEST_JOB) × IsWellFormed change
 IsStatement statement = Unit {0}
 
--- the change that a statement makes: none where it is refused, where a kept job answers it, and where it changes no
--- rows
+-- the change that a statement makes: none where it is refused, where a kept job gives its reply, and where it changes
+-- no rows
 abbrev pub change_made : Option KeptJob → Change → Option Change
 change_made None change = Some change
 change_made (Some job) change = None
@@ -80,7 +80,7 @@ Lives (s ∷ stream) (a ∷ answers) c c' run serial q =
     ((o : PlacedRow) × IsBorn s a c serial o × Goes stream answers run.0 c' run.2 o q)
     ⊎ Lives stream answers run.0 c' run.2 serial q
 
--- a stream is answered in one way, and leaves one content
+-- a stream has one list of replies, and leaves one content
 abbrev pub RunsOneWay : Type 0
 RunsOneWay = (stream : List Statement) (answers answers' : List Answer) (c c' c'' : Content) → IsSound c
     → All IsStatement stream
@@ -91,7 +91,8 @@ abbrev pub RunsSound : Type 0
 RunsSound = (stream : List Statement) (answers : List Answer) (c c' : Content) → IsSound c → All IsStatement stream
     → Runs stream c answers c' → IsSound c'
 
--- after it each serial issued stands where its fates put it: from where it stood, or from where it was made on the way
+-- after it each serial issued is where its fates put it: from where it was before, or from where it was made on the
+-- way
 abbrev pub RunsByFate : Type 0
 RunsByFate = (stream : List Statement) (answers : List Answer) (c c' : Content) → IsSound c → All IsStatement stream
     → (run : Runs stream c answers c')

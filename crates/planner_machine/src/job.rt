@@ -3,7 +3,7 @@ ghost use Rattle.std.specs.Prelude.{◌≡◌};
 use occurrences::{Refusal, Reply};
 use std::marker::Model;
 
-/// What a statement is answered.
+/// The reply to a statement.
 pub type Answer = Result<Reply, Refusal>;
 
 /// The text of a job: the words of its statement, and for `define` the bytes of its block.
@@ -45,13 +45,13 @@ impl JobText {
     }
 }
 
-/// A job that was answered, as it is kept.
+/// A kept job: a job with the reply that it got.
 #[derive(Drop)]
 pub struct Job {
     /// Its number.
     pub number: u64,
     /// Its text.
     pub text: JobText,
-    /// What it was answered, which it is answered whenever it is asked again.
+    /// Its reply, which a repeated job gets again.
     pub reply: Answer,
 }

@@ -66,7 +66,7 @@ pub fn pairs_have_no_loop()
 {}
 
 /// Law: a stream over sound content is answered in one way and leaves one content, which is sound; and each serial
-/// issued by then stands in exactly one place, where its fates put it, from where it stood or from where it was made
+/// issued by then is in exactly one place, where its fates put it, from where it was before or from where it was made
 /// on the way.
 pub fn streams()
     ensures one_way { RunsOneWay }
@@ -89,9 +89,9 @@ pub fn trials()
     ensures answers { TrialAnswersAsStatement }
 {}
 
-/// Law: an accepted `ltp-create` or `ltp-modify-all` leaves fresh content, whatever was there before; from fresh content
-/// each stream leaves fresh content that gives and takes away no definition; and in sound content
-/// fresh means that the generated rows of the long-term plan are exactly those that are named, less those left out.
+/// Law: an accepted `ltp-create` or `ltp-modify-all` leaves fresh content, whatever was there before; from fresh
+/// content each stream leaves fresh content that adds and removes no definition; and in sound content fresh means that
+/// the generated rows of the long-term plan are exactly those that are named, less those left out.
 pub fn fresh_plans()
     ensures create { (from to : ℕ) → LeavesFresh (Create from to) }
     ensures modify { LeavesFresh ModifyAll }

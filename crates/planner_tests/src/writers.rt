@@ -20,14 +20,14 @@ struct Failing {
 }
 
 impl Failing {
-    /// Whether the write in hand fails.
+    /// Whether the write in progress fails.
     fn is_interrupted(&mut self) -> bool {
         let is_due = self.writes == 0;
         self.writes = if is_due { usize::MAX } else { self.writes - 1 };
         is_due
     }
 
-    /// Whether the flush in hand fails.
+    /// Whether the flush in progress fails.
     fn does_fail(&mut self) -> bool {
         let is_due = self.flushes == 0;
         self.flushes = if is_due { usize::MAX } else { self.flushes - 1 };

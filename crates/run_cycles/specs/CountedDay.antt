@@ -1,4 +1,5 @@
--- Counted days: the work days that offsets name where the work days of an interval count alone. `work` tells them.
+-- Counted days: the work days that offsets name where the work days of an interval count alone. `work` is the test for
+-- work days.
 use Rattle.std.specs.Prelude.{◌≡◌, ℕ, zero, suc, ◌+◌, ◌-◌, ◌%◌, ◌≤◌, Bool, cond, IsTrue, Option, Some, None}
 use Rattle.plan_periods.specs.declared.periods.Period.{Period}
 use Rattle.plan_periods.specs.declared.periods.Period.TheVariants.{Work}

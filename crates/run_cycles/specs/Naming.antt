@@ -1,5 +1,5 @@
--- Words of private contracts alone, for the walk over all that run cycles name: a naming is a day and time, with what
--- the run cycle gives there, or none where it takes away.
+-- For private contracts only, about the walk over all that run cycles name. A naming is a day and time, with what the
+-- run cycle gives there, or none where it takes away.
 use Rattle.std.specs.Prelude.{◌≡◌, ℕ, ◌+◌, ◌<◌, ◌⊎◌, ◌↔◌, Bool, List, length, slice_index_or}
 use Rattle.std.specs.Prelude.{Any, AllPairs, Contains, Option, Some, None, IsSomeAnd}
 use Rattle.std.specs.FinMap as map
@@ -31,7 +31,7 @@ abbrev pub IsNamingOf : PeriodMap → (ℕ → Bool) → Naming → RunCycle →
 IsNamingOf periods work x cycle =
     IsSomeAnd (map.get periods cycle.period) (λ period. IsNamingWith period work x cycle)
 
--- the lists have got the namings that P holds of, and no others
+-- the lists gained exactly the namings that P holds of
 abbrev pub AddsNamings : (Naming → Type 0) → List (List Naming) → List (List Naming) → Type 0
 AddsNamings P old new =
     (x : Naming) → Any (λ list. Contains list x) new ↔ (Any (λ list. Contains list x) old ⊎ P x)
@@ -40,7 +40,7 @@ AddsNamings P old new =
 abbrev pub RisesByDay : List Naming → Type 0
 RisesByDay list = AllPairs (λ a b. a.day < b.day) list
 
--- what is taken away stands before what is given, and that by the names of the run cycles
+-- what is taken away comes before what is given, which comes by the names of the run cycles
 abbrev pub GivesAtMost : Option Given → Option Given → Type 0
 GivesAtMost None _ = Unit {0}
 GivesAtMost (Some a) None = ⊥
@@ -60,7 +60,7 @@ InOrder list = AllPairs IsNotAfter list
 abbrev pub IsTogether : Naming → Naming → Type 0
 IsTogether a b = (a.day ≡ b.day) × (a.time ≡ b.time)
 
--- y stands at place k, and what stands before it is of another day or time
+-- y is at place k, and everything before it has another day or time
 abbrev pub IsFirstAt : List Naming → ℕ → Naming → Type 0
 IsFirstAt list k y =
     (slice_index_or list k y ≡ y) × ((j : ℕ) → j + 1 ≡ k → ¬ (IsTogether (slice_index_or list j y) y))

@@ -1,4 +1,4 @@
--- Words of private contracts alone, for the searches among offsets: what a number has to be, and what lies in a range.
+-- For private contracts only, about the searches among offsets: what a number has to be, and what lies in a range.
 use Rattle.std.specs.Prelude.{◌≡◌, ℕ, ◌+◌, ◌≤◌, ◌<◌, ◌⊎◌, ◌↔◌, Bool, ℤ, List, Any, Contains, Option, Some, None, IfSome}
 use Rattle.work_calendars.specs.CountedIndex.{CountedStatuses}
 use Rattle.work_calendars.specs.Day.{IsDay}
@@ -25,7 +25,7 @@ reach_of (AllDays _ n) = n
 reach_of (Work _ n) = n
 reach_of (Listed _) = MAX_OFFSET
 
--- the list has got the offset if it lies within n days, and no other
+-- the list gained the offset if that lies within n days, and no other
 abbrev pub AddsWithin : ℕ → ℤ → List ℤ → List ℤ → Type 0
 AddsWithin n offset old new =
     (k : ℤ) → Contains new k ↔ (Contains old k ⊎ ((k ≡ offset) × IsWithin n (offset_of k)))
@@ -93,7 +93,7 @@ GivesInMet period rule work from to k d =
 abbrev pub IsInWindow : ℕ → ℕ → (Offset → ℕ → Type 0) → List ℤ → ℕ → Type 0
 IsInWindow low high P offsets d = (low ≤ d) × (d < high) × Any (λ k. P (offset_of k) d) offsets
 
--- the list has got the days that P holds of, and no others
+-- the list gained exactly the days that P holds of
 abbrev pub AddsDays : (ℕ → Type 0) → List ℕ → List ℕ → Type 0
 AddsDays P old new = (d : ℕ) → Contains new d ↔ (Contains old d ⊎ P d)
 

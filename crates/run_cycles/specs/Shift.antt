@@ -1,4 +1,4 @@
--- Shifts: the day that a raw day becomes, by the run cycle's rule for free days. `work` tells the work days.
+-- Shifts: the day that a raw day becomes, by the run cycle's rule for free days. `work` is the test for work days.
 use Rattle.std.specs.Prelude.{◌≡◌, ℕ, Bool, MatchBool}
 use Rattle.work_calendars.specs.WorkDay.{IsNextWorkDay, IsPreviousWorkDay}
 use Rattle.run_cycles.specs.declared.rules.Rule.{Rule}

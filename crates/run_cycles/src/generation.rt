@@ -87,7 +87,7 @@ fn all_decided(alloc: Global, namings: &[Naming]) -> Result<Vec<Named>, AllocErr
 /// `from`.
 ///
 /// An occurrence is at a day and time at which some run cycle of type N names the day and no run cycle of type X does.
-/// With it go the run cycle of least name among those of type N, and its deadline. The run cycles are those of one
+/// It has the run cycle of least name among those of type N, and the deadline of that. The run cycles are those of one
 /// application. A run cycle whose period is not among `periods` names nothing.
 pub fn generate(
     alloc: Global,

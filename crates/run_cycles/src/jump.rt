@@ -40,7 +40,7 @@ fn reach(period: &Period) -> u16
     }
 }
 
-// Appends the offset if it is within reach and isn't there.
+// Appends the offset if it is within reach and not in the list yet.
 fn push_within(kept: &mut Vec<i16>, offset: i16, reach: u16) -> Result<(), AllocError>
     ensures kept { OnOk result (AddsWithin reach offset kept.old.items kept.new.items) }
     ensures few { length kept.new.items ≤ length kept.old.items + 1 }
@@ -227,8 +227,8 @@ fn rank_after(index: &mut CountedIndex, day: Day) -> usize
     }
 }
 
-// Appends the days that the offsets give in the intervals that meet the range, as far as the window has them, and tells
-// how many intervals the walk visited.
+// Appends the days that the offsets give in the intervals that meet the range, as far as the window has them, and
+// returns how many intervals the walk visited.
 fn push_intervals(
     days: &mut Vec<Day>,
     index: &mut CountedIndex,
@@ -359,7 +359,7 @@ fn window_of(cycle: &RunCycle, from: Day, to: Day) -> Window
 }
 
 /// The days that one run cycle names in a window, rising, each once, found by jumps from interval to interval of its
-/// period. All memory is taken by `new`.
+/// period. Only `new` allocates memory.
 #[derive(Debug, Drop)]
 pub struct JumpDays<'a> {
     days: Vec<Day>,
@@ -387,7 +387,7 @@ impl<'a> JumpDays<'a> {
     ghost use Rattle.run_cycles.specs.Jump.{AsksFew, ListsNamedDays, WalksRawRange};
 
     /// The days from `from` to `to` that the run cycle names, whose period this is; none where `to` is before `from`.
-    /// The index is handed in with no question asked.
+    /// The index that is passed has counted no question yet.
     pub fn new(
         alloc: Global,
         cycle: &RunCycle,

@@ -11,7 +11,7 @@ use plan_periods::Period;
 use work_calendars::{Day, WorkIndex};
 
 /// Whether the run cycle, whose period this is, names the day: it is in effect on it, and one of its offsets gives it.
-/// Takes no memory.
+/// Allocates no memory.
 pub fn names(cycle: &RunCycle, period: &Period, index: &WorkIndex, day: Day) -> bool
     requires { IsSoundPeriod period.now }
     ensures { IsTrue result ↔ NamesDay cycle.now period.now (is_work_in index.now) day }

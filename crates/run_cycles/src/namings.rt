@@ -19,9 +19,9 @@ pub(crate) struct Given {
     pub(crate) deadline: Deadline,
 }
 
-/// A day and time that a run cycle names, with what it gives there, or none where it takes away. In their order those
-/// of one day and time stand together, what is taken away before what is given, and what is given by the names of its
-/// run cycles. So the first of them decides.
+/// A day and time that a run cycle names, with what it gives there, or none where it takes away. In their order, those
+/// of one day and time come together: first what is taken away, then what is given, by the names of the run cycles. So
+/// the first one decides.
 #[derive(Clone, Copy, Debug, PartialEq, Eq, PartialOrd, Ord)]
 pub(crate) struct Naming {
     pub(crate) day: Day,

@@ -62,7 +62,7 @@ impl Periods {
         Ok(())
     }
 
-    /// Takes away the period of this name, and tells whether it was there. Takes no memory.
+    /// Removes the period of this name, and returns whether there was one. Allocates no memory.
     pub fn remove(&mut self, name: &Short) -> bool
         ensures found { IsTrue result ↔ IsSome (map.get self.old name.now) }
         ensures removed { self.new ≡ map.remove self.old name.now }

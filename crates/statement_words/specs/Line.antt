@@ -4,7 +4,7 @@ use Rattle.std.specs.Int.{is_in_range}
 use Rattle.std.specs.List.{slice_split}
 use Rattle.statement_words.specs.Grammar.{Text}
 
--- a blank (32) or a tab (9), which part words
+-- a blank (32) or a tab (9), which separate words
 abbrev pub is_blank : ℕ → Bool
 is_blank b = b == 32 || b == 9
 
@@ -19,11 +19,11 @@ abbrev pub has_bytes : Text → Bool
 has_bytes [] = false
 has_bytes (x ∷ xs) = true
 
--- the line cut at each blank and tab; the pieces between two that stand together are no words
+-- the line cut at each blank and tab; there is no word between two that are next to each other
 abbrev pub words_of : List ℕ → List Text
 words_of line = filter has_bytes (slice_split is_blank line)
 
--- words, parted by one blank each
+-- words, separated by one blank each
 abbrev pub joined : List Text → List ℕ
 joined [] = []
 joined (word ∷ rest) = word ++ flat_map (λ more. 32 ∷ more) rest

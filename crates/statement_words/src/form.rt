@@ -10,8 +10,8 @@ use clap::error::ErrorKind;
 use clap::{Arg, ArgAction, Command};
 use std::alloc::{AllocError, Global};
 
-/// What a statement takes after its name: options that have to be there and options that may be,
-/// each with one value and used at most once, and one plain word under a name of its own, or none.
+/// What may follow a statement's name: required options and optional ones, each with one value and used at most once,
+/// and one plain word under a name of its own, or none.
 #[derive(Clone, Copy, Debug)]
 pub struct Form<'f> {
     pub required: &'f [&'static str],
@@ -20,8 +20,8 @@ pub struct Form<'f> {
 }
 
 impl Form<'_> {
-    /// What the words say, where they are in the grammar of the form, and else `None`. An `Err` is
-    /// for want of memory alone.
+    /// What the words say if they are in the grammar of the form, else `None`. An `Err` means only that memory was
+    /// refused.
     pub fn read<'a>(
         &self,
         alloc: Global,

@@ -1,7 +1,7 @@
 //! The words of a statement: how a line is cut into words, and what `clap` reads of them.
 //!
-//! A [`Form`] says which options a statement has. It takes the words after the statement's name in any order, and gives
-//! their [`Values`], or `None` where the words are not those of the form:
+//! A [`Form`] says which options a statement has. It accepts the words after the statement's name in any order, and
+//! returns their [`Values`], or `None` where the words are not those of the form:
 //!
 //! ```text
 //! let form = Form { required: &["app", "from"], optional: &["to"], word: Some("KIND") };

@@ -75,7 +75,7 @@ fn is_blank(byte: u8) -> bool
     byte == b' ' || byte == b'\t'
 }
 
-// How many blanks and tabs stand at the front.
+// How many blanks and tabs are at the front.
 fn blanks_before(line: &[u8]) -> usize
     ensures count { result ≡ prefix_len is_blank_byte line.now }
     ensures within { result ≤ length line.now }
@@ -83,7 +83,7 @@ fn blanks_before(line: &[u8]) -> usize
     line.iter().take_while(|byte| is_blank(**byte)).count()
 }
 
-// How many bytes stand before the first blank or tab.
+// How many bytes come before the first blank or tab.
 fn word_len(text: &[u8]) -> usize
     ensures count { result ≡ prefix_len is_word_byte text.now }
     ensures within { result ≤ length text.now }

@@ -97,7 +97,7 @@ change_of verb.CpReset a = act_of action.Reset a
 change_of verb.CpDelete a = act_of action.Delete a
 change_of _ a = None
 
--- a trial of each function, with the options that it takes and no others
+-- a trial of each function, with the options that it accepts and no others
 abbrev pub plan_trial_of : Arguments → FunctionWord → Option PlanFunction
 plan_trial_of a function.Create = if a.has_app then None else create_of a
 plan_trial_of a function.Extend = if a.has_from || a.has_app then None else extend_of a

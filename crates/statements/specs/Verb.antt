@@ -1,4 +1,4 @@
--- The table of the statements: the name of each, and what stands after it.
+-- The table of the statements: the name of each, and what follows it.
 use Rattle.std.specs.Prelude.{ℕ, true, false, List, [], ◌∷◌, Option, Some, None, map, codes}
 use Rattle.statement_words.specs.Grammar.{Layout, Text}
 use Rattle.statements.specs.declared.verbs.Verb.{Verb}

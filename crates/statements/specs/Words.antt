@@ -1,4 +1,4 @@
--- The words that stand without an option, and the word of which days are counted.
+-- The words without an option, and the word that says which days are counted.
 use Rattle.std.specs.Prelude.{ℕ, List, codes}
 use Rattle.statements.specs.declared.words.KindWord.{KindWord}
 use Rattle.statements.specs.declared.words.KindWord.TheVariants as kind

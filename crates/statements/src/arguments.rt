@@ -2,8 +2,8 @@
 use crate::{CountWord, FunctionWord, JobNumber, KindWord, WhatWord};
 use work_calendars::{App, Day, Moment, Name};
 
-/// Each option that a statement may have, with its value where that has the option's form, and whether those options
-/// stand there that may be missing.
+/// Each option that a statement may have, with its value where that has the option's form, and, for those options that
+/// may be missing, whether they are there.
 #[derive(Clone, Copy, Debug)]
 pub(crate) struct Arguments {
     pub(crate) job: Option<JobNumber>,

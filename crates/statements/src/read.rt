@@ -14,9 +14,9 @@ use statement_words::{is_line_text, words_in};
 use std::alloc::{AllocError, Global};
 use work_calendars::{LONGEST_SHORT_NAME, Name};
 
-/// The statement that the line is, or `None` where it is no statement: a name that is not among the
-/// statements', an option that is unknown, missing or doubled, a value that is not of its form, a
-/// word too many, a request for help. An `Err` is for want of memory alone.
+/// The statement that the line is, or `None` where it is no statement: a name that is not among the statements', an
+/// option that is unknown, missing or doubled, a value that is not of its form, a word too many, a request for help.
+/// An `Err` means only that memory was refused.
 pub fn read_statement(alloc: Global, line: &[u8]) -> Result<Option<Statement>, AllocError>
     ensures { IfOk result (Reads line.now) }
 {
@@ -36,7 +36,7 @@ pub fn read_statement(alloc: Global, line: &[u8]) -> Result<Option<Statement>, A
     }
 }
 
-/// The statement of that name which the values make.
+/// The statement of that name that the values make.
 fn statement_of(verb: Verb, a: &Arguments) -> Option<Statement>
     ensures { result ≡ statement_of verb a.now }
 {
@@ -74,7 +74,7 @@ fn statement_of(verb: Verb, a: &Arguments) -> Option<Statement>
     }
 }
 
-/// The change of that name which the values make; none where the name is of no change.
+/// The change of that name that the values make; none if no change has the name.
 fn change_of(verb: Verb, a: &Arguments) -> Option<ChangeStatement>
     ensures { result ≡ change_of verb a.now }
 {
@@ -184,7 +184,7 @@ fn act_of(action: Action, a: &Arguments) -> Option<ChangeStatement>
     })
 }
 
-/// The function of `ltp-trial`, with the options that it takes and no others.
+/// The function of `ltp-trial`, with the options that it accepts and no others.
 fn plan_trial_of(a: &Arguments, function: FunctionWord) -> Option<PlanFunction>
     ensures { result ≡ plan_trial_of a.now function }
 {
@@ -203,7 +203,7 @@ fn plan_trial_of(a: &Arguments, function: FunctionWord) -> Option<PlanFunction>
     }
 }
 
-/// The function of `dp-trial`, with the options that it takes and no others.
+/// The function of `dp-trial`, with the options that it accepts and no others.
 fn daily_trial_of(a: &Arguments, function: FunctionWord) -> Option<DailyFunction>
     ensures { result ≡ daily_trial_of a.now function }
 {
@@ -219,7 +219,7 @@ fn daily_trial_of(a: &Arguments, function: FunctionWord) -> Option<DailyFunction
     }
 }
 
-/// `list`, with its option where that stands there.
+/// `list`, with its option if that is there.
 fn list_of(a: &Arguments) -> Option<Statement>
     ensures { result ≡ list_of a.now }
 {

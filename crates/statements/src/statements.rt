@@ -1,4 +1,4 @@
-//! What a line can say, in the shape of what is asked: a change under its job number, a trial, or something to show.
+//! What a line can say: a change with its job number, a trial, or something to show.
 use crate::{CountWord, JobNumber, KindWord, WhatWord};
 use occurrences::{Action, Key};
 use work_calendars::{App, Day, Moment, Name};
@@ -30,14 +30,14 @@ pub enum DailyFunction {
 /// A statement that changes something, without its job number, and without data.
 #[derive(Clone, Copy, Debug, PartialEq, Eq)]
 pub enum ChangeStatement {
-    /// `undefine`: to take one name's definition away. That of a period has at most 8 characters, and of run cycles and
-    /// predecessors the name is the application's.
+    /// `undefine`: to remove one name's definition. The name of a period has at most 8 characters; for run cycles and
+    /// predecessors it is the application's.
     Undefine { kind: KindWord, name: Name },
     /// `ltp-create` to `ltp-modify-one`: to plan.
     Plan(PlanFunction),
     /// `ltp-add`: to add an occurrence to the long-term plan.
     Add { key: Key },
-    /// `ltp-delete`: to take an occurrence out of the long-term plan.
+    /// `ltp-delete`: to delete an occurrence from the long-term plan.
     Delete { key: Key },
     /// `dp-extend`, `dp-replan`: to make a daily plan.
     Daily(DailyFunction),
@@ -50,7 +50,7 @@ pub enum ChangeStatement {
 /// A statement of a job stream.
 #[derive(Clone, Copy, Debug, PartialEq, Eq)]
 pub enum Statement {
-    /// `define`: to take the definitions of the data block that follows, under a job number.
+    /// `define`: to merge the definitions of the data block that follows, under a job number.
     Define {
         kind: KindWord,
         job: JobNumber,

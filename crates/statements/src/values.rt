@@ -36,7 +36,7 @@ pub(crate) fn arguments_in(values: &Values<'_>) -> Arguments
     }
 }
 
-/// Whether the option `name` stands there.
+/// Whether the option `name` is there.
 fn is_given(values: &Values<'_>, name: &str) -> bool
     ensures { result ≡ is_some (value_in values.now name.now) }
 {

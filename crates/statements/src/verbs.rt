@@ -1,4 +1,4 @@
-//! The names of statements, and the words that each takes.
+//! The names of statements, and the words that may follow each.
 ghost use Rattle.std.specs.Prelude.{◌≡◌, ◌≢◌, IfSome, IfNone};
 ghost use Rattle.statement_words.specs.Form.{layout_of};
 ghost use Rattle.statements.specs.Verb.{layout_for, verb_text};
@@ -81,7 +81,7 @@ impl Verb {
         }
     }
 
-    /// What stands after the name.
+    /// What follows the name.
     pub fn form(self) -> Form<'static>
         ensures { layout_of result ≡ layout_for self }
     {

@@ -109,7 +109,7 @@ pub enum WhatWord {
     Cp,
     /// `history`: occurrences that were completed.
     History,
-    /// `deletions`: occurrences that were taken out.
+    /// `deletions`: occurrences that were deleted or withdrawn.
     Deletions,
     /// `dependencies`: pairs of a successor and its predecessor.
     Dependencies,

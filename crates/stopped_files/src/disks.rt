@@ -52,7 +52,7 @@ fn memory_of(alloc: Global, bytes: &[u8]) -> Option<Memory> {
     Some(file)
 }
 
-/// Whether one of the files takes no further call.
+/// Whether one of the files has stopped.
 pub fn have_stopped<D: Disk>(disks: &mut Files<D>) -> bool {
     if !disks.may_be_used() {
         return true;

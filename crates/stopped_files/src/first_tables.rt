@@ -66,7 +66,7 @@ fn rows_after(alloc: Global, text: &[u8]) -> Result<Vec<Shown>, Wrong> {
     }
 }
 
-/// The text that puts a row of two names into the table, if its rows have limits beside them in the current schema.
+/// The text that inserts a row of two names into the table, if its rows also have limits in the current schema.
 fn names_text(table: Table) -> Option<&'static str> {
     match table {
         Table::Predecessor => Some("INSERT INTO predecessor (app, pred) VALUES (?1, ?2)"),
@@ -99,7 +99,7 @@ fn first_values(alloc: Global, table: Table, row: &Row) -> Result<Vec<ValueRef<'
     Ok(values)
 }
 
-/// Puts a row into its table.
+/// Inserts a row into its table.
 fn put_row<S: Alter>(
     tx: &mut Transaction<'_, S>,
     table: Table,
@@ -114,7 +114,7 @@ fn put_row<S: Alter>(
     }
 }
 
-/// Puts the rows into their table.
+/// Inserts the rows into their table.
 fn put_rows<S: Alter>(
     tx: &mut Transaction<'_, S>,
     alloc: Global,
@@ -127,7 +127,7 @@ fn put_rows<S: Alter>(
     Ok(())
 }
 
-/// Puts all rows into their tables.
+/// Inserts all rows into their tables.
 fn put_all<S: Alter>(alloc: Global, conn: &mut Connection<S>, all: &[Shown]) -> Result<(), Error>
     requires { conn.old.in_transaction ≡ false }
 {
@@ -189,7 +189,7 @@ fn files_with<D: Disk + Drop>(
     }
 }
 
-/// Files of a plan of schema 1 that has what a run of the stream leaves, limits aside.
+/// Files of a plan of schema 1 that has what a run of the stream leaves, without limits.
 pub fn first_files(alloc: Global, text: &[u8]) -> Result<Disks, Wrong> {
     let all = rows_after(alloc, text)?;
     files_with(alloc, new_disks(alloc, Stopping::Log, u64::MAX), &all)

@@ -6,13 +6,13 @@ use std::alloc::{AllocError, Global};
 /// A statement of a stream that gets an answer.
 #[derive(Clone, Copy, Debug, PartialEq, Eq)]
 pub struct Placed {
-    /// The place behind it, and behind its data block if it has one.
+    /// The place after it, and after its data block if it has one.
     pub end: usize,
-    /// Whether it carries a job number, as all do that change something.
+    /// Whether it has a job number, as all do that change something.
     pub has_job: bool,
 }
 
-/// Whether the line gets no answer: a comment, or blanks alone.
+/// Whether the line gets no reply: a comment, or blanks alone.
 fn is_passed_over(line: &[u8]) -> bool {
     line.first() == Some(&b'*')
         || line
@@ -37,8 +37,8 @@ fn ends_data(line: &[u8]) -> bool {
     line == b"/*".as_slice() || line == b"/*\r".as_slice()
 }
 
-/// The place behind the first statement, and its data block if it has one, that ends in the second half of the
-/// stream; the end of the stream where none does.
+/// The place after the first statement, with its data block if it has one, that ends in the second half of the stream;
+/// the end of the stream if none does.
 pub fn middle_of(text: &[u8]) -> usize
     ensures { result ≤ length text.now }
 {

@@ -11,18 +11,18 @@ use sqlite_disk::{Crash, Disk};
 use std::alloc::{AllocError, Global};
 use table_schema::SCHEMA_VERSION;
 
-/// What came of trying all stops of a migration.
+/// The result of trying all stops of a migration.
 #[derive(Clone, Copy, Debug, PartialEq, Eq)]
 pub struct Migrations {
-    /// After how many stops the tables of schema 1 stood.
+    /// After how many stops the tables were those of schema 1.
     pub stayed: u64,
-    /// After how many those of the current schema did.
+    /// After how many they were those of the current schema.
     pub went: u64,
     /// What was not as it should be after one more, if anything.
     pub wrong: Option<Wrong>,
 }
 
-/// What stood after a migration.
+/// What was there after a migration.
 #[derive(Clone, Copy, Debug, PartialEq, Eq)]
 enum Stood {
     /// The tables of schema 1, after a stop.
@@ -33,7 +33,7 @@ enum Stood {
     Unstopped,
 }
 
-/// The files of a connection, with the log copied into the database file where that goes.
+/// The files of a connection, with the log copied into the database file if that works.
 fn closed<D: Disk + Drop>(conn: Connection<FileStore<D>>) -> Files<D> {
     match conn.close_files() {
         Ok(disks) => disks,
@@ -102,8 +102,8 @@ fn is_same<S: Alter + Drop>(
     is_after(alloc, &mut conn, stream.text)
 }
 
-/// Goes on from what a crash left of the files: the plan is migrated, has what a run of the stream leaves, and answers
-/// the stream as that run. Gives the version that stood.
+/// Continues from what a crash left of the files: the plan is migrated, has what a run of the stream leaves, and gives
+/// the stream the same replies as that run. Returns the version that was there.
 fn go_on<D: Crash + Drop>(
     alloc: Global,
     disks: Files<D>,
@@ -115,7 +115,7 @@ fn go_on<D: Crash + Drop>(
     Ok(found)
 }
 
-/// What stood after a migration that was done or not, over files of which one has stopped or not.
+/// What was there after a migration that was done or not, over files of which one has stopped or not.
 fn judged(is_migrated: bool, has_stopped: bool, version: u32) -> Result<Stood, Wrong> {
     if is_migrated && version != SCHEMA_VERSION {
         Err("version after a migration")
@@ -130,7 +130,7 @@ fn judged(is_migrated: bool, has_stopped: bool, version: u32) -> Result<Stood, W
     }
 }
 
-/// Migrates the plan in the files, of which one may stop, and goes on from there.
+/// Migrates the plan in the files, of which one may stop, and continues from there.
 fn try_files<D: Crash + Drop>(
     alloc: Global,
     disks: Files<D>,
@@ -207,7 +207,7 @@ fn try_both(alloc: Global, files: &Disks, stream: &Stream<'_>) -> Migrations {
 
 /// Makes of what a run of the stream leaves a plan of schema 1, and migrates it over files of which one stops at each
 /// call in turn. After each stop a crash loses what was not made safe, and the files are opened again: the plan is of
-/// one of both versions, and migrated, adopted and asked it is the same.
+/// one of both versions, and once migrated and adopted it gives the same replies.
 pub fn try_migrations(
     alloc: Global,
     text: &[u8],

@@ -10,7 +10,7 @@ use sqlite::{Alter, Connection, FileStore, Files};
 use sqlite_disk::{Crash, Disk};
 use std::alloc::{AllocError, Global};
 
-/// What came of trying all stops of a stream.
+/// The result of trying all stops of a stream.
 #[derive(Clone, Copy, Debug, PartialEq, Eq)]
 pub struct Stops {
     /// How many stops were tried.
@@ -30,7 +30,7 @@ struct FirstRun<D: Disk> {
     disks: Files<D>,
 }
 
-/// Says nothing of what a run begins with.
+/// Ignores what a run begins with.
 #[derive(Drop)]
 struct Untold;
 
@@ -97,7 +97,7 @@ fn run_first<D: Disk + Drop>(alloc: Global, disks: Files<D>, stream: &Stream<'_>
     }
 }
 
-/// Nothing where the tables have what the first so many statements leave, or those and one more.
+/// Nothing if the tables have what the first so many statements leave, or those and one more.
 fn is_after_count<S: Alter>(
     alloc: Global,
     conn: &mut Connection<S>,
@@ -172,7 +172,7 @@ fn look_at_end<D: Crash + Drop>(
     is_after(alloc, &mut conn, stream.text)
 }
 
-/// Tries the stream over the files, of which one may stop; answers whether none did until they were closed.
+/// Tries the stream over the files, of which one may stop; returns whether none did until they were closed.
 fn try_stop<D: Crash + Drop>(
     alloc: Global,
     disks: Files<D>,

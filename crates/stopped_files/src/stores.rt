@@ -1,5 +1,5 @@
-//! A store over files: they are opened, asked, and let go. Each function is over any files or any store, since a proof over
-//! files that are named takes ten times as long.
+//! A store over files: they are opened, queried, and closed. Each function is over any files or any store, because a
+//! proof over particular files takes ten times as long.
 ghost use Rattle.std.specs.Prelude.{◌≡◌, false, IfOk};
 ghost use Rattle.sqlite.specs.Held.{IsNew};
 ghost use Rattle.stopped_files.specs.Sound.{KeepsSound};
@@ -14,7 +14,7 @@ use sqlite_disk::{Crash, Disk};
 use std::alloc::Global;
 use table_opening::open_content;
 
-/// A connection to the files; they come back where they are not opened.
+/// A connection to the files; they are returned if they are not opened.
 pub fn connect<D: Disk + Drop>(
     alloc: Global,
     disks: Files<D>,

@@ -1,4 +1,4 @@
--- What buffers keep of a line, and what is taken of it at once.
+-- What buffers keep of a line, and what is consumed of it at once.
 use Rattle.std.specs.Prelude.{◌≡◌, ◌≢◌, ℕ, List, ◌-◌, ◌++◌, true, Option, length, take, All, OnSome}
 use Rattle.std.specs.Io.{StopsAt, IsEmptyOrEndsWith}
 use Rattle.std.specs.Io.KnownBytes.{Consumes, IsAtEnd}
@@ -8,7 +8,7 @@ use Rattle.stream_items.specs.declared.lines.Taken.{Taken}
 abbrev pub kept : ℕ → List ℕ → List ℕ → List ℕ
 kept limit held bs = held ++ take (limit - length held) bs
 
--- bytes of a line are taken from a reader, up to its line feed or as far as they were shown, and two buffers keep them
+-- bytes of a line are consumed, up to its line feed or as far as the reader showed them, and two buffers keep them
 pub record TakesPart (before after : Option (List ℕ)) (head_limit : ℕ) (head head' : List ℕ)
     (all_limit : ℕ) (all all' : List ℕ) (taken : Taken) : Type 0 where
   pub bytes : List ℕ

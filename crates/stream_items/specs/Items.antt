@@ -26,7 +26,7 @@ pub data Block : Type 0 where
 
 -- an item of a text
 pub data Item : Type 0 where
-  -- a line that is no statement; the data after it, where some follow, are passed over
+  -- a line that is no statement; data after it, if any, are skipped
   NoStatement : Item
   -- a line without data
   Alone : (line : List ℕ) → Item
@@ -53,7 +53,7 @@ items_of_line Kinds.Skipped line rest = []
 items_of_line Kinds.NoStatement line rest = NoStatement ∷ []
 items_of_line Kinds.Statement line rest = statement_item line rest ∷ []
 
--- the items of lines; `within_data` says whether the first of them stand in data
+-- the items of lines; `within_data` says whether the first of them are in data
 unfoldable pub items_of_lines : Bool → List (List ℕ) → List Item
 items_of_lines within_data [] = []
 items_of_lines true (raw ∷ rest) = items_of_lines (not (ends_data (line_of raw))) rest

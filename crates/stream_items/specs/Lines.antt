@@ -8,7 +8,7 @@ use Rattle.statement_words.specs.Line.{is_line_byte, words_of}
 use Rattle.stream_items.specs.declared.line_kinds.LineKind.{LineKind}
 use Rattle.stream_items.specs.declared.line_kinds.LineKind.TheVariants.{Skipped, NoStatement, Statement}
 
--- the pieces of a text parted by line feeds, each with the line feed that ends it; the last one may lack it
+-- the pieces of a text separated by line feeds, each with the line feed that ends it; the last one may lack it
 unfoldable pub raw_lines : List ℕ → List (List ℕ)
 raw_lines [] = []
 raw_lines (x ∷ xs) = if x == 10 then (x ∷ []) ∷ raw_lines xs else onto_first x (raw_lines xs)
@@ -34,7 +34,7 @@ is_define (Some word) = bytes_eq word (codes "define")
 abbrev pub first_word : List ℕ → Option Text
 first_word line = slice_get (words_of line) 0
 
--- data follow a line whose front has `define` as its first word, whatever else stands in it
+-- data follow a line whose front has `define` as its first word, whatever else is in it
 unfoldable pub opens_data : List ℕ → Bool
 opens_data line = is_define (first_word (take longest_line line))
 

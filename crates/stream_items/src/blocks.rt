@@ -10,7 +10,7 @@ use std::io::BufRead;
 /// The most bytes that a block of data may have.
 pub const LONGEST_BLOCK: usize = 262_144;
 
-/// How many bytes of a line of data are held beside its block: those of `/*` and of its end.
+/// How many bytes of a line of data are held apart from its block: those of `/*` and of its end.
 const END_ROOM: usize = 4;
 
 /// How many bytes of a block are held: one more than it may have.

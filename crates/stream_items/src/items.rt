@@ -14,7 +14,7 @@ pub enum Block<'a> {
 /// An item of a stream. Its line has neither line feed nor carriage return at its end.
 #[derive(Clone, Copy, Debug)]
 pub enum Item<'a> {
-    /// A line that is no statement; data after it were passed over.
+    /// A line that is no statement; data after it were skipped.
     NoStatement,
     /// A line without data.
     Alone(&'a [u8]),

@@ -39,7 +39,7 @@ fn keep(held: &mut Vec<u8>, limit: usize, bytes: &[u8]) -> Result<(), ReadFault>
     ensures err { OnErr result (held.new.items ≡ held.old.items) }
     ensures bound { length held.new.items ≤ max limit (length held.old.items) }
 {
-    // A buffer past its limit keeps what it has: none here is, and no caller has to show it.
+    // A buffer past its limit keeps what it has. No buffer here is past it, and no caller has to prove that.
     let room = limit.saturating_sub(held.len()).min(bytes.len());
     match held.extend_from_slice(&bytes[..room]) {
         Ok(()) => Ok(()),
@@ -47,7 +47,7 @@ fn keep(held: &mut Vec<u8>, limit: usize, bytes: &[u8]) -> Result<(), ReadFault>
     }
 }
 
-/// What was taken of a line at once.
+/// What was consumed of a line at once.
 struct Taken {
     /// How many bytes.
     len: usize,
@@ -55,7 +55,7 @@ struct Taken {
     is_done: bool,
 }
 
-/// Takes what the reader shows of a line, and puts its first bytes into both buffers.
+/// Consumes what the reader shows of a line, and puts its first bytes into both buffers.
 fn take_part<R: BufRead>(
     reader: &mut R,
     head: &mut Vec<u8>,
@@ -80,8 +80,8 @@ fn take_part<R: BufRead>(
     Ok(Taken { len: end, is_done })
 }
 
-/// Takes one line from a reader, its line feed included. `head` and `all` each get its bytes as far
-/// as they have room. Answers whether there was a line. Every error of the reader is a fault.
+/// Consumes one line of a reader, with its line feed. `head` and `all` each get its bytes as far as they have room.
+/// Returns whether there was a line. Every error of the reader is a fault.
 pub fn read_line<R: BufRead>(
     reader: &mut R,
     head: &mut Vec<u8>,

@@ -17,7 +17,7 @@ use std::io::BufRead;
 const LINE_ROOM: usize = LONGEST_LINE + 2;
 
 impl Page {
-    /// A page with nothing on it. It takes no memory.
+    /// A page with nothing on it. It allocates no memory.
     pub fn new(alloc: Global) -> Page
         ensures { item_on result ≡ None }
     {
@@ -29,10 +29,10 @@ impl Page {
         }
     }
 
-    /// Reads the next item; blank lines and comments before it are passed over. At the end of the stream, and after a
+    /// Reads the next item; blank lines and comments before it are skipped. At the end of the stream, and after a
     /// fault, the page has none. Every error of the reader is a fault.
     pub fn read_item<R: BufRead>(&mut self, reader: &mut R) -> Result<(), ReadFault>
-        // Where the reader tells its bytes, the item is the first of those that they read as.
+        // If the reader's bytes are known, the item is the first of those that they read as.
         ensures read { OnOk result (IfSome (R.remaining reader.old) (λ text.
             ItemRead text (item_on self.new) (R.remaining reader.new))) }
         ensures fault { OnErr result (item_on self.new ≡ None) }

@@ -1,4 +1,4 @@
--- Rows that are put behind others, as sets.
+-- Rows that are appended to others, as sets.
 use Rattle.std.specs.Prelude.{◌≡◌, ◌≢◌, ◌↔◌, ◌⊎◌, ℕ, ◌<◌, List, Some, slice_get, AllPairs, Contains, take}
 use Rattle.std.specs.FinMap as map
 use Rattle.sqlite.specs.Order.{Row as Values}
@@ -19,7 +19,7 @@ pub record Adds (cells : ℕ) (Is : Values → Type 0) (old new : List Values) :
   pub keys : HaveOwnKeys cells old → ((v w : Values) → Contains old v → Is w → AreApart cells v w)
       → HaveOwnKeys cells new
 
--- a row of what stands in the list, at one of the first places
+-- a row of an entry of the list, at one of the first places
 abbrev pub IsOfPlace : {X : Type 0} → (ℕ → X → Values → Type 0) → List X → ℕ → Values → Type 0
 IsOfPlace {X} IsAt xs places values =
     (place : ℕ) × (x : X) × (place < places) × (slice_get xs place ≡ Some x) × IsAt place x values

@@ -24,7 +24,7 @@ IsReadRow name kept values = (values ≡ kept) × (length kept ≡ 9) × (column
 abbrev pub IsReadPart : List ℕ → Values → ByPlace ℤ → Values → Type 0
 IsReadPart name kept offsets values = IsReadRow name kept values ⊎ IsPlaced (offset_tail name) offsets values
 
--- such is each run cycle that is defined
+-- each run cycle that is defined is so
 pub record IsSoundPart (name : List ℕ) (part : CyclePart) : Type 0 where
   pub short : IsShort name
   pub told : IsReadableCycle part.told

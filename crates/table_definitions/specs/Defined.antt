@@ -5,7 +5,8 @@ use Rattle.table_definitions.specs.DraftedPeriods.{IsSoundPeriodOfDays}
 use Rattle.table_definitions.specs.Gathering.{AreSound}
 use Rattle.table_definitions.specs.WholeCycles.{AreSoundCycles}
 
--- names are names, days are days, and each definition is sound for itself; whether it is told by rows is not asked
+-- names are names, days are days, and each definition is sound for itself; whether rows can encode it doesn't matter
+-- here
 pub record AreSoundDefinitions (all : Definitions) : Type 0 where
   pub applications : AreSound IsSoundApplication all.applications
   pub calendars : AreSound IsSoundCalendar all.calendars

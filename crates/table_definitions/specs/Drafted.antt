@@ -1,4 +1,4 @@
--- What rows of one name have told so far, kind by kind, and definitions that rows can tell.
+-- What rows of one name have encoded so far, kind by kind, and definitions that rows can encode.
 use Rattle.std.specs.Prelude.{◌≡◌, ◌⊎◌, ℕ, List, [], ◌∷◌, Option, Some, None, length, Contains, IfSome}
 use Rattle.std.specs.FinMap as map
 use Rattle.std.specs.List.{slice_index_or}
@@ -38,7 +38,7 @@ IsSoundApplication name a = IfSome a.calendar IsName
 abbrev pub calendar_values : List ℕ → ℕ → ℕ → DayStatus → Values
 calendar_values name kind day status = Text name ∷ natural kind ∷ natural day ∷ is_work status ∷ []
 
--- what a row of a calendar tells: kind 0 is a weekday, 1 a date
+-- what a row of a calendar encodes: kind 0 is a weekday, 1 a date
 abbrev pub TellsEntry : CalendarEntries → ℕ → ℕ → DayStatus → Type 0
 TellsEntry c kind day status = ((kind ≡ 0) × (slice_index_or c.weekdays day None ≡ Some status))
     ⊎ ((kind ≡ 1) × (map.get c.dates day ≡ Some status))
@@ -73,7 +73,7 @@ pub record IsSoundPredecessor (p : Predecessor) : Type 0 where
   pub name : IsName p.name
   pub within : IfSome p.within IsWithinHours
 
--- such are the predecessors of each application, in byte order of their names, each once
+-- the predecessors of each application are so, in byte order of their names, each once
 pub record AreSoundPredecessors (app : List ℕ) (listed : List Predecessor) : Type 0 where
   pub rising : AreRising (λ (p : Predecessor). p.name) listed
   pub each : (p : Predecessor) → Contains listed p → IsSoundPredecessor p

@@ -1,4 +1,4 @@
--- Run cycles as their rows tell them, the application and the offsets aside.
+-- Run cycles as their rows encode them, without the application and the offsets.
 use Rattle.std.specs.Prelude.{◌≡◌, ℕ, ◌<◌, ◌^◌, List, [], ◌∷◌, Option, option_map, IfSome}
 use Rattle.sqlite.specs.Order.{Row as Values, column}
 use Rattle.sqlite.specs.declared.types.Value.TheVariants.{Text}
@@ -18,12 +18,12 @@ told_values name t = Text name ∷ Text (type_letter t.kind) ∷ Text t.period �
     ∷ or_null (option_map (λ (d : Deadline). natural d.days) (deadline_of t.kind))
     ∷ or_null (option_map (λ (d : Deadline). natural d.time) (deadline_of t.kind)) ∷ []
 
--- what the row tells of the deadline
+-- what the row encodes of the deadline
 pub record HasDeadline (values : Values) (deadline : Option Deadline) : Type 0 where
   pub days : column values 7 ≡ or_null (option_map (λ (d : Deadline). natural d.days) deadline)
   pub time : column values 8 ≡ or_null (option_map (λ (d : Deadline). natural d.time) deadline)
 
--- what it tells of the type
+-- what it encodes of the type
 pub record HasType (values : Values) (kind : CycleType) : Type 0 where
   pub letter : column values 1 ≡ Text (type_letter kind)
   pub deadline : HasDeadline values (deadline_of kind)

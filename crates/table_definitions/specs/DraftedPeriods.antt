@@ -42,7 +42,7 @@ IsOfDays (period.All origin interval) = IsDay origin
 IsOfDays (period.Work origin interval) = IsDay origin
 IsOfDays (period.Listed entries) = AreOfDays entries
 
--- such is each period that is defined
+-- each period that is defined is so
 pub record IsSoundPeriodOfDays (name : List ℕ) (p : Period) : Type 0 where
   pub sound : IsSoundPeriod p
   pub days : IsOfDays p

@@ -24,7 +24,7 @@ pub record AreRead {X : Type 0} (IsRead : List ℕ → X → Values → Type 0) 
   pub rows : AreRowsOf IsRead read drafts
   pub some : (name : List ℕ) (x : X) → map.get drafts name ≡ Some x → (values : Values) × IsRead name x values
 
--- each definition has a name, and is such
+-- each definition has a name, and passes the test
 abbrev pub AreSound : {D : Type 0} → (List ℕ → D → Type 0) → ByName D → Type 0
 AreSound {D} Is all = (name : List ℕ) (d : D) → map.get all name ≡ Some d → IsName name × Is name d
 
@@ -40,13 +40,13 @@ abbrev pub IsFinish : {X D : Type 0} → (List ℕ → D → Values → Type 0) 
     → List ℕ → X → D → Type 0
 IsFinish IsRow IsRead name x d = Alike (IsRow name d) (IsRead name x)
 
--- and once a row was read, its rows tell it
+-- and once a row was read, its rows encode it
 pub record IsGathered {X D : Type 0} (IsRow : List ℕ → D → Values → Type 0) (IsRead : List ℕ → X → Values → Type 0)
     (IsTold : D → Type 0) (name : List ℕ) (x : X) (d : D) : Type 0 where
   pub alike : Alike (IsRow name d) (IsRead name x)
   pub told : (values : Values) → IsRead name x values → IsTold d
 
--- some definition that is such has the rows that were read
+-- some definition that passes the test has the rows that were read
 abbrev pub CanFinish : {X D : Type 0} → (List ℕ → D → Values → Type 0) → (List ℕ → X → Values → Type 0)
     → (List ℕ → D → Type 0) → List ℕ × X → Type 0
 CanFinish {X} {D} IsRow IsRead Is e = (d : D) × Is e.0 d × Alike (IsRow e.0 d) (IsRead e.0 e.1)

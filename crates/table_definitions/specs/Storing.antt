@@ -1,4 +1,4 @@
--- Rows that a table takes as they are.
+-- Rows that a table stores as they are.
 use Rattle.std.specs.Prelude.{◌≡◌, ◌↔◌, ℕ, List, map, Contains}
 use Rattle.sqlite.specs.Order.{Row as Values}
 use Rattle.sqlite.specs.Values.{bound_value}
@@ -11,7 +11,7 @@ use Rattle.table_facts.specs.Facts.{IsCalendarRow, IsCycleRow, IsOffsetRow, IsPe
 use Rattle.table_definitions.specs.Telling.{AreTellable}
 use Rattle.table_definitions.specs.declared.stored.StoredRows.{StoredRows}
 
--- no value changes where it is handed over, and none where it is stored
+-- no value changes as it is bound, and none as it is stored
 pub record IsStorable (t : Table) (values : Values) : Type 0 where
   pub kinds : AreOfKinds t values
   pub bound : map bound_value values ≡ values
@@ -20,7 +20,7 @@ pub record IsStorable (t : Table) (values : Values) : Type 0 where
 abbrev pub AreRowsOf : {D : Type 0} → (List ℕ → D → Values → Type 0) → List Values → ByName D → Type 0
 AreRowsOf {D} IsRow rows definitions = (values : Values) → Contains rows values ↔ IsOfSome IsRow definitions values
 
--- the rows of the six tables are those of the definitions, which they tell from all others
+-- the rows of the six tables are those of the definitions, which they distinguish from all others
 pub record HaveRows (stored : StoredRows) (given : Options) (all : Definitions) : Type 0 where
   pub calendars : AreRowsOf IsCalendarRow stored.calendars.items all.calendars
   pub periods : AreRowsOf IsPeriodRow stored.periods.items all.periods

@@ -1,4 +1,4 @@
--- Definitions that tables can tell from all others.
+-- Definitions that tables can distinguish from all others.
 use Rattle.std.specs.Prelude.{List, ⊤}
 use Rattle.run_cycles.specs.declared.cycles.RunCycle.{RunCycle}
 use Rattle.definition_records.specs.declared.predecessors.Predecessor.{Predecessor}

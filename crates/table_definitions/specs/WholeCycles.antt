@@ -1,4 +1,4 @@
--- The run cycles of applications, and their rows beside those of their offsets.
+-- The run cycles of applications, and their rows and those of their offsets.
 use Rattle.std.specs.Prelude.{◌≡◌, ◌↔◌, ◌⊎◌, ℕ, List, ◌∷◌, drop, length, All, Contains}
 use Rattle.std.proofs.Common.{ap, inl, inr, sym, ◌∙◌}
 use Rattle.sqlite.specs.Order.{Row as Values, column}
@@ -61,18 +61,18 @@ ArePartsOf parts cycles = (tail : Values) → IsTail cycles tail ↔ IsOfSome Is
 abbrev pub HaveShortNames : List (List ℕ × CyclePart) → Type 0
 HaveShortNames parts = All (λ (e : List ℕ × CyclePart). IsShort e.0) parts
 
--- such is each run cycle that is defined
+-- each run cycle that is defined is so
 pub record IsSoundCycle (c : RunCycle) : Type 0 where
   pub name : IsShort c.name
   pub told : IsReadableCycle (told_of c)
   pub offsets : IsOffsets c.offsets
 
--- such are the run cycles of each application
+-- the run cycles of each application are so
 pub record AreSoundCycles (app : List ℕ) (cycles : List RunCycle) : Type 0 where
   pub rising : AreRising (λ (c : RunCycle). c.name) cycles
   pub each : (c : RunCycle) → Contains cycles c → IsSoundCycle c
 
--- each row has so many columns
+-- each row has that many columns
 abbrev pub AreWide : ℕ → List Values → Type 0
 AreWide width rows = All (λ (values : Values). length values ≡ width) rows
 

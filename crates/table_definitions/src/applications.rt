@@ -72,7 +72,7 @@ pub fn application_rows(
     rows_of::<ApplicationRows>(alloc, applications)
 }
 
-// The application that a row of this name tells.
+// The application that a row of this name encodes.
 fn application_at(row: &Row, name: &Name) -> Option<Application>
     requires { column row.now 0 ≡ Text name.now }
     ensures value { IfSome result (λ a. row.now ≡ application_values name.now a) }
@@ -104,7 +104,7 @@ fn is_same(application: &Application, other: &Application) -> bool
     application.active == other.active && is_same_name(&application.calendar, &other.calendar)
 }
 
-// The one application that the rows told, if there was a row.
+// The one application that the rows encode, if there was a row.
 #[derive(Drop)]
 struct ApplicationDraft {
     application: Option<Application>,

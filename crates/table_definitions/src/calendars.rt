@@ -64,7 +64,7 @@ fn entry_row(
     )
 }
 
-// Puts the row of what is listed for that weekday behind the others.
+// Appends the row of what is listed for that weekday.
 fn push_weekday(
     alloc: Global,
     rows: &mut Vec<Row>,
@@ -86,7 +86,7 @@ fn push_weekday(
     }
 }
 
-// Puts the rows of what is listed for weekdays behind the others.
+// Appends the rows of what is listed for weekdays.
 fn push_weekdays(
     alloc: Global,
     rows: &mut Vec<Row>,
@@ -102,7 +102,7 @@ fn push_weekdays(
     Ok(())
 }
 
-// Puts the row of what is listed for that date behind the others.
+// Appends the row of what is listed for that date.
 fn push_date(
     alloc: Global,
     rows: &mut Vec<Row>,
@@ -142,7 +142,7 @@ fn listed_days(alloc: Global, dates: &[(Day, DayStatus)]) -> Result<Vec<Day>, Al
     Ok(days)
 }
 
-// Puts the rows of these dates behind the others.
+// Appends the rows of these dates.
 fn push_dates(
     alloc: Global,
     rows: &mut Vec<Row>,
@@ -161,7 +161,7 @@ fn push_dates(
     Ok(())
 }
 
-// Puts the rows of a calendar behind the others.
+// Appends the rows of a calendar.
 fn push_entries(
     alloc: Global,
     rows: &mut Vec<Row>,
@@ -207,7 +207,7 @@ pub fn calendar_rows(alloc: Global, calendars: &ByName<Calendar>) -> Result<Vec<
     rows_of::<CalendarRows>(alloc, calendars)
 }
 
-// The kind, the number and the status that a row of this calendar tells.
+// The kind, the number and the status that a row of this calendar encodes.
 fn entry_at(row: &Row, name: &Name) -> Option<(u32, u32, DayStatus)>
     requires { column row.now 0 ≡ Text name.now }
     ensures value { IfSome result (λ e. row.now ≡ calendar_values name.now e.0 e.1 e.2) }
@@ -232,7 +232,7 @@ fn is_same(status: DayStatus, other: DayStatus) -> bool
     }
 }
 
-// Lists the weekday, or answers whether it is listed so.
+// Lists the weekday. Returns false if it is listed with another status.
 fn list_weekday(calendar: &mut Calendar, place: u32, status: DayStatus) -> bool
     requires place { place < 7 }
     requires week { length calendar.old.weekdays ≡ 7 }
@@ -269,7 +269,7 @@ fn list_week_entry(calendar: &mut Calendar, place: u32, status: DayStatus) -> bo
     }
 }
 
-// Lists the date, or answers whether it is listed so.
+// Lists the date. Returns false if it is listed with another status.
 fn list_date(calendar: &mut Calendar, day: Day, status: DayStatus) -> Result<bool, AllocError>
     requires { length calendar.old.weekdays ≡ 7 }
     ensures kept { length calendar.new.weekdays ≡ 7 }
@@ -312,7 +312,7 @@ fn list_day_entry(
     }
 }
 
-// Lists an entry of that kind, or answers whether it is listed so.
+// Lists an entry of that kind. Returns false if it is listed with another status.
 fn list_entry(
     calendar: &mut Calendar,
     kind: u32,
@@ -345,7 +345,7 @@ fn copied(calendar: &Calendar) -> Result<Calendar, AllocError>
     calendar.clone()
 }
 
-// The calendar that the rows told.
+// The calendar that the rows encode.
 #[derive(Drop)]
 struct CalendarDraft {
     calendar: Calendar,

@@ -1,4 +1,4 @@
-// Run cycles of one application, read from their rows and those of their offsets, the application left out of both.
+// Run cycles of one application, read from their rows and those of their offsets, both without the application.
 
 ghost use Rattle.std.specs.Prelude.{◌≡◌, ◌<◌, ◌^◌, ℕ, ℤ, List, IfOk, IfSome, IsTrue, length};
 ghost use Rattle.std.specs.Prelude.{◌↔◌, ⊤, Option};
@@ -25,13 +25,13 @@ use work_calendars::Name;
 /// A run cycle without its name.
 #[derive(Drop)]
 pub(crate) struct CyclePart {
-    /// What its row tells.
+    /// What its row encodes.
     pub(crate) told: ToldCycle,
     /// Its offsets.
     pub(crate) offsets: Offsets,
 }
 
-// The place and the offset that a row of this run cycle tells.
+// The place and the offset that a row of this run cycle encodes.
 fn offset_at(row: &Row, name: &Name) -> Option<(u32, i16)>
     requires { column row.now 0 ≡ Text name.now }
     ensures value { IfSome result (λ e. row.now ≡ offset_tail name.now e.0 e.1) }
@@ -47,7 +47,7 @@ fn offset_at(row: &Row, name: &Name) -> Option<(u32, i16)>
     Some((place, k))
 }
 
-// Puts the offset at its place, or answers whether it stands there.
+// Puts the offset at its place. Returns false if another one is there.
 fn list_offset(offsets: &mut Places<i16>, place: usize, k: i16) -> Result<bool, AllocError>
     requires { place < 2 ^ 32 }
     ensures taken { IfOk result (λ b. (name : List ℕ) → IsTrue b
@@ -77,7 +77,7 @@ fn is_of(row: &Row, name: &Name) -> bool
     }
 }
 
-// Keeps the row, or answers whether it was kept.
+// Keeps the row. Returns false if another row of the name is kept.
 fn keep_row(kept: &mut Row, name: &Name, row: &Row) -> Result<bool, AllocError>
     requires long { length row.now ≡ 9 }
     requires named { column row.now 0 ≡ Text name.now }
@@ -93,7 +93,7 @@ fn keep_row(kept: &mut Row, name: &Name, row: &Row) -> Result<bool, AllocError>
     Ok(true)
 }
 
-// What the row that was kept tells.
+// What the row that was kept encodes.
 fn told_of(row: &Row, name: &Name) -> Option<ToldCycle>
     ensures value { IfSome result (λ t. row.now ≡ told_values name.now t) }
     ensures found { (t : ToldValue) → IsReadableCycle t → row.now ≡ told_values name.now t
@@ -106,7 +106,7 @@ fn told_of(row: &Row, name: &Name) -> Option<ToldCycle>
     }
 }
 
-/// What was told of a run cycle so far: its row, if one was read, and its offsets.
+/// What was decoded of a run cycle so far: its row, if one was read, and its offsets.
 #[derive(Drop)]
 pub(crate) struct PartDraft {
     row: Row,

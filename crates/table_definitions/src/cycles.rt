@@ -1,4 +1,4 @@
-// Rows of run cycles, their offsets aside.
+// Rows of run cycles, without their offsets.
 
 ghost use Rattle.std.specs.Prelude.{◌≡◌, length, option_map, IfOk, OnOk};
 ghost use Rattle.std.proofs.Common.{ap};
@@ -95,7 +95,7 @@ fn cycle_row(alloc: Global, app: &Name, cycle: &RunCycle) -> Result<Row, AllocEr
     )
 }
 
-// Puts the rows of these run cycles behind the others.
+// Appends the rows of these run cycles.
 fn push_cycles(
     alloc: Global,
     rows: &mut Vec<Row>,

@@ -20,14 +20,14 @@ pub(crate) trait Encoding {
     /// It is a row of the definition of the name.
     ghost IsRow: { List ℕ → Self.Of → Values → Type 0 };
 
-    /// How many cells beside the name tell a row of a definition from the others.
+    /// How many cells, apart from the name, distinguish a row of a definition from the others.
     ghost cells: { ℕ };
 
     /// A row begins with its name.
     ghost named: { (name : List ℕ) (d : Self.Of) (v : Values) → IsRow name d v
         → column v 0 ≡ Text name };
 
-    /// Puts the rows of the definition behind the others.
+    /// Appends the rows of the definition.
     fn push(
         alloc: Global,
         rows: &mut Vec<Row>,
@@ -38,7 +38,7 @@ pub(crate) trait Encoding {
             (Adds (suc cells) (IsRow name.now definition.now) rows.old.items rows.new.items) };
 }
 
-// Puts the rows of what is defined by the name behind the others.
+// Appends the rows of what is defined by the name.
 fn push_named<E: Encoding>(
     alloc: Global,
     rows: &mut Vec<Row>,
@@ -55,7 +55,7 @@ fn push_named<E: Encoding>(
     }
 }
 
-// Puts the rows of what is defined by these names behind the others.
+// Appends the rows of what is defined by these names.
 fn push_each<E: Encoding>(
     alloc: Global,
     rows: &mut Vec<Row>,

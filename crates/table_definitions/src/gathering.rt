@@ -1,4 +1,4 @@
-// Definitions gathered from the rows of a table.
+// Definitions collected from the rows of a table.
 
 ghost use Rattle.std.specs.Prelude.{◌≡◌, ◌∷◌, ◌++◌, ℕ, [], List, IfOk, IfSome, IsSome, IsTrue, All};
 ghost use Rattle.std.specs.FinMap as map;
@@ -17,18 +17,18 @@ use sqlite_value::row::Row;
 use std::alloc::{AllocError, Global};
 use work_calendars::Name;
 
-/// What the rows of a name have told so far.
+/// What the rows of a name have encoded so far.
 pub(crate) trait Draft: Drop {
-    /// The definition that they tell in the end.
+    /// The definition that they encode in the end.
     type Of: Drop;
 
     /// It is a row of the definition of the name.
     ghost IsRow: { List ℕ → Self.Of → Values → Type 0 };
 
-    /// It is such as can be told.
+    /// It is one that rows can encode.
     ghost IsSound: { List ℕ → Self.Of → Type 0 };
 
-    /// Its rows tell it from all others.
+    /// Its rows distinguish it from all others.
     ghost IsTold: { Self.Of → Type 0 };
 
     /// It is a row of the name that was read.
@@ -38,7 +38,7 @@ pub(crate) trait Draft: Drop {
     fn begin(alloc: Global) -> Self
         ensures { (name : List ℕ) (v : Values) → IsRead name result v → ⊥ };
 
-    /// Reads a row of the name, or answers that no definition has it beside the others.
+    /// Reads a row of the name, or returns that no definition has it together with the others.
     fn join(&mut self, name: &Name, row: &Row) -> Result<bool, AllocError>
         requires { column row.now 0 ≡ Text name.now }
         ensures taken { IfOk result (λ b. IsTrue b
@@ -76,7 +76,7 @@ fn draft_of<D: Draft>(alloc: Global, drafts: &mut Drafts<D>, name: &Name) -> D
     }
 }
 
-// Reads a row of the name, or answers that no definitions have it beside the others.
+// Reads a row of the name, or returns that no definitions have it together with the others.
 fn read_row<D: Draft>(
     alloc: Global,
     drafts: &mut Drafts<D>,
@@ -99,7 +99,7 @@ fn read_row<D: Draft>(
     Ok(true)
 }
 
-// Reads these rows, or answers that no definitions have them.
+// Reads these rows, or returns that no definitions have them.
 fn read_rows<D: Draft>(alloc: Global, rows: &[Row]) -> Result<Option<Drafts<D>>, AllocError>
     ensures read { IfOk result (λ found. IfSome found (AreRead D.IsRead rows.now)) }
     ensures refused { IfOk result (λ found. (all : Defined D.Of) → AreSound D.IsSound all

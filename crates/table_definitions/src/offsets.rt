@@ -40,7 +40,7 @@ fn offset_row<'n>(
     )
 }
 
-// Puts the rows of these offsets behind the others.
+// Appends the rows of these offsets.
 fn push_offsets(
     alloc: Global,
     rows: &mut Vec<Row>,
@@ -59,7 +59,7 @@ fn push_offsets(
     Ok(())
 }
 
-// Puts the rows of the offsets of a run cycle behind the others.
+// Appends the rows of the offsets of a run cycle.
 fn push_of_cycle(
     alloc: Global,
     rows: &mut Vec<Row>,
@@ -71,7 +71,7 @@ fn push_of_cycle(
     push_offsets(alloc, rows, app, &cycle.name, cycle.offsets.as_slice())
 }
 
-// Puts the rows of the offsets of these run cycles behind the others.
+// Appends the rows of the offsets of these run cycles.
 fn push_of_cycles(
     alloc: Global,
     rows: &mut Vec<Row>,

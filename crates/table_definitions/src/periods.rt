@@ -75,7 +75,7 @@ fn listed_row(
     )
 }
 
-// Puts the rows of these origins behind the others.
+// Appends the rows of these origins.
 fn push_listed(
     alloc: Global,
     rows: &mut Vec<Row>,
@@ -114,7 +114,7 @@ impl Encoding for PeriodRows {
     }
 }
 
-// Puts the row of the period behind the others, or the rows of its origins.
+// Appends the row of the period, or the rows of its origins.
 fn push_period(
     alloc: Global,
     rows: &mut Vec<Row>,
@@ -141,10 +141,11 @@ pub fn period_rows(alloc: Global, periods: &ByName<DefinedPeriod>) -> Result<Vec
     rows_of::<PeriodRows>(alloc, periods)
 }
 
-// An entry of a period as its row tells it: the letter of the period's type, the origin, and the interval or the end.
+// An entry of a period as its row encodes it: the letter of the period's type, the origin, and the interval or the
+// end.
 type Lettered = (u8, Day, Option<u32>);
 
-// The place and the entry that a row of this period tells.
+// The place and the entry that a row of this period encodes.
 fn entry_at(row: &Row, name: &Name) -> Option<(u32, Lettered)>
     requires { column row.now 0 ≡ Text name.now }
     ensures value { IfSome result (λ e. row.now ≡ lettered_values name.now e.0 e.1) }
@@ -177,7 +178,7 @@ fn is_same(entry: &Lettered, other: &Lettered) -> bool
     entry.0 == other.0 && entry.1.number() == other.1.number() && is_same_number(entry.2, other.2)
 }
 
-// Puts the entry at its place, or answers whether it stands there.
+// Puts the entry at its place. Returns false if another one is there.
 fn list_entry(
     entries: &mut Places<Lettered>,
     place: usize,
@@ -282,7 +283,7 @@ fn defined_of(alloc: Global, entries: &[Lettered]) -> Result<Option<DefinedPerio
     }
 }
 
-// The entries that the rows told.
+// The entries that the rows encode.
 #[derive(Drop)]
 struct PeriodDraft {
     entries: Places<Lettered>,

@@ -1,4 +1,4 @@
-// What stands at places, counted from 0.
+// Entries at places, counted from 0.
 
 ghost use Rattle.std.specs.Prelude.{◌≡◌, ◌<◌, ◌≤◌, ◌+◌, ◌^◌, ◌⊎◌, ℕ, List, OnOk, IfOk, IfSome, IsSome};
 ghost use Rattle.std.specs.FinMap as map;
@@ -16,7 +16,7 @@ fn end_with(end: usize, place: usize) -> usize
     if place < end { end } else { place + 1 }
 }
 
-/// What stands at places. Contracts see the map from places to it.
+/// Entries at places. Contracts see the map from places to entries.
 #[derive(Drop)]
 pub(crate) struct Places<X> {
     by_place: BTreeMap<usize, X>,
@@ -39,7 +39,7 @@ impl<X> Model for Places<X> {
 }
 
 impl<X> Places<X> {
-    /// Nothing stands anywhere.
+    /// No place has an entry.
     pub(crate) fn new(alloc: Global) -> Self
         ensures { result ≡ map.empty }
     {
@@ -49,7 +49,7 @@ impl<X> Places<X> {
         }
     }
 
-    /// What stands at this place.
+    /// The entry at this place.
     pub(crate) fn get(&self, place: usize) -> Option<X>
     where
         X: Copy,
@@ -70,7 +70,7 @@ impl<X> Places<X> {
         Ok(())
     }
 
-    /// All that stands at places in their order, or none where a place is left out.
+    /// All entries in the order of their places, or none if a place is left out.
     pub(crate) fn listed(&self, alloc: Global) -> Result<Option<Vec<X>>, AllocError>
     where
         X: Copy,

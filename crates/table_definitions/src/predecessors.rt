@@ -42,7 +42,7 @@ fn link_row(alloc: Global, app: &Name, predecessor: &Predecessor) -> Result<Row,
     )
 }
 
-// Puts the rows of these predecessors behind the others.
+// Appends the rows of these predecessors.
 fn push_links(
     alloc: Global,
     rows: &mut Vec<Row>,
@@ -93,7 +93,7 @@ pub fn predecessor_rows(
     rows_of::<PredecessorRows>(alloc, predecessors)
 }
 
-// The predecessor that a row of this application tells, with its limit.
+// The predecessor that a row of this application encodes, with its limit.
 fn predecessor_at(row: &Row, app: &Name) -> Option<Predecessor>
     requires { column row.now 0 ≡ Text app.now }
     ensures value { IfSome result (λ p. row.now ≡ predecessor_values app.now p) }
@@ -144,7 +144,7 @@ fn predecessors_of(
         .collect(alloc)
 }
 
-// The predecessors that the rows told: of each name its limit.
+// The predecessors that the rows encode: of each name its limit.
 #[derive(Drop)]
 struct PredecessorDraft {
     limits: ByName<Option<Within>>,

@@ -125,14 +125,14 @@ pub fn run_cycles_of_rows(
     read_cycles(alloc, rows, offset_rows)
 }
 
-// What tells days.
+// The definitions of days.
 #[derive(Drop)]
 struct Days {
     calendars: ByName<Calendar>,
     periods: ByName<DefinedPeriod>,
 }
 
-// What tells applications, beside their run cycles.
+// The definitions of applications, without their run cycles.
 #[derive(Drop)]
 struct Listed {
     applications: ByName<Application>,

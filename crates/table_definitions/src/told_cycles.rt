@@ -1,4 +1,4 @@
-// Run cycles as their rows tell them, the application and the offsets aside.
+// Run cycles as their rows encode them, without the application and the offsets.
 
 ghost use Rattle.std.specs.Prelude.{◌≡◌, ◌<◌, ◌^◌, ℕ, Option, IfSome};
 ghost use Rattle.sqlite.specs.Order.{column};
@@ -18,7 +18,7 @@ use run_cycles::{CycleType, Deadline, Rule};
 use sqlite_value::row::Row;
 use work_calendars::{Day, Minute, Name, Short};
 
-/// What the row of a run cycle tells beside the names.
+/// What the row of a run cycle encodes apart from the names.
 #[derive(Clone, Copy)]
 pub(crate) struct ToldCycle {
     /// Its type, with its deadline.
@@ -86,7 +86,7 @@ fn optional_deadline_at(row: &Row) -> Option<Option<Deadline>>
     }
 }
 
-// The type that a row tells, with its deadline.
+// The type that a row encodes, with its deadline.
 fn type_at(row: &Row) -> Option<CycleType>
     ensures value { IfSome result (HasType row.now) }
     ensures found { (kind : TypeValue) → IfSome (deadline_of kind) IsDeadline → HasType row.now kind
@@ -105,7 +105,7 @@ fn type_at(row: &Row) -> Option<CycleType>
     }
 }
 
-/// What the row of a run cycle of this name tells, the application left out.
+/// What the row of a run cycle of this name encodes, without the application.
 pub(crate) fn told_at(row: &Row, name: &Name) -> Option<ToldCycle>
     requires { column row.now 0 ≡ Text name.now }
     ensures value { IfSome result (λ t. row.now ≡ told_values name.now t) }

@@ -79,7 +79,7 @@ fn cycles_of(alloc: Global, parts: ByName<CyclePart>) -> Result<Option<RunCycles
     }
 }
 
-// What was told of the run cycles of an application so far: rows without it.
+// What was decoded of the run cycles of an application so far: rows without it.
 #[derive(Drop)]
 struct CyclesDraft {
     tails: Vec<Row>,
@@ -120,7 +120,7 @@ impl Draft for CyclesDraft {
     ghost read_named = { λ app x v is. kept_named app x.tails.items v is };
 }
 
-// Whether each of the rows has so many columns.
+// Whether each of the rows has that many columns.
 fn are_wide(rows: &[Row], width: usize) -> bool
     ensures { IsTrue result ↔ AreWide width rows.now }
 {

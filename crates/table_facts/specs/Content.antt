@@ -57,7 +57,7 @@ IsOfSet {X} values_of set values = (number : ℕ) × (x : X) × (set number ≡ 
 abbrev pub IsOfList : {X : Type 0} → (X → Values) → List X → Values → Type 0
 IsOfList {X} values_of xs values = (x : X) × Contains xs x × (values ≡ values_of x)
 
--- the line that a job was answered
+-- the reply line of a job
 abbrev pub answer_text : Result Reply Refusal → List ℕ
 answer_text (Ok reply) = reply_text reply
 answer_text (Err refusal) = refusal_text refusal
@@ -91,9 +91,9 @@ IsFact table.Deletion c values = IsOfSet deletion_values c.sets.deletions values
 IsFact table.Dependency c values = IsOfList pair_values c.pairs values
 IsFact table.Job c values = IsOfSet job_values c.jobs values
 
--- ---- what tables can tell
+-- ---- what tables can encode
 
--- each definition is such
+-- each definition is so
 abbrev pub AreEach : {D : Type 0} → (D → Type 0) → ByName D → Type 0
 AreEach {D} Is definitions = (name : List ℕ) (d : D) → maps.get definitions name ≡ Some d → Is d
 
@@ -112,7 +112,7 @@ pub record IsNamed {X : Type 0} (name_of : X → List ℕ) (xs : List X) : Type 
   pub rising : AreRising name_of xs
   pub some : xs ≢ []
 
--- under a number stands what has that number
+-- what is under a number has that number
 abbrev pub IsUnderOwn : {X : Type 0} → (X → ℕ) → (ℕ → Option X) → Type 0
 IsUnderOwn {X} number_of set = (number : ℕ) (x : X) → set number ≡ Some x → number_of x ≡ number
 
@@ -130,7 +130,7 @@ IsSmall (Err (refusal.FaultyData record_number)) = record_number < 2 ^ 64
 IsSmall (Err (refusal.PredecessorUncompleted serial)) = serial < 2 ^ 64
 IsSmall (Err _) = ⊤
 
--- a content that tables can tell from all others
+-- a content that tables can distinguish from all others
 pub record IsTellable (c : Content) : Type 0 where
   pub calendars : AreEach IsTold c.definitions.calendars
   pub periods : AreEach HasEntry c.definitions.periods

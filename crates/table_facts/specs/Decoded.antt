@@ -1,4 +1,4 @@
--- What is read back from the values of a row: the fact that they tell.
+-- What is decoded from the values of a row: the fact that they encode.
 use Rattle.std.specs.Prelude.{ℕ, ℤ, List, [], ◌∷◌, Bool, Option, Some, None, Result, Ok, Err, pos, negsuc, nat_eq, cond}
 use Rattle.std.specs.Prelude.{drop, get_or}
 use Rattle.std.specs.Str.Parse.{digits_value}
@@ -103,9 +103,9 @@ link_of v = record {
 abbrev pub application_of : Values → Application
 application_of v = record { active = bool_in (column v 1); calendar = or_text (column v 2) }
 
--- ---- what a job was answered
+-- ---- the reply of a job
 
--- a line up to its first blank, and behind it
+-- a line up to its first blank, and after it
 unfoldable pub before : List ℕ → List ℕ
 before [] = []
 before (b ∷ bs) = cond (nat_eq b 32) [] (b ∷ before bs)
@@ -118,7 +118,7 @@ behind (b ∷ bs) = cond (nat_eq b 32) bs (behind bs)
 abbrev pub number_in : List ℕ → ℕ
 number_in text = digits_value 10 (before text)
 
--- an occurrence, and the status that may stand behind it
+-- an occurrence, and the status that may follow it
 unfoldable pub occurrence_in : ℕ → List ℕ → Reply
 occurrence_in serial [] = reply.Numbered serial
 occurrence_in serial (b ∷ bs) = reply.Changed serial (status_of (get_or (b ∷ bs) 7 0))

@@ -1,4 +1,4 @@
--- Sets as the rows of a table tell them.
+-- Sets as the rows of a table encode them.
 use Rattle.std.specs.Prelude.{◌≡◌, ℕ, List, Option, map}
 use Rattle.sqlite.specs.Order.{Row as Values}
 use Rattle.occurrences.specs.declared.place.Deletion.{Deletion}

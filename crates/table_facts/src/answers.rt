@@ -1,4 +1,4 @@
-// The lines that jobs were answered.
+// The reply lines of jobs.
 
 ghost use Rattle.std.specs.Prelude.{◌≡◌, Ok, Err, IfOk};
 ghost use Rattle.table_facts.specs.Content.{answer_text, IsSmall};
@@ -8,7 +8,7 @@ use plan_listings::{refusal_line, reply_line};
 use planner_machine::Answer;
 use std::alloc::{AllocError, Global};
 
-/// The line of an answer.
+/// The line of a reply.
 pub fn answer_line(alloc: Global, answer: &Answer) -> Result<Vec<u8>, AllocError>
     ensures { IfOk result (λ line. line.items ≡ answer_text answer.now) }
 {
@@ -69,7 +69,7 @@ fn refusal_is_small(refusal: &Refusal)
     }
 }
 
-/// The numbers of an answer are below 2 ^ 64.
+/// The numbers of a reply or a refusal are below 2 ^ 64.
 pub fn answer_is_small(answer: &Answer)
     ensures { IsSmall answer.now }
 {

@@ -1,4 +1,4 @@
-//! What the tables of a plan stand for: each row tells one fact, and no two contents have the same rows.
+//! What the tables of a plan stand for: each row encodes one fact, and no two contents have the same rows.
 #![tactic(auto)]
 
 mod answers;

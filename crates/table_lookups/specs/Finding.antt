@@ -1,4 +1,4 @@
--- What a question finds, and what it leaves.
+-- What a query finds, and what it leaves.
 use Rattle.std.specs.Prelude.{◌≡◌, ℕ, false, pos, List, Result, IfErr, IfOk, OnOk}
 use Rattle.std.specs.List.Sorted.{IsPermutation}
 use Rattle.sqlite.specs.Held.{Held, state}
@@ -14,8 +14,8 @@ use Rattle.table_lookups.specs.declared.looks.Look.{Look}
 use Rattle.table_schema.specs.Rows.{MayFail, StaysOrIsUndone, Tables, tables_of}
 use Rattle.table_schema.specs.Schema.{HasTables}
 
--- Over the tables of a plan an Ok is found there, and nothing is changed; it fails for one of the common causes alone,
--- and then all is as it was, or what was not committed is undone. A crash finds what it found before.
+-- Over the tables of a plan an Ok is found there, and nothing is changed; it fails only for one of the four general
+-- errors, and then all is as it was, or what was not committed is undone. A crash finds what it found before.
 pub record Finds {S T : Type 0} (g : Ghosts S) (old new : Held S) (result : Result T Error)
     (IsFound : Tables → T → Type 0) : Type 0 where
   pub found : HasCleanDisk (state g new) → HasTables (state g old).now.schema
@@ -32,6 +32,6 @@ pub record Finds {S T : Type 0} (g : Ghosts S) (old new : Held S) (result : Resu
 abbrev pub natural : ℕ → Value
 natural n = Int (pos n)
 
--- exactly the rows that are asked for with these values, in some order
+-- exactly the rows that the query matches with these values, in some order
 abbrev pub AreAll : Look → Row → Tables → List Row → Type 0
 AreAll look asked all rows = IsPermutation (asked_for (question look) asked all) rows

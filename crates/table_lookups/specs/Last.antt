@@ -42,7 +42,7 @@ abbrev pub TellsLast : List ℕ → ℕ → List Row → Option Row → Type 0
 TellsLast app moment rows None = (row : Row) (ia : ℕ) → Contains rows row → Arrives app ia row → ia ≤ moment → ⊥
 TellsLast app moment rows (Some found) = IsLastBefore app moment rows found
 
--- of the rows that are asked for, one that arrives last; and where each row of history shows its application and
+-- of the rows that the query matches, one that arrives last; and if each row of history shows its application and
 -- arrival, that is the last of the application at the moment or before it
 abbrev pub IsLastFound : List ℕ → ℕ → Tables → Option Row → Type 0
 IsLastFound app moment all found = IsLastOf (asked_for (question LastOf) (Text app ∷ natural moment ∷ []) all) found

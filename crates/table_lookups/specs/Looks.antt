@@ -1,4 +1,4 @@
--- The questions.
+-- The queries.
 use Rattle.std.specs.Prelude.{◌≡◌, ℕ, ℤ, true, false, List, [], ◌∷◌, codes}
 use Rattle.sqlite.specs.Order.{Row}
 use Rattle.sqlite.specs.declared.types.Value.TheVariants.{Int, Text}
@@ -13,7 +13,7 @@ use Rattle.table_lookups.specs.declared.looks.Look.TheVariants.{DeletionsOf, Who
 use Rattle.table_schema.specs.declared.tables.Table.{Table}
 use Rattle.table_schema.specs.declared.tables.Table.TheVariants.{History, Deletion, Job}
 
--- the column has the value that is asked with, the first or a later one
+-- the column has the value that is bound, the first or a later one
 abbrev is_asked : List ℕ → ℕ → Test
 is_asked column n = record { column = column; how = Eq; side = Asked n }
 
@@ -54,7 +54,7 @@ question (Whole t) = those t []
 abbrev pub look_sql : Look → List ℕ
 look_sql look = question_text (question look)
 
--- values of the kinds that are asked with
+-- values of the kinds that are bound
 abbrev pub AreAsked : Look → Row → Type 0
 AreAsked LastOf asked = (app : List ℕ) × (moment : ℤ) × (asked ≡ Text app ∷ Int moment ∷ [])
 AreAsked HistoryListed asked = asked ≡ []

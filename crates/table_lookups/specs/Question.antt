@@ -1,4 +1,4 @@
--- A question to one table: its text, and what answers it.
+-- A query on one table: its text, and what answers it.
 use Rattle.std.specs.Prelude.{◌≡◌, ℕ, ◌+◌, Bool, bytes_eq, cond, List, [], ◌∷◌, ◌++◌, codes, filter, map, take}
 use Rattle.std.specs.Prelude.{unwrap_or}
 use Rattle.std.specs.List.{list_all, position_from}
@@ -21,7 +21,7 @@ use Rattle.table_schema.specs.Forms.{form}
 use Rattle.table_schema.specs.Rows.{Tables, shown}
 use Rattle.table_schema.specs.declared.tables.Table.{Table}
 
--- what a column is compared with: one of the values that are asked with, of which the first is 0; or a text
+-- what a column is compared with: one of the values that are bound, of which the first is 0; or a text
 pub data Side : Type 0 where
   Asked : ℕ → Side
   Letters : List ℕ → Side
@@ -102,7 +102,7 @@ passes_test t asked v test = is_so test.how (column v (place_of t test.column)) 
 abbrev pub passes : Question → Row → Row → Bool
 passes q asked v = list_all (passes_test q.table asked v) q.tests
 
--- the rows that are asked for, as they are shown
+-- the rows that the query matches, as they are shown
 abbrev pub asked_for : Question → Row → Tables → List Row
 asked_for q asked all = filter (passes q asked) (map (shown q.table) (all q.table))
 
@@ -119,7 +119,7 @@ order_keys q = map key_of q.order
 abbrev pub order_cmp : Question → Row → Row → Ordering
 order_cmp q = on (order_values q) (key_cmp 0 (order_keys q))
 
--- the rows that are asked for, in the order of the question; or the first of them alone
+-- the rows that the query matches, in its order; or the first of them alone
 pub record Answers (q : Question) (asked : Row) (all : Tables) (rows : List Row) : Type 0 where
   pub ordered : List Row
   pub same : IsPermutation (asked_for q asked all) ordered

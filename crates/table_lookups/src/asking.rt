@@ -1,4 +1,4 @@
-// Questions are asked.
+// Queries.
 
 ghost use Rattle.std.specs.Prelude.{◌≡◌, false, IfErr, IfOk, OnOk};
 ghost use Rattle.sqlite.specs.State.{HasCleanDisk, IsUnchanged, Survives};
@@ -14,7 +14,7 @@ use sqlite::types::ValueRef;
 use sqlite::{Alter, Connection, Error, Row};
 use table_schema::select_text;
 
-/// The text that asks.
+/// The text of the query.
 pub(crate) fn look_text(look: Look) -> &'static str
     ensures { result.now ≡ look_sql look }
 {
@@ -52,8 +52,8 @@ pub(crate) fn look_text(look: Look) -> &'static str
     }
 }
 
-/// The rows that are asked for with these values. Over a plan it fails for want of memory, for a failure of the device,
-/// for a connection that was shut, or for a limit on steps.
+/// The rows that the query matches with these values. Over a plan it fails only if memory is refused, the device
+/// fails, the connection was closed, or a limit on steps is reached.
 pub fn ask<S: Alter>(
     conn: &mut Connection<S>,
     look: Look,

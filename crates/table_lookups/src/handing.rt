@@ -1,4 +1,4 @@
-// Rows are handed out one at a time.
+// Rows are yielded one at a time.
 
 ghost use Rattle.std.specs.Prelude.{◌≡◌, false, map, IfErr, OnErr, OnOk};
 ghost use Rattle.std.specs.List.Sorted.{IsPermutation};
@@ -22,7 +22,7 @@ use table_schema::Table;
 #[derive(Clone, Copy, Debug, PartialEq, Eq)]
 pub struct SinkFault;
 
-/// Why not all rows were handed out.
+/// Why not all rows were yielded.
 #[derive(Debug, Drop)]
 pub enum HandFault {
     /// The rows could not be read.
@@ -31,21 +31,21 @@ pub enum HandFault {
     Sink,
 }
 
-/// What takes rows of values, one after another.
+/// What receives rows of values, one after another.
 pub trait ValuesSink {
-    // what a row makes of the sink that takes it
+    // the sink after it has accepted a row
     ghost takes: { Self → Values → Self → Type 0 };
 
-    // what a row makes of the sink that refuses it
+    // the sink after it has refused a row
     ghost refuses: { Self → Values → Self → Type 0 };
 
-    /// Takes a row.
+    /// Accepts a row.
     fn take(&mut self, row: &Row) -> Result<(), SinkFault>
         ensures taken { OnOk result (takes self.old row.now self.new) }
         ensures refused { OnErr result (refuses self.old row.now self.new) };
 }
 
-/// Hands out the rows that are asked for with these values, each before the next is read. It fails where the sink
+/// Yields the rows that the query matches with these values, each before the next is read. It fails if the sink
 /// refuses a row, and as `ask` does.
 pub fn hand<S: Alter, K: ValuesSink>(
     conn: &mut Connection<S>,
@@ -95,7 +95,7 @@ pub fn hand<S: Alter, K: ValuesSink>(
     Err(HandFault::Store(Error::SqliteFailure(ErrorCode::OutOfMemory)))
 }
 
-/// Hands out all rows of the table, each before the next is read, in no order. It fails as `hand` does.
+/// Yields all rows of the table, each before the next is read, in no order. It fails as `hand` does.
 pub fn hand_all<S: Alter, K: ValuesSink>(
     conn: &mut Connection<S>,
     table: Table,

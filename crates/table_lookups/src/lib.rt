@@ -1,4 +1,4 @@
-//! Rows of the tables that are looked up: by a number, by a name and a moment, one after another in an order.
+//! Queries for rows of the tables: by a number, by a name and a moment, one after another in an order.
 #![tactic(auto)]
 
 mod asking;

@@ -1,8 +1,8 @@
-// What is asked of the tables.
+// Queries.
 
 use table_schema::Table;
 
-/// A question to one table.
+/// A query on one table.
 #[derive(Clone, Copy, Debug, PartialEq, Eq)]
 pub enum Look {
     /// The row of history that has the serial.

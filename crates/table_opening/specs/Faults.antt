@@ -7,7 +7,7 @@ use Rattle.sqlite.specs.declared.error.ErrorCode.TheVariants.{Closed}
 use Rattle.table_opening.specs.declared.faults.OpenFault.{OpenFault}
 use Rattle.table_opening.specs.declared.faults.OpenFault.TheVariants.{Memory, Device, Unopened, Tables, Rows}
 
--- want of memory, a failure of the device, or else this one
+-- lack of memory, a failure of the device, or else this one
 abbrev pub fault_for : Error → OpenFault → OpenFault
 fault_for (SqliteFailure OutOfMemory) other = Memory
 fault_for (SqliteFailure SystemIoFailure) other = Device
@@ -24,7 +24,7 @@ unopened_for (SqliteFailure DiskFull) = Device
 unopened_for (SqliteFailure Closed) = Device
 unopened_for _ = Unopened
 
--- the number that a program tells
+-- the number that a program reports
 abbrev pub number_of : OpenFault → ℕ
 number_of Memory = 40
 number_of Device = 41

@@ -16,8 +16,8 @@ use Rattle.sqlite_wal.specs.Reads.{tally_of_files}
 use Rattle.table_opening.specs.declared.faults.OpenFault.{OpenFault}
 use Rattle.table_opening.specs.declared.faults.OpenFault.TheVariants.{Memory, Device, Unopened, Tables, Rows}
 
--- memory is short; the device failed meanwhile, or a limit of the files is met; or they hold no database, or the device
--- was caught at bytes that nobody wrote. The failures of the device have this kind, and there were so many before and
+-- memory is refused; the device failed meanwhile, or a limit of the files is reached; or they hold no database, or the
+-- device gave bytes that nobody wrote. The failures of the device have this kind, and there were so many before and
 -- after
 abbrev pub Refuses : StoreError → ℕ → ℕ → Type 0 → Type 0 → OpenFault → Type 0
 Refuses kind old new IsFull IsWanted Memory = ⊤
@@ -30,12 +30,12 @@ Refuses kind old new IsFull IsWanted Rows = ⊥
 abbrev pub HoldOne : {D : Type 0} → disk.Ghosts D → Files D → Type 0
 HoldOne g files = ((db : Trees) × HoldsDatabase (image_of g files) db) ⊎ IsNothing (image_of g files)
 
--- why these files were not opened, of which this is left
+-- why these files, of which this is left, were not opened
 abbrev pub IsRefused : {D : Type 0} {g : disk.Ghosts D} → Files D → Leftover D g → OpenFault → Type 0
 IsRefused {D} {g} files left =
     Refuses (named (tally_of_files g (files.log, files.db)) (tally_left left)) (faults_of g files) (faults_left left)
     (IsFullLeft left) (HoldOne g files)
 
--- what `sqlite` reports where no file is left: it can't be opened, memory was refused, or another program holds it
+-- what `sqlite` reports if no file is left: it can't be opened, memory was refused, or another program locks it
 abbrev pub IsUnreached : Error → Type 0
 IsUnreached e = (e ≡ SqliteFailure CannotOpen) ⊎ ((e ≡ SqliteFailure OutOfMemory) ⊎ (e ≡ SqliteFailure DatabaseBusy))

@@ -13,12 +13,12 @@ use Rattle.table_facts.specs.Content.{meta_values}
 abbrev pub first_rows : Tables
 first_rows = with_cells Meta (meta_values None 0 default_options) no_rows
 
--- the tables of a plan stand behind those that were there, and these keep their rows
+-- the tables of a plan come after those that were there, and these keep their rows
 pub record IsBeside (old new : Database) : Type 0 where
   pub schema : new.schema ≡ with_plan old.schema
   pub others : KeepsRows old.schema.tables old.trees new.trees
 
--- in a transaction the database has the tables of a plan beside those with which it began, and these rows in them, and
+-- in a transaction the database has the tables of a plan and those with which it began, and these rows in them, and
 -- obeys its rules
 pub record IsMadeFirst (base : Database) (s : State) : Type 0 where
   pub beside : IsBeside base s.now
@@ -27,7 +27,7 @@ pub record IsMadeFirst (base : Database) (s : State) : Type 0 where
   pub obeys : IsDatabase s.now
   pub mode : IsTrue s.in_transaction
 
--- and so they stand once that transaction ended
+-- and they are so once that transaction ended
 pub record IsNewPlan (old new : State) : Type 0 where
   pub beside : IsBeside old.now new.now
   pub plan : IsPlan new

@@ -25,9 +25,9 @@ RefusesToShow sql old new = (e : Error) × FailsToQuery sql [] old new e × (fau
 abbrev pub RefusesVersion : State → State → Type 0
 RefusesVersion = RefusesToShow version_sql
 
--- why a database of other tables is not opened: asked for the version of a plan, it fails for want of memory; the device
--- failed meanwhile, or the connection was shut before; or by what it shows then: a known one, none that is known, or
--- nothing, since it refuses
+-- why a database of other tables is not opened: when the version of a plan is read, it fails for lack of memory; the
+-- device failed meanwhile, or the connection was closed before; or by what it shows then: a known one, none that is
+-- known, or nothing, because it refuses
 abbrev pub IsForeign : State → State → OpenFault → Type 0
 IsForeign old new Memory = LacksMemory version_sql old new
 IsForeign old new Device = MoreFaults old.faults new.faults ⊎ (old.is_open ≡ false)

@@ -1,4 +1,4 @@
--- What is found of a database that has the tables of the plan, and what is told of it.
+-- What is found of a database that has the tables of the plan, and what is reported of it.
 use Rattle.std.specs.Prelude.{Option, None, Some, Result, Ok, Err, ⊤}
 use Rattle.sqlite.specs.State.{IsUnchanged, State}
 use Rattle.sqlite.specs.declared.error.Error.{Error}
@@ -21,8 +21,8 @@ found_by (Ok (Some content)) = Sound content
 found_by (Ok None) = Unsound
 found_by (Err e) = Unjudged
 
--- what is told of it: that memory is short only where the error of a call says so, or where it was not judged for want
--- of memory
+-- what is reported of it: lack of memory only if the error of a call says so, or if memory was refused to the
+-- judgement
 abbrev pub told : Result Judged Error → Result Content OpenFault
 told (Ok (Sound content)) = Ok content
 told (Ok Unsound) = Err Rows
@@ -30,7 +30,7 @@ told (Ok Unknown) = Err Unopened
 told (Ok Unjudged) = Err Memory
 told (Err e) = Err (fault_for e OtherTables)
 
--- it is as it was found; where it was not judged, it was read and nothing changed
+-- it is as it was found; if there was no judgement, it was read and nothing changed
 abbrev pub IsJudged : State → State → Judged → Type 0
 IsJudged old new (Sound content) =
     IsStored new (content_of content) × IsContentOf (tables_of old.now.trees) (content_of content)
@@ -38,7 +38,7 @@ IsJudged old new Unsound = HasVersion old × (HoldsPlan old → ⊥)
 IsJudged old new Unknown = HasVersion old → ⊥
 IsJudged old new Unjudged = IsUnchanged old new
 
--- what is found sound is
+-- what is found sound is sound
 abbrev pub IsSoundIfFound : Judged → Type 0
 IsSoundIfFound (Sound content) = IsSound (content_of content)
 IsSoundIfFound _ = ⊤

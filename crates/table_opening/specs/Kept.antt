@@ -1,4 +1,4 @@
--- A database that was not opened, or not asked.
+-- A database that was not opened, or not queried.
 use Rattle.std.specs.Prelude.{◌≡◌, IsTrue}
 use Rattle.sqlite.specs.State.{State}
 use Rattle.sqlite.specs.Tree.{Trees}
@@ -8,7 +8,7 @@ pub record IsKept (old new : State) : Type 0 where
   pub now : IsTrue new.is_open → new.now ≡ old.now
   pub committed : IsTrue new.is_open → new.committed ≡ old.committed
 
--- it was not asked: all that it shows is as it was, and no failure of the device was counted
+-- it was not queried: all that it shows is as it was, and no failure of the device was counted
 pub record IsUntouched (old new : State) : Type 0 where
   pub now : new.now ≡ old.now
   pub committed : new.committed ≡ old.committed

@@ -1,4 +1,4 @@
--- What opening a database answers, by what is there: the tables of a plan, room for them, or neither.
+-- What opening a database returns, by what is there: the tables of a plan, room for them, or neither.
 use Rattle.std.specs.Prelude.{◌≡◌, ◌⊎◌}
 use Rattle.sqlite.specs.State.{HasCleanDisk, State}
 use Rattle.planner_machine.specs.Content.{Content, nothing_known}
@@ -19,14 +19,14 @@ use Rattle.table_opening.specs.declared.schemas.Found.TheVariants.{Plan, Room, O
 abbrev pub HasOthers : State → Type 0
 HasOthers s = (HasPlan s → ⊥) × (HasRoom s → ⊥)
 
--- this stands in the database
+-- this is in the database
 abbrev pub IsFound : State → Found → Type 0
 IsFound s Plan = HasPlan s
 IsFound s Room = HasRoom s
 IsFound s Others = HasOthers s
 
--- the database keeps a sound content, which it told before; where it had room for the tables of a plan nothing is known,
--- and they stand beside the others, which keep their rows, with the indexes of their keys and no other
+-- the database keeps a sound content, which it had before; if it had room for the tables of a plan, nothing is known,
+-- and they are added to the others, which keep their rows, with the indexes of their keys and no other
 pub record IsOpened (old new : State) (c : Content) : Type 0 where
   pub sound : IsSound c
   pub stored : HasCleanDisk new → IsStored new c
@@ -36,13 +36,13 @@ pub record IsOpened (old new : State) (c : Content) : Type 0 where
   pub own : HasCleanDisk new → HasRoom old → HasOwnIndexes new.now.schema
 
 -- why a database that has the tables of a plan is not opened: for its rows only where its version is known and they
--- hold no sound content, and for its version only where that is not known
+-- have no sound content, and for its version only where that is not known
 pub record IsUnread (old new : State) (fault : OpenFault) : Type 0 where
   pub caused : IsCaused old new fault
   pub rows : fault ≡ Rows → HasVersion old × (HoldsPlan old → ⊥)
   pub version : fault ≡ Unopened → HasVersion old → ⊥
 
--- why a database is not opened: memory is short before it is asked anything, or by what is there
+-- why a database is not opened: memory is refused before it is read, or by what is there
 abbrev pub IsUnopened : State → State → OpenFault → Type 0
 IsUnopened old new fault = ((fault ≡ Memory) × IsUntouched old new)
     ⊎ (HasPlan old × IsUnread old new fault)

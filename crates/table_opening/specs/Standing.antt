@@ -1,4 +1,4 @@
--- Tables that stand in a schema.
+-- Tables that are in a schema.
 use Rattle.std.specs.Prelude.{◌≡◌, ◌⊎◌, ◌<◌, ◌^◌, List, MatchOption}
 use Rattle.std.specs.List.{All}
 use Rattle.sqlite_schema.specs.declared.schema.Table.{Table}
@@ -20,7 +20,7 @@ unfoldable pub OffsetsRefer : List Table → List Table → Type 0
 OffsetsRefer tables made = MatchOption (first_named tables (name Offset)) ⊥
     (λ offsets. All (λ child. (child.tree ≡ offsets.tree) ⊎ AreAside made child) tables)
 
--- these tables stand among the others, each in a tree of its own, and none of the others refers to one of them
+-- these tables are among the others, each in a tree of its own, and none of the others refers to one of them
 pub record StandAmong (tables made : List Table) : Type 0 where
   pub stand : All (IsThere tables) made
   pub apart : IsAscending TreesDiffer tables

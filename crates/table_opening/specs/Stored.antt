@@ -19,7 +19,7 @@ pub record TellStored (all : Tables) (stored : StoredRows) : Type 0 where
 abbrev pub AllHaveRowids : Tables → Type 0
 AllHaveRowids all = (t : Table) → HaveRowids (all t)
 
--- so it is of the tables whose rows are read without their rowids
+-- the same of the tables whose rows are read without their rowids
 pub record HaveHiddenRowids (all : Tables) : Type 0 where
   pub calendars : HaveRowids (all table.CalendarEntry)
   pub periods : HaveRowids (all table.Period)

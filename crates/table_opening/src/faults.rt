@@ -44,8 +44,7 @@ pub fn fault_for(error: &Error, other: OpenFault) -> OpenFault
     }
 }
 
-/// The number of the fault that tells it: 40 for memory, 41 for the device, 50 for what is not opened, 51 for tables,
-/// 52 for rows.
+/// The number of the fault: 40 for memory, 41 for the device, 50 for what is not opened, 51 for tables, 52 for rows.
 pub fn open_fault_number(fault: &OpenFault) -> u8
     ensures { result ≡ number_of fault.now }
 {

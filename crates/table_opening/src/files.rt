@@ -30,10 +30,10 @@ fn unopened_for(error: &Error) -> OpenFault
     }
 }
 
-/// The database in the files at the path, which are made where there are none; `start` stands for what they hold. A file
-/// that is new gets the sums of its pages if that is asked for; one that has them is held to them always. Where the disk was
-/// honest, each later read is tested against a digest. Where it is not opened, the fault comes with what is left of the files, once they were opened, and with what `sqlite` said. The path
-/// is taken as it is.
+/// The database in the files at the path, which are created if there are none; `start` stands for what they hold. A
+/// new file gets the sums of its pages if the caller requests them; a file that has them is always checked against
+/// them. If the disk was honest, each later read is checked against a digest. If it is not opened, the fault comes
+/// with what is left of the files, once they were opened, and with what `sqlite` said. The path is taken as it is.
 pub fn open_connection_with<S: Start>(
     rt: &HostRuntime,
     path: &str,
@@ -65,7 +65,7 @@ pub fn open_connection_with<S: Start>(
     }
 }
 
-/// The same, where a file that is new gets no sums, and what `sqlite` said is left out.
+/// The same, without sums for a new file, and without what `sqlite` reported.
 pub fn open_connection_from<S: Start>(
     rt: &HostRuntime,
     path: &str,
@@ -94,7 +94,7 @@ pub fn open_connection_from<S: Start>(
     }
 }
 
-/// The database in the file, which is made where there is none. The path is taken as it is.
+/// The database in the file, which is created if there is none. The path is taken as it is.
 pub fn open_connection(
     rt: &HostRuntime,
     path: &str,

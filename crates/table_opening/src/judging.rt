@@ -1,4 +1,4 @@
-// What is found of a database that has the tables of the plan, and what is told of it.
+// What is found of a database that has the tables of the plan, and what is reported of it.
 
 ghost use Rattle.std.specs.Prelude.{◌≡◌};
 ghost use Rattle.table_opening.specs.Judging.{found_by, told};
@@ -11,9 +11,9 @@ use std::alloc::AllocError;
 /// What is found of a database that has the tables of the plan.
 #[derive(Drop)]
 pub(crate) enum Judged {
-    /// It holds this content, which is sound.
+    /// It has this content, which is sound.
     Sound(Content),
-    /// Its version is known, and it holds no sound content.
+    /// Its version is known, and it has no sound content.
     Unsound,
     /// Its version is not known.
     Unknown,
@@ -21,7 +21,7 @@ pub(crate) enum Judged {
     Unjudged,
 }
 
-/// What a judgement finds that may be refused memory.
+/// What a judgement that may be refused memory finds.
 pub(crate) fn found_by(found: Result<Option<Content>, AllocError>) -> Judged
     ensures { result ≡ found_by found }
 {
@@ -32,7 +32,7 @@ pub(crate) fn found_by(found: Result<Option<Content>, AllocError>) -> Judged
     }
 }
 
-/// What is told of it, or of a call that failed.
+/// What is reported of it, or of a call that failed.
 pub(crate) fn tell(found: Result<Judged, Error>) -> Result<Content, OpenFault>
     ensures { result ≡ told found }
 {

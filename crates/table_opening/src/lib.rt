@@ -1,4 +1,4 @@
-//! A database of a plan is opened: it has the tables of the plan, or gets them, and they tell a sound content.
+//! A database of a plan is opened: it has the tables of the plan, or gets them, and they have a sound content.
 #![tactic(auto)]
 
 mod faults;

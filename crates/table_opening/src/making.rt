@@ -12,7 +12,7 @@ use sqlite::types::ValueRef;
 use sqlite::{Alter, Connection, Error, Transaction};
 use table_schema::{SCHEMA_VERSION, Table, insert, make_all};
 
-// Puts in that there is no plan, and the options that hold where none are given.
+// Stores that there is no plan, and the options that hold where none are given.
 fn put_first<S: Alter>(tx: &mut Transaction<'_, S>) -> Result<(), Error>
     ensures { Makes S.Store tx.old tx.new result IsMadeWhole IsMadeFirst }
 {
@@ -41,9 +41,9 @@ fn make_inside<S: Alter>(tx: &mut Transaction<'_, S>) -> Result<(), Error>
     put_first(tx)
 }
 
-/// Makes the tables beside those of the database, where nothing is in their way, with the first row of `plan_meta`, in
-/// one transaction. It fails for want of memory, for a failure of the device, for a connection that was shut, or for a
-/// limit on steps.
+/// Makes the tables, next to those of the database, if nothing is in their way, with the first row of `plan_meta`, in
+/// one transaction. It fails only if memory is refused, the device fails, the connection was closed, or a limit on
+/// steps is reached.
 pub(crate) fn make_first<S: Alter>(conn: &mut Connection<S>) -> Result<(), Error>
     requires { conn.old.in_transaction ≡ false }
     ensures { Commits S.Store conn.old conn.new result HasRoom IsNewPlan MayFail MakesFirst }

@@ -168,7 +168,7 @@ fn open_plan<S: Alter>(alloc: Global, conn: &mut Connection<S>) -> Result<Conten
     tell(found)
 }
 
-// Opens a database in which nothing is in the way of the tables: it gets them beside its own.
+// Opens a database in which nothing is in the way of the tables: they are added to its own.
 fn open_new<S: Alter>(alloc: Global, conn: &mut Connection<S>) -> Result<Content, OpenFault>
     requires room { HasRoom (state S.Store conn.old) }
     requires mode { conn.old.in_transaction ≡ false }
@@ -193,7 +193,7 @@ fn open_new<S: Alter>(alloc: Global, conn: &mut Connection<S>) -> Result<Content
     }
 }
 
-// Why a database of other tables is not opened: where the version can be read and is known, for its tables.
+// Why a database of other tables is not opened: for its tables, if the version can be read and is known.
 fn foreign_fault<S: Alter>(conn: &mut Connection<S>) -> OpenFault
     requires { conn.old.in_transaction ≡ false }
     ensures told { HasCleanDisk (state S.Store conn.new)
@@ -212,9 +212,9 @@ fn foreign_fault<S: Alter>(conn: &mut Connection<S>) -> OpenFault
     }
 }
 
-/// Opens a database: it has the tables of the plan, of a known version, and they tell a sound content; or nothing in it
-/// is in their way, and it gets those of a content of which nothing is known, beside its own. Where it is not opened, it
-/// stays as it was. One that holds a sound plan is opened with it, and is refused for nothing that stands in it.
+/// Opens a database. Either it has the tables of the plan, of a known version, with a sound content; or nothing in it
+/// is in their way, and the tables of a content of which nothing is known are added to its own. If it is not opened,
+/// it stays as it was. One that has a sound plan is opened with it, and is never refused for anything in it.
 pub fn open_content<S: Alter>(alloc: Global, conn: &mut Connection<S>) -> Result<Content, OpenFault>
     requires { conn.old.in_transaction ≡ false }
     ensures opened { IfOk result (λ content.

@@ -14,7 +14,7 @@ use sqlite_schema::schema::{Index, Table};
 use std::alloc::Global;
 use table_schema::{first_named, make_tables};
 
-// Whether it is in another tree than the first table of the name, or that of its only key.
+// Whether it is in another tree than the first table of the name, or is the index of its only key.
 #[tactic(auto, unfolding(crate::specs::Indexes::IsOwnOf))]
 fn is_own_of(index: &Index, tables: &[Table], made: &Table) -> bool
     ensures { IsTrue result ↔ IsOwnOf tables.now index.now made.now }
@@ -25,7 +25,7 @@ fn is_own_of(index: &Index, tables: &[Table], made: &Table) -> bool
     }
 }
 
-// Whether it is so of each of these.
+// The same of each of these.
 fn is_own(index: &Index, tables: &[Table], made: &[Table]) -> bool
     ensures { IsTrue result ↔ IsOwn tables.now made.now index.now }
 {
@@ -49,8 +49,8 @@ fn are_own(indexes: &[Index], tables: &[Table], made: &[Table]) -> bool
     true
 }
 
-/// Whether the tables of the plan have no indexes but those of their keys, in a database that has these tables: one that
-/// someone made beside may refuse a row. Its only error is want of memory.
+/// Whether the tables of the plan, in a database that has them, have no indexes but those of their keys: an index that
+/// a user added may refuse a row. Its only error is lack of memory.
 pub fn has_own_indexes<S: Alter>(alloc: Global, conn: &Connection<S>) -> Result<bool, Error>
     ensures own { IfOk result (λ own. HasTables (state S.Store conn.now).now.schema
         → (IsTrue own ↔ HasOwnIndexes (state S.Store conn.now).now.schema)) }

@@ -89,7 +89,7 @@ fn select_rowids<S: Alter>(conn: &mut Connection<S>, table: Table) -> Result<Vec
     conn.query_all(rowid_text(table), &[])
 }
 
-// Puts the rows in the order of the places of their integers, where the same ones come together: they may come in the
+// Puts the rows in the order of the places of their integers, so that equal ones come together: they may come in the
 // order of an index.
 fn sort_rowids(rows: &mut Vec<Cells>)
     ensures same { IsPermutation rows.old.items rows.new.items }

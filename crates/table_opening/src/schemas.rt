@@ -1,4 +1,4 @@
-// What stands in a database.
+// What is in a database.
 
 ghost use Rattle.std.specs.Prelude.{◌≡◌, false, IfOk, IsTrue};
 ghost use Rattle.sqlite.specs.Held.{state};
@@ -16,7 +16,7 @@ use sqlite_schema::schema::Schema;
 use std::alloc::Global;
 use table_schema::make_tables;
 
-/// What stands in a database.
+/// What is in a database.
 #[derive(Clone, Copy, Debug, PartialEq, Eq)]
 pub(crate) enum Found {
     /// The tables of a plan, and perhaps others.
@@ -27,7 +27,7 @@ pub(crate) enum Found {
     Others,
 }
 
-/// What stands in the database: it is compared with the tables of a plan, as `make_tables` makes them in memory.
+/// What is in the database: it is compared with the tables of a plan, as `make_tables` makes them in memory.
 pub(crate) fn find_tables<S: Alter>(alloc: Global, conn: &Connection<S>) -> Result<Found, Error>
     ensures { IfOk result (IsFound (state S.Store conn.now)) }
 {
@@ -50,8 +50,8 @@ fn is_meta_used(schema: &Schema) -> bool
     is_used(schema, b"plan_meta")
 }
 
-/// Whether something in the database has the name of `plan_meta`: so it is where the tables of a plan are, and not where
-/// there is room for them.
+/// Whether something in the database has the name of `plan_meta`. That is so where the tables of a plan are, and not
+/// where there is room for them.
 pub fn has_meta<S: Alter>(conn: &Connection<S>) -> bool
     ensures plan { HasPlan (state S.Store conn.now) → IsTrue result }
     ensures room { HasRoom (state S.Store conn.now) → result ≡ false }

@@ -1,4 +1,4 @@
-// Whether the tables of one schema stand in another, or can be made there.
+// Whether the tables of one schema are in another, or can be made there.
 
 ghost use Rattle.std.specs.Prelude.{◌≡◌, ◌≢◌, ◌<◌, ◌⊎◌, ◌↔◌, false, is_some, IsTrue};
 ghost use Rattle.std.specs.List.{All, list_any};
@@ -27,7 +27,7 @@ fn is_there(tables: &[Table], table: &Table) -> bool
     }
 }
 
-// Whether it is so of each of these.
+// The same of each of these.
 fn are_there(tables: &[Table], made: &[Table]) -> bool
     ensures { IsTrue result ↔ All (IsThere tables.now) made.now }
 {
@@ -116,8 +116,8 @@ fn offsets_refer(tables: &[Table], made: &[Table]) -> bool
     }
 }
 
-/// Whether these tables stand among the others, wherever that is, each in a tree of its own, and none of the others
-/// refers to one of them.
+/// Whether these tables are among the others, in any place, each in a tree of its own, and none of the others refers
+/// to one of them.
 pub fn stand_among(tables: &[Table], made: &[Table]) -> bool
     ensures { IsTrue result ↔ StandAmong tables.now made.now }
 {

@@ -1,10 +1,9 @@
-// The text that asks for the version of a plan.
+// The query for the version of a plan.
 
 ghost use Rattle.std.specs.Prelude.{◌≡◌};
 ghost use Rattle.table_opening.specs.Foreign.{version_sql};
 
-/// The text that asks for the version of a plan, and for nothing else: it is shown in the second column too, as in a row
-/// of the table.
+/// The query for the version of a plan alone: it is shown in the second column too, as in a row of the table.
 pub fn version_text() -> &'static str
     ensures { result.now ≡ version_sql }
 {

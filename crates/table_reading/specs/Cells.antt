@@ -24,14 +24,14 @@ pub record Leads (row : Row) (cells : Values) : Type 0 where
   pub deadline : column cells 3 ≡ natural row.deadline
   pub origin : column cells 4 ≡ or_null (option_map Text (run_cycle_of row.origin))
 
--- four cells of `plan_meta` tell how far the plans reach
+-- four cells of `plan_meta` encode how far the plans reach
 abbrev pub HasBounds : Option Bounds → Values → Type 0
 HasBounds None cells = (column cells 2 ≡ natural 0) × (column cells 3 ≡ natural 0) × (column cells 4 ≡ natural 0)
     × (column cells 5 ≡ natural 0)
 HasBounds (Some b) cells = (column cells 2 ≡ natural 1) × (column cells 3 ≡ natural b.first_day)
     × (column cells 4 ≡ natural b.last_day) × (column cells 5 ≡ natural b.plan_end)
 
--- two cells of `plan_meta` tell the options
+-- two cells of `plan_meta` encode the options
 abbrev pub HasOptions : Options → Values → Type 0
 HasOptions options cells =
     (column cells 7 ≡ Text options.default_calendar) × (column cells 8 ≡ natural options.max_extension_hours)

@@ -7,14 +7,14 @@ use Rattle.occurrences.specs.declared.refusal.Refusal.TheVariants as refusal
 use Rattle.occurrences.specs.declared.status.Status.{Status}
 use Rattle.std.specs.List.{after_first, before_first}
 
--- up to the first blank, and behind it
+-- up to the first blank, and after it
 abbrev pub front : List ℕ → List ℕ
 front text = before_first (λ b. b == 32) text
 
 abbrev pub back : List ℕ → List ℕ
 back text = after_first (λ b. b == 32) text
 
--- what stands behind the first two words of some replies
+-- what follows the first two words of some replies
 abbrev pub made_text : ℕ → ℕ → List ℕ
 made_text made withdrawn = decimal made ++ 32 ∷ (codes "withdrawn" ++ 32 ∷ decimal withdrawn)
 

@@ -1,4 +1,4 @@
--- What tables show where all of it can be read.
+-- What tables show if all of it can be decoded.
 use Rattle.std.specs.Prelude.{◌≡◌, ℕ, Contains, map}
 use Rattle.sqlite.specs.Order.{Row as Values, column}
 use Rattle.sqlite.specs.Tree.{rowid}
@@ -16,7 +16,7 @@ use Rattle.table_reading.specs.Cells.{IsMeta, IsNumberedRow, IsPair, IsReadJob}
 use Rattle.table_reading.specs.Tables.{TellsMeta}
 use Rattle.table_reading.specs.declared.meta.Meta.{Meta}
 
--- each row that the table shows is that of something such
+-- each row that the table shows is that of something of this kind
 pub record ShowsEach {X : Type 0} (all : Tables) (t : Table) (values_of : X → Values) (Is : X → Type 0) : Type 0 where
   pub each : (v : Values) → Contains (map (shown t) (all t)) v → (x : X) × Is x × (values_of x ≡ v)
 
@@ -26,12 +26,12 @@ pub record ShowsEachOnce {X : Type 0} (all : Tables) (t : Table) (values_of : X 
   pub shows : ShowsEach all t values_of Is
   pub rowids : HaveRowids (all t)
 
--- the number stands first in the values, where the table shows the rowid
+-- the number comes first in the values, if the table shows the rowid
 pub record ShowsNumbers {X : Type 0} (t : Table) (values_of : X → Values) (number_of : X → ℕ) : Type 0 where
   pub of_item : (x : X) → column (values_of x) 0 ≡ natural (number_of x)
   pub of_row : (row : Values) → column (shown t row) 0 ≡ rowid row
 
--- `plan_meta` shows one row, which tells how far the plans reach
+-- `plan_meta` shows one row, which encodes how far the plans reach
 pub record ShowsMeta (all : Tables) : Type 0 where
   pub meta : Meta
   pub form : IsMeta meta
@@ -47,7 +47,7 @@ pub record ShowsLinks (all : Tables) : Type 0 where
   pub shows : ShowsEach all table.LinkInForce link_values IsLink
   pub once : (a b : Link) → ShowsLink all a → ShowsLink all b → HaveSameNames a b → a ≡ b
 
--- all rows of the tables of the plans can be read
+-- all rows of the tables of the plans can be decoded
 pub record ArePlansReadable (all : Tables) : Type 0 where
   pub ltp : ShowsEachOnce all table.LongTerm row_values IsNumberedRow
   pub cp : ShowsEachOnce all table.Current current_values (λ (current : CurrentRow). IsNumberedRow current.row)

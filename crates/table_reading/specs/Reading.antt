@@ -8,8 +8,8 @@ use Rattle.table_schema.specs.Schema.{HasTables}
 unfoldable pub HasPlan : State → Type 0
 HasPlan s = HasTables s.now.schema
 
--- a database of the plan is read: where the call answers, it stays as it was, and where it does not, no more is undone
--- than was not committed; and a crash finds what it found before
+-- a database of the plan is read: if the call succeeds, the database is as it was; if not, at most what was not
+-- committed is undone; and a crash finds what it found before
 pub record Looks (old new : State) (answers : Bool) : Type 0 where
   pub same : HasCleanDisk new → HasPlan old → IsTrue answers → IsUnchanged old new
   pub leaves : HasCleanDisk new → HasPlan old → StaysOrIsUndone old new

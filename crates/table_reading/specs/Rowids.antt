@@ -1,4 +1,4 @@
--- Rowids as numbers, and the pairs beside the rowids of their rows.
+-- Rowids as numbers, and the pairs with the rowids of their rows.
 use Rattle.std.specs.Prelude.{ℕ, ◌+◌, ◌*◌, ◌≢◌, List, [], ◌∷◌, pos, negsuc, codes}
 use Rattle.std.specs.List.{AllPairs}
 use Rattle.sqlite.specs.Order.{Row as Values}

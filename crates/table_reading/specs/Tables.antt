@@ -1,4 +1,4 @@
--- What tables tell.
+-- What tables encode.
 use Rattle.std.specs.Prelude.{◌≡◌, ◌↔◌, List, Contains, map}
 use Rattle.sqlite.specs.Order.{Row as Values}
 use Rattle.run_cycles.specs.declared.cycles.RunCycle.{RunCycle}
@@ -27,7 +27,7 @@ ShowsOnce all t Is = ShowsOnly all t Is × HaveRowids (all t)
 abbrev pub IsOneOf : {X : Type 0} → (X → Values) → List X → Values → Type 0
 IsOneOf values_of xs v = Contains (map values_of xs) v
 
--- the tables of the sets tell these rows
+-- the tables of the sets encode these rows
 pub record TellRows (all : Tables) (rows : PlanRows) : Type 0 where
   pub in_ltp : ShowsOnly all table.LongTerm (IsOneOf row_values rows.ltp.items)
   pub in_cp : ShowsOnly all table.Current (IsOneOf current_values rows.cp.items)
@@ -51,7 +51,7 @@ pub record HaveShownRowids (all : Tables) : Type 0 where
   pub pairs : HaveRowids (all table.Dependency)
   pub jobs : HaveRowids (all table.Job)
 
--- the tables of the plans tell what is listed
+-- the tables of the plans encode what is listed
 pub record TellPlans (all : Tables) (lists : PlanLists) : Type 0 where
   pub meta : TellsMeta all lists.meta
   pub links : ShowsOnly all table.LinkInForce (IsOneOf link_values lists.links)
@@ -59,7 +59,7 @@ pub record TellPlans (all : Tables) (lists : PlanLists) : Type 0 where
   pub pairs : ShowsOnly all table.Dependency (IsOneOf pair_values lists.pairs.items)
   pub jobs : ShowsOnly all table.Job (IsOneOf job_values lists.jobs.items)
 
--- the tables of the definitions tell these, which tables can tell
+-- the tables of the definitions encode these, which tables can distinguish from all others
 pub record TellDefinitions (all : Tables) (d : Definitions) : Type 0 where
   pub calendar_rows : ShowsOnly all table.CalendarEntry (IsOfSome IsCalendarRow d.calendars)
   pub period_rows : ShowsOnly all table.Period (IsOfSome IsPeriodRow d.periods)

@@ -1,4 +1,4 @@
-// The lines that jobs were answered.
+// The reply lines of jobs.
 
 ghost use Rattle.std.specs.Prelude.{◌≡◌, ◌↔◌, ◌<◌, ◌^◌, ◌∷◌, [], ℕ, None, Some, Result, Ok, Err, IfOk, IfSome, IsTrue};
 ghost use Rattle.std.specs.Fmt.{decimal};
@@ -21,7 +21,7 @@ use std::alloc::{AllocError, Global};
 use table_facts::answer_line;
 use work_calendars::App;
 
-// Up to the first blank, and behind it: all of it and nothing, where it has none.
+// The text up to its first blank, and after it: all of it and nothing, if it has none.
 fn split(text: &str) -> (&str, &str)
     ensures front { result.0.now ≡ front text.now }
     ensures back { result.1.now ≡ back text.now }
@@ -32,7 +32,7 @@ fn split(text: &str) -> (&str, &str)
     }
 }
 
-// What stands behind two words.
+// What follows the first two words.
 fn behind_two(text: &str) -> &str
     ensures { result.now ≡ back (back text.now) }
 {
@@ -67,7 +67,7 @@ fn status_in(text: &str) -> Option<Status>
     }
 }
 
-// So many made, and so many withdrawn.
+// The numbers of occurrences made and withdrawn.
 fn made_in(text: &str) -> Reply
     ensures { (m w : ℕ) → m < 2 ^ 64 → w < 2 ^ 64 → text.now ≡ made_text m w → result ≡ Made m w }
 {
@@ -77,7 +77,7 @@ fn made_in(text: &str) -> Reply
     }
 }
 
-// So many moved, carried, completed and deleted.
+// The numbers of occurrences moved, carried, completed and deleted.
 fn moved_in(text: &str) -> Reply
     ensures { (m a k d : ℕ) → m < 2 ^ 64 → a < 2 ^ 64 → k < 2 ^ 64 → d < 2 ^ 64
         → text.now ≡ moved_text m a k d
@@ -94,7 +94,7 @@ fn moved_in(text: &str) -> Reply
     }
 }
 
-// The serial of an occurrence, and the status that may stand behind it.
+// The serial of an occurrence, and the status that may follow it.
 fn occurrence_in(text: &str) -> Option<Reply>
     ensures numbered { (n : ℕ) → IsShown n → text.now ≡ decimal n → result ≡ Some (Numbered n) }
     ensures changed { (n : ℕ) (s : StatusValue) → IsShown n → text.now ≡ changed_text n s
@@ -107,7 +107,7 @@ fn occurrence_in(text: &str) -> Option<Reply>
     }
 }
 
-// Whether this is the line of the answer.
+// Whether this is the line of the reply.
 fn is_line(alloc: Global, answer: &Answer, line: &[u8]) -> Result<bool, AllocError>
     ensures { IfOk result (λ b. IsTrue b ↔ (answer_text answer.now ≡ line.now)) }
 {
@@ -115,7 +115,7 @@ fn is_line(alloc: Global, answer: &Answer, line: &[u8]) -> Result<bool, AllocErr
     Ok(written.as_slice() == line)
 }
 
-// The answer, if this is its line.
+// The reply, if this is its line.
 fn if_line(alloc: Global, answer: Answer, line: &str) -> Result<Option<Answer>, AllocError>
     ensures value { IfOk result (λ found. IfSome found (λ same. answer_text same ≡ line.now)) }
     ensures none { IfOk result (λ found. found ≡ None → answer_text answer ≡ line.now → ⊥) }
@@ -227,7 +227,7 @@ fn told_detailed(alloc: Global, line: &str) -> Result<Option<Answer>, AllocError
     }
 }
 
-/// The answer whose line this is, if one that is kept has it.
+/// The reply whose line this is, if a kept job can have it.
 pub(crate) fn told_answer(alloc: Global, line: &str) -> Result<Option<Answer>, AllocError>
     ensures value { IfOk result (λ found. IfSome found (λ answer. answer_text answer ≡ line.now)) }
     ensures none { IfOk result (λ found. found ≡ None → (answer : Result ReplyValue RefusalValue)

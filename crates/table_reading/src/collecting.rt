@@ -1,4 +1,4 @@
-// What the rows tell that are handed out one at a time.
+// The facts that rows encode, collected one at a time.
 
 ghost use Rattle.std.specs.Prelude.{◌≡◌, [], ◌∷◌, ◌++◌, false, map, IfOk, IsTrue};
 
@@ -7,18 +7,18 @@ use sqlite::Row as Cells;
 use std::alloc::{AllocError, Global};
 use table_lookups::{SinkFault, ValuesSink};
 
-/// Keeps what each row tells that it takes.
+/// Keeps what each row encodes that it accepts.
 #[derive(Drop)]
 pub(crate) struct Collector<X> {
-    /// Where memory is taken.
+    /// The allocator.
     pub alloc: Global,
-    /// What the rows tell that it took.
+    /// What the rows encode that it accepted.
     pub xs: Vec<X>,
-    /// Where it refused a row, whether memory was short; else nothing has the values of that row.
+    /// If it refused a row, whether memory was refused; if not, nothing has the values of that row.
     pub is_short: bool,
 }
 
-// Puts what the row tells behind the others; false where nothing has its values.
+// Appends what the row encodes; false if nothing has its values.
 fn put<X: Told + Drop>(alloc: Global, xs: &mut Vec<X>, cells: &Cells) -> Result<bool, AllocError>
     ensures put { IfOk result (λ is_told. IsTrue is_told
         → map X.values xs.new.items ≡ map X.values xs.old.items ++ cells.now ∷ []) }

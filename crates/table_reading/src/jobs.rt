@@ -45,7 +45,7 @@ fn bytes_in(alloc: Global, cells: &Cells, at: usize) -> Result<Option<Vec<u8>>, 
     }
 }
 
-// The answer in the cell, if it holds one's line.
+// The reply in the cell, if it holds the line of one.
 fn answer_at(alloc: Global, cells: &Cells, at: usize) -> Result<Option<Answer>, AllocError>
     ensures value { IfOk result (λ found. IfSome found (λ answer. column cells.now at ≡ Text
         (answer_text answer))) }
@@ -95,7 +95,7 @@ impl Told for Job {
     }
 }
 
-/// The numbers of all answers are below 2 ^ 64.
+/// The numbers of all replies are below 2 ^ 64.
 pub(crate) fn answers_are_small(jobs: &[Job])
     ensures { All (λ (job : JobValue). IsSmall job.reply) jobs.now }
 {

@@ -1,4 +1,4 @@
-//! What the rows of the tables tell: facts, and the content that has exactly these facts.
+//! What the rows of the tables encode: facts, and the content that has exactly these facts.
 #![tactic(auto)]
 
 mod answers;

@@ -24,7 +24,7 @@ pub struct PlanRows {
     ghost deletion_order: { NumbersRise deletion_number deletions.items },
 }
 
-/// What the tables of the plans tell: rows, lists in force, pairs and jobs.
+/// What the tables of the plans encode: rows, lists in force, pairs and jobs.
 #[derive(Drop)]
 pub struct PlanLists {
     /// How far the plans reach.

@@ -78,7 +78,7 @@ fn pair_text() -> &'static str
     "SELECT successor, predecessor, rowid FROM dependency"
 }
 
-// Hands out the pairs and the rowids of their rows, each before the next is read, in no order.
+// Yields the pairs and the rowids of their rows, each before the next is read, in no order.
 fn hand_pairs<S: Alter, K: ValuesSink>(
     conn: &mut Connection<S>,
     sink: &mut K,
@@ -127,7 +127,7 @@ fn hand_pairs<S: Alter, K: ValuesSink>(
     Err(HandFault::Store(Error::SqliteFailure(ErrorCode::OutOfMemory)))
 }
 
-/// What the rows of the pairs tell.
+/// What the rows of the pairs encode.
 #[tactic(auto, unfolding(crate::specs::Reading::HasPlan))]
 pub(crate) fn read_pairs<S: Alter>(
     alloc: Global,

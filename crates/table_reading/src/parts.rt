@@ -33,7 +33,7 @@ use table_schema::Table;
 
 /// What is read from one table or from several.
 pub trait Part: Sized + Drop {
-    // the tables tell it
+    // the tables encode it
     ghost tells: { Tables → Self → Type 0 };
 
     // what holds of it, whatever was read
@@ -77,13 +77,13 @@ impl<A: Part, B: Part> Part for (A, B) {
     }
 }
 
-/// What stands in the rows of the table at the place, each under its own number.
+/// The rows of the table at the place, decoded, each under its own number.
 pub(crate) trait StandsIn<const PLACE: usize>: Told + Numbered {
     /// The table.
     fn table() -> Table
         ensures { result ≡ table_of PLACE };
 
-    // the number stands first, and is the rowid
+    // the number comes first, and is the rowid
     ghost leads: { ShowsNumbers (table_of PLACE) Self.values Self.number_of };
 }
 
@@ -130,7 +130,7 @@ impl StandsIn<13> for Job {
 /// The rows of the table at the place, in the order of their numbers.
 #[derive(Drop)]
 pub(crate) struct InOrder<X, const PLACE: usize> {
-    /// What stands in them.
+    /// What the rows encode.
     pub rows: Vec<X>,
 }
 
@@ -225,7 +225,7 @@ impl Part for PairRows {
     }
 }
 
-// The pairs that were told, if no two have the same rowid.
+// The pairs that were decoded, if no two have the same rowid.
 fn pair_rows(alloc: Global, told: Vec<PairRow>) -> Result<Option<PairRows>, AllocError>
     ensures same { IfOk result (λ found. IfSome found (λ part.
         part.pairs.items ≡ map pair_of told.items)) }

@@ -1,4 +1,4 @@
-// All that the tables of the plans tell.
+// All that the tables of the plans encode.
 
 ghost use Rattle.std.specs.Prelude.{◌≡◌, false, is_ok, None, IfErr, IfOk, IfSome};
 ghost use Rattle.sqlite.specs.State.{HasCleanDisk};
@@ -50,8 +50,8 @@ fn lists_of(rows: PlanRows, rest: Rest) -> PlanLists
     }
 }
 
-/// All that the tables of the plans tell; `None` where some row of them cannot be read, two rows have one number, two
-/// pairs have one rowid, or two links in force have the same names and not the same limit.
+/// All that the tables of the plans encode; `None` if some row of them can't be decoded, two rows have one number, two
+/// pairs have one rowid, or two links in force have the same names but different limits.
 pub fn read_lists<S: Alter>(
     alloc: Global,
     conn: &mut Connection<S>,

@@ -1,4 +1,4 @@
-// What whole tables tell.
+// What whole tables encode.
 
 ghost use Rattle.std.specs.Prelude.{◌≡◌, false, is_ok, map, None, IfErr, IfOk, IfSome};
 ghost use Rattle.std.specs.List.Sorted.{IsPermutation};
@@ -18,7 +18,7 @@ use std::alloc::{AllocError, Global};
 use table_lookups::{HandFault, hand_all};
 use table_schema::Table;
 
-/// What the rows of the table tell.
+/// What the rows of the table encode.
 #[tactic(auto, unfolding(crate::specs::Reading::HasPlan))]
 pub(crate) fn read_table<X: Told + Drop, S: Alter>(
     alloc: Global,
@@ -54,8 +54,8 @@ pub(crate) fn read_table<X: Told + Drop, S: Alter>(
     }
 }
 
-/// What the rows of the table tell, in the order of their numbers, where no two have the same. Numbers that are shown as
-/// rowids then are rowids of their own.
+/// What the rows of the table encode, in the order of their numbers, if no two have the same. If the table shows its
+/// rowids as these numbers, each row then has its own.
 pub(crate) fn read_in_order<X: Told + Numbered + Drop, S: Alter>(
     alloc: Global,
     conn: &mut Connection<S>,

@@ -1,4 +1,4 @@
-// What one row of a table tells.
+// What one row of a table encodes.
 
 ghost use Rattle.std.specs.Prelude.{◌≡◌, None, IfOk, IfSome};
 ghost use Rattle.sqlite.specs.Order.{Row as Values};
@@ -17,7 +17,7 @@ use occurrences::{CurrentRow, Deletion, Key, Reason, Row, Status};
 use sqlite::Row as Cells;
 use std::alloc::{AllocError, Global};
 
-/// What stands in one row of a table.
+/// What can be encoded in one row of a table.
 pub trait Told: Sized {
     // the values of its row
     ghost values: { Self → Values };
@@ -25,14 +25,14 @@ pub trait Told: Sized {
     // its parts have their forms and their ranges
     ghost has_form: { Self → Type 0 };
 
-    /// What the row tells; `None` where nothing has these values.
+    /// What the row encodes; `None` if nothing has these values.
     fn tell(alloc: Global, cells: &Cells) -> Result<Option<Self>, AllocError>
         ensures told { IfOk result (λ found. IfSome found (λ x. values x ≡ cells.now)) }
         ensures none { IfOk result (λ found. found ≡ None → (x : Self) → has_form x
             → values x ≡ cells.now → ⊥) };
 }
 
-// The occurrence that the first five cells tell.
+// The occurrence that the first five cells encode.
 fn leading_row(cells: &Cells) -> Option<Row>
     ensures value { IfSome result (λ row. Leads row cells.now) }
     ensures none { result ≡ None → (row : RowValue) → IsRow row → IsSerial row.serial

@@ -18,7 +18,7 @@ use Rattle.table_schema.specs.Schema.{plain_table, primary, references, uniques}
 use Rattle.table_schema.specs.declared.tables.Table.{Table}
 use Rattle.table_schema.specs.declared.tables.Table.TheVariants.{LinkInForce, Offset, Predecessor}
 
--- without its limit, which stands last
+-- without its limit, which comes last
 abbrev pub without_limit : Form → Form
 without_limit f = record f { columns = take 2 f.columns }
 
@@ -41,12 +41,12 @@ first_terms t = select_terms_of (first_form t)
 abbrev pub first_shown : Table → Row → Row
 first_shown t row = eval_all (first_terms t) ([] ∷ row ∷ [])
 
--- as it stands in that tree
+-- as it is in that tree
 abbrev pub first_table_at : ℕ → Table → Described
 first_table_at at t = plain_table (name t) at (first_columns t) (key t) (primary t) (uniques t) (orders t) (checks t)
     (references t)
 
--- the tables of schema 1 are made, one after the other, behind those that are there
+-- the tables of schema 1 are made, one after the other, after those that are there
 abbrev pub with_firsts : Schema → List Table → Schema
 with_firsts schema [] = schema
 with_firsts schema (t ∷ ts) = with_firsts (created schema (first_table_at 0 t)) ts
@@ -62,7 +62,7 @@ first_after t = with_firsts no_schema (up_to t)
 abbrev pub first_schema : Schema
 first_schema = with_firsts no_schema all_tables
 
--- the tables of schema 1 stand in the schema, each at some place and in some tree, and perhaps others, which refer to
+-- the tables of schema 1 are in the schema, each at some place and in some tree, and perhaps others, which refer to
 -- none of these
 pub record HasFirstTables (schema : Schema) : Type 0 where
   pub at : Table → ℕ
@@ -75,14 +75,14 @@ pub record HasFirstTables (schema : Schema) : Type 0 where
 abbrev pub is_among : (Table → ℕ) → List Table → ℕ → Bool
 is_among trees gone n = list_any (λ u. n == trees u) gone
 
--- these tables are taken away, and their indexes
+-- these tables are dropped, with their indexes
 abbrev pub without : (Table → ℕ) → List Table → Schema → Schema
 without trees gone schema = record schema {
   tables = filter (λ d. not (is_among trees gone d.tree)) schema.tables;
   indexes = filter (λ i. not (is_among trees gone i.table)) schema.indexes;
 }
 
--- the tables that schema 2 describes otherwise
+-- the tables that differ in schema 2
 abbrev pub changed : List Table
 changed = Predecessor ∷ LinkInForce ∷ []
 
@@ -95,11 +95,11 @@ is_changed _ = false
 abbrev pub changed_schema : Schema
 changed_schema = with_tables no_schema changed
 
--- the tables of schema 1 stand there, and once those that change are taken away, nothing is in the way of the new ones
+-- the tables of schema 1 are there, and once those that change are dropped, nothing is in the way of the new ones
 pub record CanRemake (schema : Schema) : Type 0 where
   pub has : HasFirstTables schema
   pub free : CanMake (without has.trees changed schema) changed_schema
 
--- those of schema 2 stand in place of the two, behind the others
+-- those of schema 2 take the place of the two, after the others
 abbrev pub remade_schema : (Table → ℕ) → Schema → Schema
 remade_schema trees schema = with_tables (without trees changed schema) changed

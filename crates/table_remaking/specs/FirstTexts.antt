@@ -14,7 +14,7 @@ first_create_sql t = create_text (first_form t)
 abbrev pub first_select_sql : Table → List ℕ
 first_select_sql t = select_text (first_form t)
 
--- takes the table away
+-- drops the table
 abbrev pub drop_sql : Table → List ℕ
 drop_sql Meta = drop_text (form Meta)
 drop_sql t = drop_text (form t)

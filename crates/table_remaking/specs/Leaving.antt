@@ -1,4 +1,4 @@
--- What is left of a schema once the tables of some names are taken away.
+-- What is left of a schema once the tables of some names are dropped.
 use Rattle.std.specs.Prelude.{ℕ, ◌==◌, Bool, false, not, List, filter, Option, Some, None}
 use Rattle.std.specs.List.{list_any}
 use Rattle.sqlite_schema.specs.declared.schema.Schema.{Schema}

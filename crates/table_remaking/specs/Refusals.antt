@@ -32,13 +32,13 @@ IsRefused limit params db text command e = Does limit by_rule params db text Non
 abbrev pub RefusesToMake : Option ℕ → Database → Table → Error → Type 0
 RefusesToMake limit db t e = IsRefused limit [] db (first_create_sql t) CreateTable e
 
--- it refuses to take the table away
+-- it refuses to drop the table
 abbrev pub RefusesToDrop : Option ℕ → Database → Table → Error → Type 0
 RefusesToDrop limit db t e = (at : ℕ) × (table_named db.schema (name t) ≡ Some at)
     × IsRefused limit [] db [] (DropTable at) e
 
--- why a statement fails: memory is short, the device failed meanwhile, the connection was shut before, or a limit on
--- steps is set; or it is refused
+-- why a statement fails: memory is refused, the device failed meanwhile, the connection was closed before, or a limit
+-- on steps is set; or it is refused
 abbrev pub FailsFor : (Error → Type 0) → State → State → Error → Type 0
 FailsFor Refused old new e = MayFail old new e ⊎ Refused e
 
@@ -49,7 +49,7 @@ pub record RefusesToBegin (limit : Option ℕ) (base : Database) (e : Error) : T
   pub schema : db.schema ≡ first_before table
   pub refused : RefusesToMake limit db table e
 
--- of the two tables that change one can't go, once these are gone and the others stand as they stood
+-- one of the two tables that change can't be dropped, once these are gone and the others are unchanged
 pub record RefusesToLose (limit : Option ℕ) (base : Database) (e : Error) : Type 0 where
   pub can : CanRemake base.schema
   pub db : Database

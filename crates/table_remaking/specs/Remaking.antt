@@ -1,4 +1,4 @@
--- The rows of the tables of schema 1, as those of schema 2 take them.
+-- The rows of the tables of schema 1, as those of schema 2 accept them.
 use Rattle.std.specs.Prelude.{◌≡◌, ◌⊎◌, ℕ, false, List, [], ◌∷◌, ◌++◌, drop, map, fold, pos, take, Option, Some, Result, IfErr}
 use Rattle.std.specs.Prelude.{OnOk, IsTrue}
 use Rattle.std.specs.List.{All}
@@ -31,7 +31,7 @@ use Rattle.table_remaking.specs.Refusals.{FailsFor, IsRefused, RefusesToLose}
 use Rattle.table_remaking.specs.Types.{AreFirst}
 use Rattle.table_remaking.specs.declared.rows.FirstRows.{FirstRows}
 
--- the row of `plan_meta` tells the current version
+-- the row of `plan_meta` has the current version
 abbrev pub with_version : Row → Row
 with_version (id ∷ version ∷ rest) = id ∷ Int (pos SCHEMA_VERSION) ∷ rest
 with_version row = row
@@ -59,7 +59,7 @@ AreAllFirst reads = All (λ (read : FirstRows). AreFirst read.table read.rows.it
 abbrev pub tables_in : List FirstRows → List Table
 tables_in reads = map (λ (read : FirstRows). read.table) reads
 
--- they are of each table once, in the order in which the tables are made
+-- they have each table once, in the order in which the tables are made
 abbrev pub AreWhole : List FirstRows → Type 0
 AreWhole reads = tables_in reads ≡ all_tables
 
@@ -91,14 +91,14 @@ pub record CanRemakeInside (reads : List FirstRows) (base : Database) (s : State
   pub typed : AreAllFirst reads
   pub mode : IsTrue s.in_transaction
 
--- the two tables of schema 2 stand in place of those of schema 1, behind the others; those that are none of the plan keep
+-- the two tables of schema 2 are in place of those of schema 1, after the others; those that are none of the plan keep
 -- their rows
 pub record IsRemadeOf (old new : Database) : Type 0 where
   pub can : CanRemake old.schema
   pub schema : new.schema ≡ remade_schema can.has.trees old.schema
   pub others : KeepsRows (without can.has.trees all_tables old.schema).tables old.trees new.trees
 
--- they stand there so in a database that keeps its rules, and all show the rows
+-- they are so in a database that keeps its rules, and all show the rows
 pub record RemakesTo (reads : List FirstRows) (old : Database) (db : Trees) : Type 0 where
   pub schema : Schema
   pub remade : IsRemadeOf old (record { schema = schema; trees = db })
@@ -114,7 +114,7 @@ abbrev pub RefusesRow : Option ℕ → Database → Table → Row → Error → 
 RefusesRow limit db t cells e = (at : ℕ) × (table_named db.schema (name t) ≡ Some at)
     × IsRefused limit cells db [] (Insert at (Values (insert_terms t) (width t))) e
 
--- on the way to these rows of the tables one can't be put in: with it and those after it they would be whole
+-- on the way to these rows of the tables one can't be inserted: with it and those after it they would be complete
 pub record RefusesToFill (limit : Option ℕ) (schema : Schema) (goal : Tables) (e : Error) : Type 0 where
   pub db : Database
   pub same : db.schema ≡ schema
@@ -140,11 +140,12 @@ of_meta reads = take 1 reads
 abbrev pub of_changed : List FirstRows → List FirstRows
 of_changed reads = take 2 (drop 6 reads)
 
--- the row of `plan_meta` is replaced, and the rows of the two tables are put into them
+-- the row of `plan_meta` is replaced, and the rows of the two tables are inserted into them
 abbrev pub refilled : List FirstRows → Tables → Tables
 refilled reads all = with_all_put (of_changed reads) (with_all_put (of_meta reads) (without_key Meta meta_key all))
 
--- one of the two tables can't go, or a row can't be put into `plan_meta` or into those that stand in their place
+-- one of the two tables can't be dropped, or a row can't be inserted into `plan_meta` or into the tables that replace
+-- them
 abbrev pub RefusesToRemake : Option ℕ → List FirstRows → Database → Error → Type 0
 RefusesToRemake limit reads base e = RefusesToLose limit base e ⊎ ((can : CanRemake base.schema)
     × RefusesToFill limit (remade_schema can.has.trees base.schema) (refilled reads (emptied (tables_of base.trees))) e)
@@ -167,7 +168,7 @@ pub record CanRefill (reads : List FirstRows) (base : Database) (s : State) : Ty
   pub typed : AreAllFirst reads
   pub mode : IsTrue s.in_transaction
 
--- they have the rows; the tables beside them have those that they had
+-- they have the rows; all other tables have the rows that they had
 pub record IsRefilled (reads : List FirstRows) (base : Database) (s : State) : Type 0 where
   pub plan : IsPlan s
   pub schema : s.now.schema ≡ base.schema
@@ -176,11 +177,12 @@ pub record IsRefilled (reads : List FirstRows) (base : Database) (s : State) : T
   pub obeys : IsDatabase s.now
   pub mode : IsTrue s.in_transaction
 
--- a row can't be put in
+-- a row can't be inserted
 abbrev pub RefusesToRefill : List FirstRows → Option ℕ → Database → Error → Type 0
 RefusesToRefill reads limit base = RefusesToFill limit base.schema (refilled reads (tables_of base.trees))
 
--- over the tables of a plan it fails for a common cause or since this is refused; an Ok leaves the connection open
+-- over the tables of a plan it fails for one of the four general errors or because this is refused; an Ok leaves the
+-- connection open
 pub record PutsWhere {S T : Type 0} (Fit : Type 0) (Refused : Option ℕ → Database → Error → Type 0) (g : Ghosts S)
     (old new : Transaction S) (result : Result T Error) : Type 0 where
   pub fails : HasCleanDisk (seen g new) → IsPlan (seen g old) → IsTrue (seen g old).in_transaction
@@ -189,8 +191,8 @@ pub record PutsWhere {S T : Type 0} (Fit : Type 0) (Refused : Option ℕ → Dat
   pub stays_open : HasCleanDisk (seen g new) → IsPlan (seen g old) → IsTrue (seen g old).in_transaction
       → IsTrue (seen g old).is_open → Fit → OnOk result (IsTrue (seen g new).is_open)
 
--- in a plan that keeps its rules the row of `plan_meta` goes for nothing that stands in them, and an Ok leaves the
--- connection open
+-- in a plan that keeps its rules nothing in the tables keeps the row of `plan_meta` from being deleted, and an Ok
+-- leaves the connection open
 pub record TakesMeta {S T : Type 0} (g : Ghosts S) (old new : Transaction S) (result : Result T Error) : Type 0 where
   pub fails : HasCleanDisk (seen g new) → IsPlan (seen g old) → IsTrue (seen g old).in_transaction
       → IsDatabase (seen g old).now → IfErr result (MayFail (seen g old) (seen g new))
@@ -201,7 +203,7 @@ pub record TakesMeta {S T : Type 0} (g : Ghosts S) (old new : Transaction S) (re
 abbrev pub CanFill : List FirstRows → Database → State → Type 0
 CanFill reads base s = IsReady base s × AreAllFirst reads
 
--- the tables of a plan are made, and these rows put into them; the others stand as they stood, with their rows
+-- the tables of a plan are made, and these rows inserted; the others are unchanged, with their rows
 pub record IsFilled (reads : List FirstRows) (base : Database) (s : State) : Type 0 where
   pub plan : IsPlan s
   pub rows_are : tables_of s.now.trees ≡ with_all_put reads no_rows
@@ -210,11 +212,11 @@ pub record IsFilled (reads : List FirstRows) (base : Database) (s : State) : Typ
   pub obeys : IsDatabase s.now
   pub mode : IsTrue s.in_transaction
 
--- one of the rows can't be put in
+-- one of the rows can't be inserted
 abbrev pub RefusesToFillAll : List FirstRows → Option ℕ → Database → Error → Type 0
 RefusesToFillAll reads limit base = RefusesToFill limit (with_plan base.schema) (with_all_put reads no_rows)
 
--- the tables of a plan stand in a database, and show the rows
+-- the tables of a plan are in a database, and show the rows
 abbrev pub IsFilledOnce : List FirstRows → State → State → Type 0
 IsFilledOnce reads old new = IsPlan new × AreRemade reads (tables_of new.now.trees)
 

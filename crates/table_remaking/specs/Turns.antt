@@ -22,7 +22,7 @@ use Rattle.table_schema.specs.declared.tables.Table.{Table}
 use Rattle.table_remaking.specs.FirstSchema.{CanRemake, changed, changed_schema, without}
 use Rattle.table_remaking.specs.Refusals.{FailsFor}
 
--- the error tells of the device, or that the connection is shut
+-- the error reports the device, or that the connection is closed
 abbrev pub is_of_device : Error → Bool
 is_of_device (SqliteFailure SystemIoFailure) = true
 is_of_device (SqliteFailure DatabaseCorrupt) = true
@@ -30,7 +30,7 @@ is_of_device (SqliteFailure DiskFull) = true
 is_of_device (SqliteFailure Closed) = true
 is_of_device _ = false
 
--- it does so only where the device failed meanwhile, or the connection was shut before
+-- it does so only if the device failed meanwhile, or the connection was closed before
 abbrev pub DeviceHasCause : State → State → Error → Type 0
 DeviceHasCause old new e = IsTrue (is_of_device e) → MoreFaults old.faults new.faults ⊎ (old.is_open ≡ false)
 
@@ -38,10 +38,10 @@ DeviceHasCause old new e = IsTrue (is_of_device e) → MoreFaults old.faults new
 abbrev pub IsInside : Schema → Database → State → Type 0
 IsInside schema base s = (s.now.schema ≡ schema) × IsTrue s.in_transaction
 
--- ---- tables go
+-- ---- tables are dropped
 
--- in a transaction over a database in which the tables of schema 1 can be remade these were taken away; the others
--- stand as they stood, with their rows
+-- in a transaction over a database in which the tables of schema 1 can be remade these were dropped; the others are
+-- unchanged, with their rows
 pub record IsLosing (gone : List Table) (base : Database) (s : State) : Type 0 where
   pub can : CanRemake base.schema
   pub schema : s.now.schema ≡ without can.has.trees gone base.schema
@@ -62,7 +62,7 @@ pub record CanMakeOne (t : Table) (base : Database) (s : State) : Type 0 where
   pub is : s.now ≡ base
   pub mode : IsTrue s.in_transaction
 
--- it is made, without rows; the others stand as they stood, with their rows
+-- it is made, without rows; the others are unchanged, with their rows
 pub record IsOneMade (t : Table) (base : Database) (s : State) : Type 0 where
   pub schema : s.now.schema ≡ created base.schema (table_at 0 t)
   pub empty : s.now.trees (next_tree base.schema) ≡ []
@@ -76,7 +76,7 @@ pub record CanMakeChanged (base : Database) (s : State) : Type 0 where
   pub is : s.now ≡ base
   pub mode : IsTrue s.in_transaction
 
--- they are made, without rows; the others stand as they stood, with their rows
+-- they are made, without rows; the others are unchanged, with their rows
 pub record AreChangedMade (base : Database) (s : State) : Type 0 where
   pub schema : s.now.schema ≡ with_tables base.schema changed
   pub empty : AllMade (λ t. s.now.trees t.tree ≡ []) base.schema changed
@@ -86,7 +86,7 @@ pub record AreChangedMade (base : Database) (s : State) : Type 0 where
 
 -- ---- in turn
 
--- such statements fail for a common cause or since this is refused
+-- such statements fail for one of the four general errors or because this is refused
 abbrev pub TurnsUnless : {S T : Type 0} → Ghosts S → (old new : Transaction S) → Result T Error
     → (Before After : Database → State → Type 0) → (Option ℕ → Database → Error → Type 0) → Type 0
 TurnsUnless g old new result Before After Refused = Turns g old new result Before After

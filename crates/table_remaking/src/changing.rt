@@ -18,8 +18,8 @@ fn make<S: Alter>(tx: &mut Transaction<'_, S>, table: Table) -> Result<(), Error
     Ok(())
 }
 
-/// Makes the two tables behind those of the database, inside a transaction, where nothing stands in their way. It fails
-/// for want of memory, for a failure of the device, for a connection that was shut, or for a limit on steps.
+/// Makes the two tables, after those of the database, inside a transaction, if nothing is in their way. It fails only
+/// if memory is refused, the device fails, the connection was closed, or a limit on steps is reached.
 pub(crate) fn make_changed<S: Alter>(tx: &mut Transaction<'_, S>) -> Result<(), Error>
     ensures { Makes S.Store tx.old tx.new result CanMakeChanged AreChangedMade }
 {
@@ -27,7 +27,7 @@ pub(crate) fn make_changed<S: Alter>(tx: &mut Transaction<'_, S>) -> Result<(), 
     make(tx, Table::LinkInForce)
 }
 
-/// Makes the two tables that schema 2 describes otherwise, as it has them, in an empty database.
+/// Makes the two tables that differ in schema 2, as schema 2 has them, in an empty database.
 pub fn make_changed_tables<S: Alter>(conn: &mut Connection<S>) -> Result<(), Error>
     requires { conn.old.in_transaction ≡ false }
     ensures { HasCleanDisk (state S.Store conn.new)

@@ -1,4 +1,4 @@
-// The tables of schema 1 that change are taken away.
+// The tables of schema 1 that change are dropped.
 
 ghost use Rattle.std.specs.Prelude.{[], ◌∷◌};
 ghost use Rattle.table_schema.specs.declared.tables.Table.TheVariants.{LinkInForce};
@@ -25,7 +25,7 @@ fn drop_predecessors<S: Alter>(tx: &mut Transaction<'_, S>) -> Result<(), Error>
     Ok(())
 }
 
-/// Takes the two tables away.
+/// Drops the two tables.
 pub(crate) fn drop_changed<S: Alter>(tx: &mut Transaction<'_, S>) -> Result<(), Error>
     ensures { TurnsUnless S.Store tx.old tx.new result (IsLosing []) (IsLosing changed)
         RefusesToLose }

@@ -55,8 +55,8 @@ fn fill_tables<S: Alter>(
     Ok(())
 }
 
-/// A database in memory that has the tables of a plan alone, which show these rows of schema 1 as those of schema 2. It
-/// fails for want of memory, or since they take one of the rows not.
+/// A database in memory that has the tables of a plan alone, which show these rows of schema 1 as those of schema 2.
+/// It fails if memory is refused, or because they don't accept one of the rows.
 pub fn plan_in_memory(alloc: Global, reads: &[FirstRows]) -> Result<Connection<MemStore>, Error>
     requires whole { AreWhole reads.now }
     requires typed { AreAllFirst reads.now }

@@ -1,4 +1,4 @@
-// What is left of a schema once some of its tables are taken away.
+// What is left of a schema once some of its tables are dropped.
 
 ghost use Rattle.std.specs.Prelude.{◌≡◌, not, filter, IfOk};
 ghost use Rattle.table_schema.specs.Named.{first_named};
@@ -61,8 +61,8 @@ fn indexes_left(
     Ok(left)
 }
 
-/// What is left of the schema without the tables that have the names of these, and without their indexes. It fails for
-/// want of memory.
+/// What is left of the schema without the tables that have the names of these, and without their indexes. It fails
+/// only if memory is refused.
 pub fn left_without(alloc: Global, schema: &Schema, named: &[Table]) -> Result<Schema, AllocError>
     ensures { IfOk result (λ left. left ≡ left_by schema.now named.now) }
 {

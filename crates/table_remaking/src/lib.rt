@@ -1,4 +1,4 @@
-//! The two tables of schema 1 that change are made anew as those of schema 2, with their rows, in one transaction.
+//! The two tables of schema 1 that change are replaced by those of schema 2, with their rows, in one transaction.
 #![tactic(auto)]
 
 mod changing;

@@ -1,4 +1,4 @@
-// Rows of schema 1 are put into the tables of schema 2.
+// Rows of schema 1 are inserted into the tables of schema 2.
 
 ghost use Rattle.table_schema.specs.Rows.{tables_of, with_cells};
 ghost use Rattle.table_schema.specs.Writes.{WritesWhere};
@@ -45,7 +45,7 @@ fn put_rows<S: Alter>(
     Ok(())
 }
 
-/// Puts all rows into their tables.
+/// Inserts all rows into their tables.
 pub(crate) fn put_all<S: Alter>(
     tx: &mut Transaction<'_, S>,
     alloc: Global,

@@ -16,7 +16,7 @@ use sqlite::types::ValueRef;
 use sqlite::{Alter, Error, Transaction};
 use std::alloc::Global;
 
-// Takes the row of `plan_meta` out.
+// Deletes the row of `plan_meta`.
 fn take_meta<S: Alter>(tx: &mut Transaction<'_, S>) -> Result<(), Error>
     ensures writes { WritesWhere (λ _. ⊤) S.Store tx.old tx.new result (without_key Meta meta_key) }
     ensures takes { TakesMeta S.Store tx.old tx.new result }
@@ -25,8 +25,8 @@ fn take_meta<S: Alter>(tx: &mut Transaction<'_, S>) -> Result<(), Error>
     Ok(())
 }
 
-/// Replaces the row of `plan_meta` by that of the current version, and puts the rows of the two tables that change into
-/// those of schema 2, which are empty.
+/// Replaces the row of `plan_meta` by that of the current version, and inserts the rows of the two tables that change
+/// into those of schema 2, which are empty.
 pub(crate) fn refill<S: Alter>(
     tx: &mut Transaction<'_, S>,
     alloc: Global,

@@ -1,4 +1,4 @@
-// Rows of schema 1, as the tables of schema 2 take them.
+// Rows of schema 1, as the tables of schema 2 accept them.
 
 ghost use Rattle.std.specs.Prelude.{◌≡◌, map, IfOk};
 ghost use Rattle.sqlite.specs.Order.{column};
@@ -30,7 +30,7 @@ fn value_at(row: &Row, at: usize) -> ValueRef<'_>
     }
 }
 
-// The values of a row, as a statement takes them.
+// The values of a row, as a statement binds them.
 fn lend(alloc: Global, row: &Row) -> Result<Vec<ValueRef<'_>>, AllocError>
     ensures { IfOk result (λ values. bound values.items ≡ map bound_value row.now) }
 {
@@ -41,7 +41,7 @@ fn lend(alloc: Global, row: &Row) -> Result<Vec<ValueRef<'_>>, AllocError>
     Ok(values)
 }
 
-// Puts the current version in the place of the one that is there.
+// Puts the current version in place of the old one.
 fn put_version(values: &mut Vec<ValueRef<'_>>)
     ensures { bound values.new.items ≡ with_version (bound values.old.items) }
 {

@@ -22,7 +22,7 @@ pub(crate) fn first_create_text(table: Table) -> &'static str
     }
 }
 
-/// The text that shows all rows of the table of schema 1.
+/// The text that selects all rows of the table of schema 1.
 pub fn first_select_text(table: Table) -> &'static str
     ensures { result.now ≡ first_select_sql table }
 {
@@ -33,21 +33,21 @@ pub fn first_select_text(table: Table) -> &'static str
     }
 }
 
-/// The text that takes the lists of predecessors away.
+/// The text that drops the lists of predecessors.
 pub(crate) fn drop_predecessors_text() -> &'static str
     ensures { result.now ≡ drop_sql Predecessor }
 {
     "DROP TABLE predecessor"
 }
 
-/// The text that takes the lists in force away.
+/// The text that drops the lists in force.
 pub(crate) fn drop_links_text() -> &'static str
     ensures { result.now ≡ drop_sql LinkInForce }
 {
     "DROP TABLE link_in_force"
 }
 
-/// The text that takes the row of `plan_meta` out.
+/// The text that deletes the row of `plan_meta`.
 pub(crate) fn delete_meta_text() -> &'static str
     ensures { result.now ≡ delete_sql Meta }
 {

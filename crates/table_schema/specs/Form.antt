@@ -19,8 +19,8 @@ pub record Col : Type 0 where
   pub kind : Kind
   pub may_lack : Bool
 
--- what tells rows apart: the first column, which stands for the rowid, and of which one table has 1 alone; that, and two
--- further columns together; or so many of the first columns together
+-- the key that distinguishes rows: the first column, which stands for the rowid, and of which one table has 1 alone;
+-- that, and two further columns together; or so many of the first columns together
 pub data Key : Type 0 where
   Rowid : Key
   OneRow : Key
@@ -113,7 +113,7 @@ abbrev pub create_text : Form → List ℕ
 create_text f = codes "CREATE TABLE " ++ (f.name ++ (codes " (" ++ (listed (column_texts f.key f.columns ++ key_texts f.key
     (names f)) ++ codes ") STRICT")))
 
--- ---- what the kit knows of the table
+-- ---- what the kit states of the table
 
 abbrev pub has_rowid : Key → Bool
 has_rowid Rowid = true

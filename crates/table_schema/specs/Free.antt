@@ -1,4 +1,4 @@
--- Where tables can be made beside other tables, and what stands then.
+-- Where tables can be made next to other tables, and what is there then.
 use Rattle.std.specs.Prelude.{◌≡◌, ◌+◌, ◌<◌, ◌≤◌, false, List, [], ◌∷◌, length}
 use Rattle.std.specs.List.{All}
 use Rattle.sqlite.specs.Change.{created, next_tree}
@@ -30,9 +30,9 @@ pub record AreUnused (schema made : Schema) : Type 0 where
 abbrev pub FitsIn : Schema → Schema → Type 0
 FitsIn schema made = next_tree schema + length made.tables + length made.indexes ≤ 65536
 
--- the tables of the other can be made in it: nothing has their names, and there is room for their trees; no table refers
--- to one of them; no two tables have one tree, and no index is of a tree that is still to come; and AUTOINCREMENT has its
--- table where it needs one
+-- the tables of the other can be made in it: nothing has their names, and there is room for their trees; no table
+-- refers to one of them; no two tables have one tree, and no index is of a tree that is still to be made; and
+-- AUTOINCREMENT has its table if it needs one
 pub record CanMake (schema made : Schema) : Type 0 where
   pub unused : AreUnused schema made
   pub room : FitsIn schema made
@@ -41,11 +41,11 @@ pub record CanMake (schema made : Schema) : Type 0 where
   pub indexed : All (λ i. i.table < next_tree schema) schema.indexes
   pub uncounted : lacks_sequence schema ≡ false
 
--- nothing stands in the way of the tables of a plan
+-- nothing is in the way of the tables of a plan
 abbrev pub IsFree : Schema → Type 0
 IsFree schema = CanMake schema plan_schema
 
--- these tables are made, one after the other, behind those that are there
+-- these tables are made, one after the other, after those that are there
 abbrev pub with_tables : Schema → List Table → Schema
 with_tables schema [] = schema
 with_tables schema (t ∷ ts) = with_tables (created schema (table_at 0 t)) ts

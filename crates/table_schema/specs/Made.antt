@@ -1,4 +1,4 @@
--- Tables of a plan that are made beside others, inside a transaction.
+-- Tables of a plan that are made next to others, inside a transaction.
 use Rattle.std.specs.Prelude.{◌≡◌, ◌+◌, List, [], ◌∷◌, ◌++◌, drop, take, IsTrue, ⊤}
 use Rattle.sqlite.specs.Change.{KeepsRows, created, next_tree}
 use Rattle.sqlite.specs.Effect.{Database, IsDatabase}
@@ -22,7 +22,7 @@ later t = drop (place t + 1) all_tables
 abbrev pub up_to : Table → List Table
 up_to t = earlier t ++ t ∷ []
 
--- each of the tables is so, in the tree in which it is made
+-- each of the tables is like this one, in the tree in which it is made
 abbrev pub AllMade : (Described → Type 0) → Schema → List Table → Type 0
 AllMade P schema [] = ⊤
 AllMade P schema (t ∷ ts) = P (table_at (next_tree schema) t) × AllMade P (created schema (table_at 0 t)) ts
@@ -38,7 +38,7 @@ pub record IsReady (base : Database) (s : State) : Type 0 where
   pub is : s.now ≡ base
   pub mode : IsTrue s.in_transaction
 
--- these tables are made, without rows; the others stand as they stood, with their rows
+-- these tables are made, without rows; the others are unchanged, with their rows
 pub record IsMadeSoFar (done : List Table) (base : Database) (s : State) : Type 0 where
   pub free : IsFree base.schema
   pub schema : s.now.schema ≡ with_tables base.schema done
@@ -47,7 +47,7 @@ pub record IsMadeSoFar (done : List Table) (base : Database) (s : State) : Type 
   pub sound : IsWritten done s.now
   pub mode : IsTrue s.in_transaction
 
--- the tables of a plan are made, without rows; the others stand as they stood, with their rows
+-- the tables of a plan are made, without rows; the others are unchanged, with their rows
 pub record IsMadeWhole (base : Database) (s : State) : Type 0 where
   pub free : IsFree base.schema
   pub schema : s.now.schema ≡ with_plan base.schema
@@ -58,7 +58,7 @@ pub record IsMadeWhole (base : Database) (s : State) : Type 0 where
   pub sound : IsDatabase s.now
   pub mode : IsTrue s.in_transaction
 
--- the tables of a plan were made, without rows; the others stand as they stood, with their rows
+-- the tables of a plan were made, without rows; the others are unchanged, with their rows
 pub record IsMadeBeside (old new : State) : Type 0 where
   pub plan : IsPlan new
   pub rows_are : tables_of new.now.trees ≡ no_rows

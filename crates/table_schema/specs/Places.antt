@@ -1,4 +1,4 @@
--- Where a table stands: in a schema, and in the list of objects, which tells its tree.
+-- Where a table is: in a schema, and in the list of objects, which names its tree.
 use Rattle.std.specs.Prelude.{◌≡◌, ◌≢◌, ℕ, ◌^◌, ◌-◌, ◌==◌, nat_le, false, List, filter, find, slice_get, Option, Some, None}
 use Rattle.sqlite.specs.Order.{Row}
 use Rattle.sqlite.specs.Schema.{Schema}
@@ -9,7 +9,7 @@ use Rattle.sqlite_schema.specs.Names.{same_name, table_named}
 use Rattle.sqlite_trees.specs.Objects.{number_in}
 use Rattle.sqlite_value.specs.Order.{bytes, column}
 
--- the table stands at this place of the list, and none before it has its name or its tree
+-- the table is at this place of the list, and none before it has its name or its tree
 pub record TableStandsAt (schema : Schema) (table : Table) (at : ℕ) : Type 0 where
   pub named : table_named schema table.name ≡ Some at
   pub got : slice_get schema.tables at ≡ Some table

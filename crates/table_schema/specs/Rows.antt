@@ -27,7 +27,7 @@ use Rattle.table_schema.specs.declared.tables.Table.TheVariants.{Offset, RunCycl
 abbrev pub Tables : Type 0
 Tables = Table → List Row
 
--- those of a database: of each table those in the tree that the list of objects tells
+-- those of a database: of each table those in the tree that the list of objects names
 abbrev pub tables_of : Trees → Tables
 tables_of db t = db (tree_named (db catalog_tree) (name t))
 
@@ -64,7 +64,7 @@ with_cells t cells all = with_rows t (placed (with_rowid Chosen (all t) (stored 
 abbrev pub without_key : Table → Row → Tables → Tables
 without_key t key all = with_rows t (filter (λ r. not (matches t key r)) (all t)) all
 
--- where the table has run cycles, no offset has the key: a run cycle takes its offsets with it
+-- if the table has run cycles, no offset has the key: a run cycle's offsets are deleted with it
 abbrev pub IsAlone : Table → Row → Tables → Type 0
 IsAlone RunCycle key all = AllByRecursion (λ r. matches Offset key r ≡ false) (all Offset)
 IsAlone _ key all = ⊤
@@ -78,20 +78,20 @@ abbrev pub HaveRowids : List Row → Type 0
 HaveRowids [] = ⊤
 HaveRowids (r ∷ rs) = IsTrue (is_int (rowid r)) × AllByRecursion (Differ r) rs × HaveRowids rs
 
--- the database has the tables of the plan, and perhaps others; its list of objects tells their trees
+-- the database has the tables of the plan, and perhaps others; its list of objects names their trees
 pub record IsPlan (s : State) : Type 0 where
   pub schema : HasTables s.now.schema
   pub told : (t : Table) → tree_named (s.now.trees catalog_tree) (name t) ≡ schema.trees t
   pub rowids : (t : Table) → HaveRowids (tables_of s.now.trees t)
 
--- each table that is none of the plan has the rows that it had
+-- each table that isn't one of the plan's has the rows that it had
 abbrev pub KeepsBeside : Database → Database → Type 0
 KeepsBeside old new =
     AllByRecursion (λ d. ((t : Table) → d.tree ≢ tree_named (old.trees catalog_tree) (name t))
     → new.trees d.tree ≡ old.trees d.tree) old.schema.tables
 
--- inside a transaction the tables now have these rows; the others stand as they stood, and where the database obeyed its
--- rules it does
+-- inside a transaction the tables now have these rows; the others are unchanged, and if the database obeyed its rules
+-- it still does
 pub record Stands (old new : State) (rows : Tables) : Type 0 where
   pub plan : IsPlan new
   pub schema : new.now.schema ≡ old.now.schema
@@ -103,8 +103,8 @@ pub record Stands (old new : State) (rows : Tables) : Type 0 where
   pub committed : new.committed ≡ old.committed
   pub mode : IsTrue new.in_transaction
 
--- why a statement may fail that nothing in the tables stands against: memory is short, the device fails meanwhile, the
--- connection was shut before, or the limit on steps is met, where one is set
+-- why a statement may fail even if the tables allow it, the four general errors: memory is refused, the device fails
+-- meanwhile, the connection was closed before, or a limit on steps is reached, if one is set
 abbrev pub MayFail : State → State → Error → Type 0
 MayFail old new e = ((cause : StoreError) × (e ≡ store_error cause) × HasCause old new ⊥ cause)
     ⊎ ((e ≡ SqliteFailure OperationInterrupted) × IsSome old.step_limit)

@@ -116,7 +116,7 @@ orders t = orders_of (form t).key
 abbrev pub checks : Table → List Term
 checks t = checks_of (form t).key
 
--- an offset belongs to a run cycle, and goes with it
+-- an offset belongs to a run cycle, and is deleted with it
 abbrev pub to_run_cycle : Reference
 to_run_cycle = record {
   columns = 1 ∷ 2 ∷ [];
@@ -130,7 +130,7 @@ to_run_cycle = record {
 abbrev pub references : Table → List Reference
 references t = references_of (form t).key
 
--- as it stands in that tree
+-- as it is in that tree
 abbrev pub table_at : ℕ → Table → Described
 table_at at t = plain_table (name t) at (columns t) (key t) (primary t) (uniques t) (orders t) (checks t)
     (references t)
@@ -157,12 +157,12 @@ plan_schema = record { tables = map table all_tables; indexes = indexes; views =
 abbrev pub IsAside : Reference → Type 0
 IsAside ref = (t : Table) → same_name (name t) ref.parent ≡ false
 
--- no reference is to one of the tables, but that of the offsets, which stand in this tree
+-- no reference is to one of the tables, except that of the offsets, which are in this tree
 abbrev pub RefersAside : Schema → ℕ → Type 0
 RefersAside schema n = AllByRecursion (λ child. AllByRecursion (λ ref. IsAside ref
     ⊎ ((child ≡ table_at n Offset) × (ref ≡ to_run_cycle))) child.references) schema.tables
 
--- the tables of the plan stand in the schema, each at some place and in some tree, and perhaps others, which refer to
+-- the tables of the plan are in the schema, each at some place and in some tree, and perhaps others, which refer to
 -- none of these
 pub record HasTables (schema : Schema) : Type 0 where
   pub at : Table → ℕ

@@ -1,4 +1,4 @@
--- What the tables of a plan take.
+-- What the tables of a plan accept.
 use Rattle.std.specs.Prelude.{◌≡◌, ℕ, ℤ, true, false, List, [], ◌∷◌, drop, length, IsTrue}
 use Rattle.std.specs.List.{AllByRecursion, list_any}
 use Rattle.sqlite.specs.Effect.{IsDatabase}
@@ -24,7 +24,7 @@ use Rattle.table_schema.specs.Schema.{HasOwnIndexes, columns, key, primary, refe
 use Rattle.table_schema.specs.declared.tables.Table.{Table}
 use Rattle.table_schema.specs.declared.tables.Table.TheVariants.{RunCycle}
 
--- ---- a row that is put in
+-- ---- a row that is inserted
 
 -- the row of these values, with the rowid that is chosen where none is given
 abbrev pub new_row : Table → Row → Tables → Row
@@ -39,9 +39,9 @@ abbrev pub HasParents : Table → Row → Tables → Type 0
 HasParents t row all = AllByRecursion (λ ref. list_any (λ parent. agree plain (primary RunCycle) parent ref.columns row)
     (all RunCycle) ≡ true) (references t)
 
--- the table takes a row of these values: there is one for each column, of its type, and no NULL where it has to be
--- given; the row can be stored, and its entries in the indexes; no other has its rowid or one of its keys; and the row
--- that it refers to is there
+-- the table accepts a row of these values: there is one for each column, of its type, and no NULL where a value is
+-- required; the row can be stored, and its entries in the indexes; no other has its rowid or one of its keys; and the
+-- row that it refers to is there
 pub record TakesRow (t : Table) (cells : Row) (all : Tables) : Type 0 where
   pub whole : length cells ≡ length (column_names t)
   pub kinds : AreOfKinds t cells
@@ -83,7 +83,7 @@ HasKinds _ values = ⊥
 abbrev pub IsKeyOf : Table → Row → Type 0
 IsKeyOf t values = HasKinds (key_kinds (form t)) values
 
--- the rows of the key can go, and none of another table with them
+-- the rows of the key can be deleted, and no row of another table with them
 abbrev pub LosesKey : Table → Row → Tables → Type 0
 LosesKey t values all = IsKeyOf t values × IsAlone t values all
 

@@ -8,14 +8,14 @@ use Rattle.table_schema.specs.declared.tables.Table.{Table}
 abbrev pub create_sql : Table → List ℕ
 create_sql t = create_text (form t)
 
--- puts a row of values into the table, a parameter for each column
+-- inserts a row of values, a parameter for each column
 abbrev pub insert_sql : Table → List ℕ
 insert_sql t = insert_text (form t)
 
--- takes the rows of a key out of the table
+-- deletes the rows of a key
 abbrev pub delete_sql : Table → List ℕ
 delete_sql t = delete_text (form t)
 
--- shows all rows of the table
+-- selects all rows of the table
 abbrev pub select_sql : Table → List ℕ
 select_sql t = select_text (form t)

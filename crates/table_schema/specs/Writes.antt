@@ -14,7 +14,7 @@ use Rattle.table_schema.specs.Takes.{IsSoundPlan}
 abbrev pub seen : {S : Type 0} → Ghosts S → Transaction S → State
 seen g tx = state g tx.conn.now
 
--- where the tables of a plan fit, an Ok leaves these in their place; nothing is committed
+-- if the tables of a plan fit, an Ok leaves these in their place; nothing is committed
 pub record WritesWhere {S T : Type 0} (Fit : Tables → Type 0) (g : Ghosts S) (old new : Transaction S)
     (result : Result T Error) (after : Tables → Tables) : Type 0 where
   pub same_reference : new.conn.ghost_name ≡ old.conn.ghost_name
@@ -29,7 +29,7 @@ abbrev pub Writes : {S T : Type 0} → Ghosts S → (old new : Transaction S) �
     → (Tables → Tables) → Type 0
 Writes g old new result after = WritesWhere (λ _. ⊤) g old new result after
 
--- where the tables of a plan take it, it fails for nothing that stands in them, and an Ok leaves a plan with these
+-- if the tables of a plan accept it, it fails for nothing that is in them, and an Ok leaves a plan with these
 pub record TakesWhere {S T : Type 0} (Take : Tables → Type 0) (g : Ghosts S) (old new : Transaction S)
     (result : Result T Error) (after : Tables → Tables) : Type 0 where
   pub fails : HasCleanDisk (seen g new) → IsSoundPlan (seen g old) → Take (tables_of (seen g old).now.trees)
@@ -38,7 +38,8 @@ pub record TakesWhere {S T : Type 0} (Take : Tables → Type 0) (g : Ghosts S) (
       → OnOk result (IsSoundPlan (seen g new) × (IsTrue (seen g old).is_open → IsTrue (seen g new).is_open)
       × (tables_of (seen g new).now.trees ≡ after (tables_of (seen g old).now.trees)))
 
--- Whatever it began with, of such a state an Ok makes one of those; it fails so alone, and nothing is committed.
+-- From such a state, whatever the transaction began with, an Ok makes one of those; it fails only so, and nothing is
+-- committed.
 pub record Turns {S T : Type 0} (g : Ghosts S) (old new : Transaction S) (result : Result T Error)
     (Before After : Database → State → Type 0) (Fails : Database → State → State → Error → Type 0) : Type 0 where
   pub same_reference : new.conn.ghost_name ≡ old.conn.ghost_name
@@ -51,13 +52,13 @@ pub record Turns {S T : Type 0} (g : Ghosts S) (old new : Transaction S) (result
   pub kept : HasCleanDisk (seen g new) → KeepsCommit (seen g old) (seen g new)
   pub survives : Survives (seen g old) (seen g new) (λ _. ⊥)
 
--- the same where it fails for nothing that stands in the tables
+-- the same if it fails for nothing that is in the tables
 abbrev pub Makes : {S T : Type 0} → Ghosts S → (old new : Transaction S) → Result T Error
     → (Before After : Database → State → Type 0) → Type 0
 Makes g old new result Before After = Turns g old new result Before After (λ _. MayFail)
 
--- In a transaction of its own: of a state that fits an Ok makes such a one, and commits it; it fails so alone, and then
--- all is as it was. A crash leaves the database as it was, or so.
+-- In a transaction of its own: from a state that fits, an Ok makes such a one, and commits it; it fails only so, and
+-- then all is as it was. A crash leaves the database as it was, or as the commit makes it.
 pub record Commits {S T : Type 0} (g : Ghosts S) (old new : Held S) (result : Result T Error) (Fits : State → Type 0)
     (Leaves : State → State → Type 0) (Fails : State → State → Error → Type 0) (Left : State → Trees → Type 0)
     : Type 0 where

@@ -1,4 +1,4 @@
-//! The tables of the plan: their schema, and statements that put rows of values into them, take rows out and show them.
+//! The tables of the plan: their schema, and statements that insert rows of values, delete rows and select them.
 #![tactic(auto)]
 
 mod making;

@@ -1,4 +1,4 @@
-// The tables are made.
+// The tables are created.
 
 ghost use Rattle.std.specs.Prelude.{◌≡◌, [], false};
 ghost use Rattle.table_schema.specs.Free.{IsFree};
@@ -29,15 +29,15 @@ fn make_each<S: Alter>(tx: &mut Transaction<'_, S>) -> Result<(), Error>
     Ok(())
 }
 
-/// Makes the tables beside those of the database, inside a transaction, where nothing stands in their way. It fails for
-/// want of memory, for a failure of the device, for a connection that was shut, or for a limit on steps.
+/// Makes the tables, next to those of the database, inside a transaction, if nothing is in their way. It fails only if
+/// memory is refused, the device fails, the connection was closed, or a limit on steps is reached.
 pub fn make_all<S: Alter>(tx: &mut Transaction<'_, S>) -> Result<(), Error>
     ensures { Makes S.Store tx.old tx.new result IsReady IsMadeWhole }
 {
     make_each(tx)
 }
 
-/// Makes the tables beside those of the database, in one transaction, where nothing stands in their way. It fails as
+/// Makes the tables, next to those of the database, in one transaction, if nothing is in their way. It fails as
 /// `make_all` does.
 pub fn make_tables<S: Alter>(conn: &mut Connection<S>) -> Result<(), Error>
     requires { conn.old.in_transaction ≡ false }

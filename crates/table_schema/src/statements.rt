@@ -17,7 +17,7 @@ use crate::texts::{delete_text, insert_text, select_text};
 use sqlite::types::ValueRef;
 use sqlite::{Alter, Connection, Error, Row, Transaction};
 
-/// Puts a row of these values, one for each column, into the table. The transaction goes on where it is refused.
+/// Inserts a row of these values, one for each column, into the table. If it is refused, the transaction stays open.
 pub fn insert<S: Alter>(
     tx: &mut Transaction<'_, S>,
     table: Table,
@@ -39,8 +39,8 @@ pub fn insert<S: Alter>(
     Ok(())
 }
 
-/// Takes the rows that have the key out of the table: those of a name, of a serial, of a pair or of a number. Run
-/// cycles of which there are offsets would take them along.
+/// Deletes the rows that have the key: those of a name, of a serial, of a pair or of a number. Deleting run cycles
+/// would delete their offsets too.
 pub fn delete<S: Alter>(
     tx: &mut Transaction<'_, S>,
     table: Table,
@@ -55,8 +55,8 @@ pub fn delete<S: Alter>(
     Ok(())
 }
 
-/// All rows of the table as they are shown, in some order. Over a plan it fails for want of memory, for a failure of
-/// the device, for a connection that was shut, or for a limit on steps.
+/// All rows of the table as they are shown, in some order. Over a plan it fails only if memory is refused, the device
+/// fails, the connection was closed, or a limit on steps is reached.
 pub fn select<S: Alter>(conn: &mut Connection<S>, table: Table) -> Result<Vec<Row>, Error>
     ensures rows { HasCleanDisk (state S.Store conn.new)
         → HasTables (state S.Store conn.old).now.schema

@@ -1,6 +1,6 @@
 // The tables, and the version of their schema.
 
-/// The version of the schema, which `plan_meta` tells.
+/// The version of the schema, which is stored in `plan_meta`.
 pub const SCHEMA_VERSION: u32 = 2;
 
 /// A table of the plan.
@@ -8,7 +8,7 @@ pub const SCHEMA_VERSION: u32 = 2;
 pub enum Table {
     /// `plan_meta`: how far the plans reach, how many serials are issued, and the options.
     Meta,
-    /// `calendar_entry`: what calendars say of weekdays and dates.
+    /// `calendar_entry`: what calendars list for weekdays and dates.
     CalendarEntry,
     /// `plan_period`: periods, a row for each of their entries.
     Period,

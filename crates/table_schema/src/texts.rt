@@ -73,7 +73,7 @@ pub fn create_text(table: Table) -> &'static str
     }
 }
 
-/// The text that puts a row into the table.
+/// The text that inserts a row into the table.
 pub(crate) fn insert_text(table: Table) -> &'static str
     ensures { result.now ≡ insert_sql table }
 {
@@ -120,7 +120,7 @@ pub(crate) fn insert_text(table: Table) -> &'static str
     }
 }
 
-/// The text that takes the rows of a key out of the table.
+/// The text that deletes the rows of a key.
 pub(crate) fn delete_text(table: Table) -> &'static str
     ensures { result.now ≡ delete_sql table }
 {
@@ -142,7 +142,7 @@ pub(crate) fn delete_text(table: Table) -> &'static str
     }
 }
 
-/// The text that shows all rows of the table.
+/// The text that selects all rows of the table.
 pub fn select_text(table: Table) -> &'static str
     ensures { result.now ≡ select_sql table }
 {

@@ -1,4 +1,4 @@
--- Changes that tables take by what their content is.
+-- Changes that tables accept because of what their content is.
 use Rattle.std.specs.Prelude.{IfSome, List, length, ⊤}
 use Rattle.app_definitions.specs.declared.kinds.Kind.{Kind}
 use Rattle.app_definitions.specs.declared.kinds.Kind.TheVariants as kind
@@ -21,7 +21,7 @@ use Rattle.table_writing.specs.Writing.{IsTellableChange}
 use Rattle.table_writing.specs.declared.redefining.DefinitionMoves.{DefinitionMoves}
 use Rattle.table_taking.specs.Room.{CanBeStored, HaveRoom}
 
--- the tables of a content take its change, whichever rows tell the definitions that it brings
+-- the tables of a content accept its change, whichever rows encode the definitions that it brings
 abbrev pub AreTaken : Content → Change → Tables → Type 0
 AreTaken c change all = (moves : DefinitionMoves) → AreMovesOf change.definitions moves
     → TakesChange (with_definitions (redefined change.definitions c.definitions) c) moves change all
@@ -41,14 +41,14 @@ abbrev pub FindMoves : DefinitionChange → DefinitionMoves → Tables → Type 
 FindMoves (Merged b) moves all = FindKind (kind_of b) moves all
 FindMoves _ moves all = ⊤
 
--- what a change puts into tables that number their rows finds room there, and its job can be stored
+-- there is room for what a change puts into tables that number their rows, and its job can be stored
 pub record FindsRoom (change : Change) (all : Tables) : Type 0 where
   pub rows : (moves : DefinitionMoves) → AreMovesOf change.definitions moves → FindMoves change.definitions moves all
   pub pairs : HaveRoom (length change.pairs.added) (all table.Dependency)
   pub links : IfSome change.in_force (λ (links : List Link). HaveRoom (length links) (all table.LinkInForce))
   pub job : IfSome change.job CanBeStored
 
--- the tables of a content take a change that fits it, makes it a sound one and finds room
+-- the tables of a content accept a change that fits it, leaves it sound and has room
 abbrev pub FittingIsTaken : Type 0
 FittingIsTaken = (all : Tables) (c : Content) (change : Change) → IsContentOf all c → Fits change c
     → IsSound (after change c) → IsTellableChange change → IsRising pair_cmp change.pairs.added → FindsRoom change all

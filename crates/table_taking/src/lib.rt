@@ -1,4 +1,4 @@
-//! What the tables of a content take.
+//! What the tables of a content accept.
 #![tactic(auto)]
 
 mod taking;

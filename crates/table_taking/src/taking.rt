@@ -1,9 +1,10 @@
-// What the tables of a content take.
+// What the tables of a content accept.
 
 ghost use Rattle.table_taking.specs.Taken.{FittingIsTaken};
 
-/// The tables of a content take a change that fits it, where the content after it is sound, as the content of a planner
-/// always is: if the pairs that it adds come once each, and what it puts finds room, then each of its rows is taken.
+/// The tables of a content accept a change that fits it if the content after it is sound, as a planner's content
+/// always is: if the change adds each pair once, and there is room for what it puts, then they accept each of its
+/// rows.
 pub fn fitting_changes_are_taken()
     ensures { FittingIsTaken }
 {}

@@ -1,4 +1,4 @@
-//! What the tables of a plan tell: facts that are looked up, and listings, row by row.
+//! What the tables of a plan encode: facts that are fetched, and listings, row by row.
 ghost use Rattle.std.specs.Prelude.{⊤};
 
 use fact_listings::{ListedFault, list_deletions, list_history};

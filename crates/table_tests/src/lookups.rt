@@ -1,4 +1,4 @@
-//! Look-ups over the tables of a plan that stand behind others.
+//! Queries of the tables of a plan that come after others.
 ghost use Rattle.std.specs.Prelude.{⊤};
 
 use sqlite::types::ValueRef;
@@ -22,7 +22,7 @@ const ROWS: &str =
     INSERT INTO dependency (successor, predecessor) VALUES (4, 3), (3, 1), (4, 1), (2, 5); \
     INSERT INTO job VALUES (7, x'00', 'seven'), (1, x'01', 'one')";
 
-/// The rows, in tables that stand behind two others.
+/// The rows, in tables that come after two others.
 fn plan(alloc: Global) -> Result<Connection<MemStore>, Error> {
     let mut conn = Connection::open_in_memory(alloc)?;
     conn.execute_batch(
@@ -150,7 +150,7 @@ fn operator_deletions_are_found(rt: HostRuntime) -> Result<(), Fail> {
     Ok(())
 }
 
-/// What is listed, of which application, and the first numbers that are handed out.
+/// What is listed, of which application, and the first numbers that are yielded.
 const LISTS: [(Look, &str, u64); 4] = [
     (Look::HistoryListed, "", 51_234),
     (Look::HistoryOf, "A", 134),
@@ -178,7 +178,7 @@ fn rows_are_handed_out(rt: HostRuntime) -> Result<(), Fail> {
     Ok(())
 }
 
-/// The first numbers of all rows of the table that are handed out, each as a digit of its own place.
+/// The first numbers of all rows of the table that are yielded, each as a digit of its own place.
 fn places_handed(conn: &mut Connection<MemStore>, table: Table) -> u64 {
     let mut places = Places { number: 0 };
     match hand_all(conn, table, &mut places) {

@@ -2,7 +2,7 @@
 use Rattle.std.specs.Prelude.{List, [], ◌∷◌, fold, ⊤}
 use Rattle.table_schema.specs.Rows.{Tables}
 
--- so it is of each, of the tables as they stand when its turn comes
+-- that holds of each, of the tables as they are when its turn comes
 abbrev pub HoldsInTurn : {X : Type 0} → (X → Tables → Type 0) → (X → Tables → Tables) → List X → Tables → Type 0
 HoldsInTurn P makes [] all = ⊤
 HoldsInTurn P makes (x ∷ xs) all = P x all × HoldsInTurn P makes xs (makes x all)

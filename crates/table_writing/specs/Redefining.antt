@@ -35,7 +35,7 @@ rows_of row = row
 abbrev pub renewed : Table → List (List ℕ) → List Values → Tables → Tables
 renewed t names rows all = with_each t rows_of rows (without_each t name_key names all)
 
--- run cycles go after their offsets, and come before them
+-- run cycles are deleted after their offsets, and inserted before them
 abbrev pub cycles_gone : List (List ℕ) → Tables → Tables
 cycles_gone names all = without_each table.RunCycle name_key names (without_each table.Offset name_key names all)
 
@@ -99,7 +99,7 @@ kind_of (block.Predecessors more) = kind.Predecessors
 kind_of (block.RunCycles more) = kind.RunCycles
 kind_of (block.Options given) = kind.Options
 
--- what a change of definitions moves in the tables
+-- what a change of definitions changes in the tables
 abbrev pub AreMovesOf : DefinitionChange → DefinitionMoves → Type 0
 AreMovesOf AsBefore moves = moves.kind ≡ None
 AreMovesOf (Merged b) moves = (moves.kind ≡ Some (kind_of b)) × BringsRows b moves × IsTellableBlock b
@@ -112,7 +112,7 @@ AreMovesOf (Removed k name) moves = (moves.kind ≡ Some k) × (moves.names.item
 abbrev pub AreRowsFor : Table → List Values → Type 0
 AreRowsFor t rows = (values : Values) → Contains rows values → IsStorable t values
 
--- no row of another table goes with a row of one of these names
+-- no row of another table is deleted with a row of one of these names
 abbrev pub AreAlone : Table → List (List ℕ) → Tables → Type 0
 AreAlone t names all = (name : List ℕ) → Contains names name → IsAlone t (name_key name) all
 

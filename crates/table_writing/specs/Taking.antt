@@ -1,4 +1,4 @@
--- What a change asks of the tables: each row that is put in is taken, as they stand when its turn comes.
+-- What a change requires of the tables: they accept each row that is inserted, as they are when its turn comes.
 use Rattle.std.specs.Prelude.{◌≡◌, ℕ, List, [], ◌∷◌, Option, Some, None, is_some, unwrap_or, ◌||◌, Result, OnOk, IsTrue, MatchBool, ⊤}
 use Rattle.sqlite.specs.Order.{Row as Values}
 use Rattle.sqlite.specs.State.{HasCleanDisk, KeepsCommit, Survives}
@@ -117,7 +117,7 @@ TakesChange c moves change all =
     TakesKind moves.kind c.sets.bounds c.sets.issued c.definitions.options moves all
     × TakesPlans c change (definitions_moved c.sets.bounds c.sets.issued c.definitions.options moves all)
 
--- what statements do where the tables fit, and that they fail for nothing where the tables take them
+-- what statements do if the tables fit, and that they fail for nothing in the tables if these accept them
 pub record WritesTaking {S T : Type 0} (Fit Take : Tables → Type 0) (g : Ghosts S) (old new : Transaction S)
     (result : Result T Error) (after : Tables → Tables) : Type 0 where
   pub same_reference : new.conn.ghost_name ≡ old.conn.ghost_name

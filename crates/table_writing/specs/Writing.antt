@@ -36,7 +36,7 @@ use Rattle.external_dependencies.specs.Rising.{IsRising}
 abbrev pub AreStorable : {X : Type 0} → Table → (X → Values) → Type 0
 AreStorable {X} t values_of = (x : X) → AreOfKinds t (values_of x)
 
--- no row of another table goes with a row of this one
+-- no row of another table is deleted with a row of this one
 abbrev pub StandAlone : Table → Type 0
 StandAlone t = (key : Values) (all : Tables) → IsAlone t key all
 
@@ -47,7 +47,8 @@ with_each t values_of xs all = fold (λ (now : Tables) x. with_cells t (values_o
 abbrev pub without_each : {X : Type 0} → Table → (X → Values) → List X → Tables → Tables
 without_each t key_of xs all = fold (λ (now : Tables) x. without_key t (key_of x) now) all xs
 
--- what moves in a set: the rows of what goes and of what changes go, and those of what changed and of what is put come
+-- the changes in a set: the rows of what goes and of what changes are deleted, and those of what changed and of what
+-- is put are inserted
 abbrev pub moved_in : {X : Type 0} → Table → (values_of key_of : X → Values) → Moves X → Tables → Tables
 moved_in t values_of key_of moves all =
     with_each t values_of moves.put.items
@@ -70,11 +71,11 @@ deletions_moved change all = moved_in table.Deletion deletion_values deletion_ke
 abbrev pub rows_moved : Change → Tables → Tables
 rows_moved change all = deletions_moved change (history_moved change (cp_moved change (ltp_moved change all)))
 
--- those of the added pairs that stand there already
+-- those of the added pairs that are already there
 abbrev pub standing : List Pair → List Pair → List Pair
 standing pairs added = filter (is_among pairs) added
 
--- they are taken out before they are put in
+-- they are deleted before they are inserted
 abbrev pub pairs_moved : List Pair → PairChange → Tables → Tables
 pairs_moved pairs change all =
     with_each table.Dependency pair_values change.added
@@ -94,8 +95,8 @@ holds_link links l = list_any (is_same_link l) links
 abbrev pub beside : List Link → List Link → List Link
 beside others links = filter (λ (l : Link). not (holds_link others l)) links
 
--- the lists in force: what the new ones lack goes, and then what the old ones lack comes, so that a link whose limit
--- changed goes with the old limit and comes with the new one
+-- the lists in force: what the new ones lack is deleted, and then what the old ones lack is inserted; so a link whose
+-- limit changed is deleted with the old limit and inserted with the new one
 abbrev pub links_replaced : List Link → List Link → Tables → Tables
 links_replaced old new all =
     with_each table.LinkInForce link_values (beside old new)
@@ -112,7 +113,7 @@ abbrev pub job_kept : Option Job → Tables → Tables
 job_kept None all = all
 job_kept (Some job) all = job_put job all
 
--- the one row of how far the plans reach, anew
+-- the one row of how far the plans reach, replaced
 abbrev pub with_meta : Option Bounds → ℕ → Options → Tables → Tables
 with_meta bounds issued options all = with_cells table.Meta (meta_values bounds issued options) all
 
@@ -120,7 +121,7 @@ abbrev pub meta_told : Option Bounds → ℕ → Options → Tables → Tables
 meta_told bounds issued options all =
     with_meta bounds issued options (without_key table.Meta (natural 1 ∷ []) all)
 
--- how far the plans reach, anew where that changes
+-- how far the plans reach, replaced if that changes
 abbrev pub meta_moved : Change → Option Bounds → ℕ → Options → Tables → Tables
 meta_moved change bounds issued options all =
     if is_some change.bounds || is_some change.issued
@@ -138,7 +139,7 @@ abbrev pub HasRows : (Tables → Tables) → State → State → Type 0
 HasRows made old new =
     IsPlan new × (tables_of new.now.trees ≡ made (tables_of old.now.trees)) × (new.now.schema ≡ old.now.schema)
 
--- where no index was made by hand, and the tables take it, it fails for a common cause
+-- if no index was made by hand, and the tables accept it, it fails for one of the four general errors
 abbrev pub MayFailWhere : (Tables → Type 0) → State → State → Error → Type 0
 MayFailWhere Takes old new e = HasOwnIndexes old.now.schema → Takes (tables_of old.now.trees) → MayFail old new e
 
@@ -149,7 +150,7 @@ pub record HoldsWritten (old : State) (rows : Tables) (db : Trees) : Type 0 wher
   pub rowids : (t : Table) → HaveRowids (tables_of db t)
   pub obeys : IsTrue old.is_open → IsDatabase (record { schema = old.now.schema; trees = db })
 
--- the lists that come into force are in their order, and the answer of the job can be told
+-- the lists that come into force are in their order, and the reply of the job can be encoded
 pub record IsTellableChange (change : Change) : Type 0 where
   pub links : IfSome change.in_force (IsRising link_cmp)
   pub job : IfSome change.job (λ (job : Job). IsSmall job.reply)

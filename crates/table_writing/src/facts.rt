@@ -14,7 +14,7 @@ use sqlite::types::ValueRef;
 use sqlite::{Alter, Error, Transaction};
 use table_schema::{Table, delete, insert};
 
-/// What stands in one row of a table.
+/// What can be encoded in one row of a table.
 pub(crate) trait Fact {
     // the values of its row
     ghost values: { Self → Values };
@@ -22,13 +22,13 @@ pub(crate) trait Fact {
     // the key by which its row is found
     ghost key: { Self → Values };
 
-    /// Puts its row into the table.
+    /// Inserts its row into the table.
     fn put<S: Alter>(&self, tx: &mut Transaction<'_, S>, table: Table) -> Result<(), Error>
         ensures { WritesTaking (λ _. AreOfKinds table (values self.now))
             (TakesRow table (values self.now)) S.Store tx.old tx.new result
             (with_cells table (values self.now)) };
 
-    /// Takes its row out of the table.
+    /// Deletes its row from the table.
     fn take<S: Alter>(&self, tx: &mut Transaction<'_, S>, table: Table) -> Result<(), Error>
         ensures { WritesTaking (IsAlone table (key self.now)) (LosesKey table (key self.now))
             S.Store tx.old tx.new result

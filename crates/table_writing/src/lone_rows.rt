@@ -17,7 +17,7 @@ use sqlite::types::ValueRef;
 use sqlite::{Alter, Error, Transaction};
 use table_schema::{SCHEMA_VERSION, Table, delete, insert};
 
-/// Puts a job into its table. The line is that of its answer.
+/// Inserts a job into its table. The line is that of its reply.
 #[tactic(auto, using(crate::proofs::KindLemmas::kinds))]
 pub(crate) fn put_job<'x, S: Alter>(
     tx: &mut Transaction<'_, S>,
@@ -40,7 +40,7 @@ pub(crate) fn put_job<'x, S: Alter>(
     )
 }
 
-// Puts in that there is no plan.
+// Stores that there is no plan.
 fn put_no_bounds<S: Alter>(
     tx: &mut Transaction<'_, S>,
     table: Table,
@@ -69,7 +69,7 @@ fn put_no_bounds<S: Alter>(
     )
 }
 
-// Puts in how far the plans reach.
+// Stores how far the plans reach.
 fn put_bounds<S: Alter>(
     tx: &mut Transaction<'_, S>,
     table: Table,
@@ -124,7 +124,7 @@ fn take_meta<S: Alter>(tx: &mut Transaction<'_, S>) -> Result<(), Error>
     delete(tx, Table::Meta, &[number(1)])
 }
 
-/// Tells anew how far the plans reach, how many serials are issued, and the options.
+/// Replaces how far the plans reach, how many serials are issued, and the options.
 pub(crate) fn write_meta<S: Alter>(
     tx: &mut Transaction<'_, S>,
     bounds: &Option<Bounds>,

@@ -15,7 +15,7 @@ pub(crate) trait ForEach<X> {
     // the tables fit it
     ghost fits: { Self → X → Tables → Type 0 };
 
-    // the tables take it
+    // the tables accept it
     ghost takes: { Self → X → Tables → Type 0 };
 
     // what it makes of the tables
@@ -44,7 +44,7 @@ pub(crate) fn write_each<X, W: ForEach<X>, S: Alter>(
     Ok(())
 }
 
-// A row of the fact, in the table.
+// Inserts a row for the item into the table.
 #[derive(Drop)]
 struct PutFact {
     table: Table,
@@ -62,7 +62,7 @@ impl<R: Fact> ForEach<R> for PutFact {
     }
 }
 
-// The row of the fact, out of the table.
+// Deletes the row of the item from the table.
 #[derive(Drop)]
 struct TakeFact {
     table: Table,
@@ -80,7 +80,7 @@ impl<R: Fact> ForEach<R> for TakeFact {
     }
 }
 
-/// Puts a row for each of these into the table.
+/// Inserts a row for each of these into the table.
 pub(crate) fn put_each<R: Fact, S: Alter>(
     tx: &mut Transaction<'_, S>,
     table: Table,
@@ -93,7 +93,7 @@ pub(crate) fn put_each<R: Fact, S: Alter>(
     write_each(tx, &PutFact { table }, facts)
 }
 
-/// Takes the row of each of these out of the table.
+/// Deletes the row of each of these from the table.
 pub(crate) fn take_each<R: Fact, S: Alter>(
     tx: &mut Transaction<'_, S>,
     table: Table,

@@ -84,7 +84,7 @@ fn standing(alloc: Global, pairs: &[Pair], added: &[Pair]) -> Result<Vec<Pair>, 
         .collect(alloc)
 }
 
-/// Makes a change of the pairs. Of those that are added none stands there, as a rule, and none is then taken out.
+/// Makes a change of the pairs. Added pairs that are already there are deleted first; usually there are none.
 #[tactic(auto, using(crate::proofs::KindLemmas::kinds))]
 pub(crate) fn write_pairs<S: Alter>(
     tx: &mut Transaction<'_, S>,
@@ -121,8 +121,8 @@ fn links_beside(alloc: Global, others: &Links, links: &Links) -> Result<Vec<Link
         .collect(alloc)
 }
 
-// Puts lists in force in place of others: takes out those that are no longer there, and puts in the new ones. A link
-// whose limit changed is taken out before it is put in, since the table has one row of its names at most.
+// Replaces the lists in force: deletes the links that are no longer there, and inserts the new ones. A link whose
+// limit changed is deleted before it is inserted, because the table has at most one row of its names.
 fn replace_links<S: Alter>(
     tx: &mut Transaction<'_, S>,
     alloc: Global,

@@ -24,20 +24,21 @@ use table_definitions::lend;
 use table_schema::{Table, delete, insert};
 use work_calendars::Name;
 
-/// What moves in the tables of definitions: of one kind, if any, the rows of these names go, and those rows come.
+/// The changes in the tables of definitions: of one kind, if any, the rows of these names are deleted, and those rows
+/// inserted.
 #[derive(Drop)]
 pub struct DefinitionMoves {
-    /// The kind; `None` where nothing moves.
+    /// The kind; `None` if nothing changes.
     pub kind: Option<Kind>,
-    /// The names whose rows go.
+    /// The names whose rows are deleted.
     pub names: Vec<Name>,
-    /// The rows that come.
+    /// The rows that are inserted.
     pub rows: Vec<Row>,
-    /// Of run cycles, the rows of their offsets, which come too.
+    /// Of run cycles, the rows of their offsets, which are inserted too.
     pub offsets: Vec<Row>,
 }
 
-// Puts a row into the table.
+// Inserts a row into the table.
 fn put_row<S: Alter>(
     tx: &mut Transaction<'_, S>,
     alloc: Global,
@@ -71,7 +72,7 @@ impl ForEach<Row> for PutRow {
     }
 }
 
-// Puts rows into the table.
+// Inserts rows into the table.
 fn put_rows<S: Alter>(
     tx: &mut Transaction<'_, S>,
     alloc: Global,
@@ -86,7 +87,7 @@ fn put_rows<S: Alter>(
     write_each(tx, &PutRow { alloc, table }, rows)
 }
 
-// Takes the rows of a name out of the table.
+// Deletes the rows of a name from the table.
 fn take_name<S: Alter>(tx: &mut Transaction<'_, S>, table: Table, name: &Name) -> Result<(), Error>
     ensures { WritesTaking (IsAlone table (name_key name.now)) (LosesKey table (name_key name.now))
         S.Store tx.old tx.new result
@@ -113,7 +114,7 @@ impl ForEach<Name> for TakeName {
     }
 }
 
-// Takes the rows of these names out of the table.
+// Deletes the rows of these names from the table.
 fn take_names<S: Alter>(
     tx: &mut Transaction<'_, S>,
     table: Table,
@@ -127,7 +128,7 @@ fn take_names<S: Alter>(
     write_each(tx, &TakeName { table }, names)
 }
 
-// Takes the rows of these names out of the table, and puts rows in.
+// Deletes the rows of these names from the table, and inserts rows.
 fn renew<S: Alter>(
     tx: &mut Transaction<'_, S>,
     alloc: Global,
@@ -145,7 +146,7 @@ fn renew<S: Alter>(
     put_rows(tx, alloc, table, &moves.rows)
 }
 
-// Takes the run cycles of these applications out of their table, after their offsets.
+// Deletes the run cycles of these applications from their table, after their offsets.
 fn take_cycles<S: Alter>(tx: &mut Transaction<'_, S>, apps: &[Name]) -> Result<(), Error>
     ensures { WritesTaking (λ _. ⊤) (λ _. ⊤) S.Store tx.old tx.new result (cycles_gone apps.now) }
 {
@@ -153,7 +154,7 @@ fn take_cycles<S: Alter>(tx: &mut Transaction<'_, S>, apps: &[Name]) -> Result<(
     take_names(tx, Table::RunCycle, apps)
 }
 
-// Puts run cycles into their table, before their offsets.
+// Inserts run cycles into their table, before their offsets.
 fn put_cycles<S: Alter>(
     tx: &mut Transaction<'_, S>,
     alloc: Global,
@@ -171,7 +172,7 @@ fn put_cycles<S: Alter>(
     put_rows(tx, alloc, Table::Offset, offsets)
 }
 
-// Takes the run cycles of these applications out, and puts run cycles in.
+// Deletes the run cycles of these applications, and inserts run cycles.
 fn renew_cycles<S: Alter>(
     tx: &mut Transaction<'_, S>,
     alloc: Global,
@@ -188,7 +189,7 @@ fn renew_cycles<S: Alter>(
     put_cycles(tx, alloc, &moves.rows, &moves.offsets)
 }
 
-/// Moves the rows of definitions. The content has the options that are told.
+/// Changes the rows of definitions. The content already has the options that are stored.
 #[tactic(auto, using(crate::proofs::KindLemmas::kinds))]
 pub(crate) fn write_definitions<S: Alter>(
     tx: &mut Transaction<'_, S>,

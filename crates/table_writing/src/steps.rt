@@ -14,7 +14,7 @@ pub(crate) trait Step {
     // the tables fit it
     ghost fits: { Self → Tables → Type 0 };
 
-    // the tables take it
+    // the tables accept it
     ghost takes: { Self → Tables → Type 0 };
 
     // what it makes of the tables

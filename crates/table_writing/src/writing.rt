@@ -34,7 +34,7 @@ fn new_or_old(new: Option<Bounds>, old: Option<Bounds>) -> Option<Bounds>
     }
 }
 
-// Tells anew how far the plans reach, where that changes.
+// Replaces how far the plans reach, if that changes.
 fn write_new_meta<S: Alter>(
     tx: &mut Transaction<'_, S>,
     old: &Content,
@@ -53,7 +53,7 @@ fn write_new_meta<S: Alter>(
     }
 }
 
-// Puts the job in, if there is one. The line is that of its answer.
+// Inserts the job, if there is one. The line is that of its reply.
 fn write_job<S: Alter>(
     tx: &mut Transaction<'_, S>,
     job: &Option<Job>,
@@ -70,7 +70,7 @@ fn write_job<S: Alter>(
     }
 }
 
-// Makes what changes beside the definitions. The line is that of the answer of its job.
+// Makes all changes but those of the definitions. The line is that of the reply of its job.
 fn write_plans<S: Alter>(
     tx: &mut Transaction<'_, S>,
     alloc: Global,
@@ -94,8 +94,8 @@ fn write_plans<S: Alter>(
     write_job(tx, &change.job, line)
 }
 
-/// Makes a change in the tables of a content, which has its options already, in a transaction that is open. Its
-/// pairs are given beside it. The line is that of the answer of its job.
+/// Makes a change in the tables of a content, which has its options already, in a transaction that is open. The caller
+/// passes its pairs separately. The line is that of the reply of its job.
 pub(crate) fn write_change<S: Alter>(
     tx: &mut Transaction<'_, S>,
     alloc: Global,
@@ -118,9 +118,9 @@ pub(crate) fn write_change<S: Alter>(
     write_plans(tx, alloc, content, pairs, change, line)
 }
 
-/// Makes a change in the tables of a content, which has its options already, in one transaction: all of it or
-/// nothing, also over a crash, which leaves a database with the tables of a plan. The content's pairs are given beside
-/// it, in rising order: they may be out of it meanwhile. The line is that of the answer of its job.
+/// Makes a change in the tables of a content, which has its options already, in one transaction: all of it or nothing,
+/// also over a crash, which leaves a database with the tables of a plan. The caller passes the content's pairs
+/// separately, in rising order: they may be out of it meanwhile. The line is that of the reply of its job.
 pub fn commit_change<S: Alter>(
     conn: &mut Connection<S>,
     alloc: Global,

@@ -28,7 +28,7 @@ IsName name = IsNameWithin LONGEST_NAME name
 abbrev pub IsShort : List ℕ → Type 0
 IsShort name = IsNameWithin LONGEST_SHORT_NAME name
 
--- how many bytes stand before the first zero
+-- how many bytes come before the first zero
 abbrev pub name_length : List ℕ → ℕ
 name_length bytes = position_or_len (λ b. b == 0) bytes
 

@@ -106,8 +106,8 @@ impl Calendar {
         self.date_status(day).unwrap_or(of_weekday).is_work()
     }
 
-    /// Of each day of the range, whether it is a work day: as its weekday says, and then as its date does where that is
-    /// listed.
+    /// For each day of the range, whether it is a work day: by the status of its date if that is listed, else by that
+    /// of its weekday.
     pub(crate) fn statuses(&self, alloc: Global) -> Result<Vec<bool>, AllocError>
         ensures { IfOk result (λ statuses. AreStatuses (is_work_day self.now) statuses.items) }
     {

@@ -8,8 +8,8 @@ ghost use Rattle.work_calendars.specs.WorkIndex.{is_work_in};
 use crate::{Day, WorkIndex};
 use std::marker::Model;
 
-/// An index of work days that counts the questions put to it, and answers each as the index does. It has no copy, and
-/// hands the index out in no other way. It takes no memory.
+/// An index of work days that counts the questions put to it, and answers each as the index does. It can't be copied,
+/// and gives no other access to the index. It allocates no memory.
 #[derive(Debug, Drop)]
 pub struct CountedIndex<'a> {
     index: &'a WorkIndex,
@@ -39,7 +39,7 @@ impl<'a> CountedIndex<'a> {
         self.asked
     }
 
-    // Counts a question, and gives the index that it is put to.
+    // Counts a question, and returns the index that answers it.
     fn ask(&mut self) -> &'a WorkIndex
         ensures index { result.now ≡ self.old.statuses }
         ensures counted { self.new ≡ one_asked self.old }

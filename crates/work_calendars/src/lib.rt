@@ -1,6 +1,6 @@
 //! Which days are work days. Days, minutes, moments and names as values that hold only what their spellings allow;
 //! calendars of work days and free days; and the index of a calendar's work days, which counts and finds them without
-//! asking the calendar again.
+//! reading the calendar again.
 //!
 //! ```text
 //! let mut calendar = Calendar::new(alloc);

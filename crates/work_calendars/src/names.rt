@@ -57,7 +57,7 @@ fn is_name_byte(byte: u8) -> bool
     matches!(byte, b'A'..=b'Z' | b'0'..=b'9' | b'@' | b'#' | b'$')
 }
 
-// How many bytes stand before the first zero.
+// How many bytes come before the first zero.
 fn name_length(bytes: &[u8]) -> usize
     ensures within { result ≤ length bytes.now }
     ensures value { result ≡ name_length bytes.now }

@@ -1,14 +1,14 @@
 //! The first line in which two texts differ.
 use std::fmt;
 
-/// The first line in which what was written isn't what is wanted.
+/// The first line that was written and isn't the expected one.
 #[derive(Clone, Copy, Debug)]
 pub struct Difference<'a> {
     /// Its number, from 1.
     pub line: usize,
     /// The line as it was written; `None` where the text ends before it.
     pub written: Option<&'a [u8]>,
-    /// The line that is wanted; `None` where no line is.
+    /// The line that is expected; `None` if no line is.
     pub wanted: Option<&'a [u8]>,
 }
 

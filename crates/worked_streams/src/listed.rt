@@ -3,7 +3,7 @@
 /// The line ends that a stream is tried with.
 #[derive(Clone, Copy, Debug, PartialEq, Eq)]
 pub enum Ends {
-    /// Those that stand in its file alone.
+    /// Those of its file alone.
     Own,
     /// Those, and then a carriage return before each line feed.
     Both,

@@ -1,8 +1,8 @@
-//! Tries worked job streams: each is run over lists in memory, and over tables in memory which are let go and taken up
-//! again in its midst. All that it prints, and the exit status, is compared with what its files say; the definitions,
-//! plans and jobs that the tables hold at its end are compared with those of the lists. Some are run over files that stop
-//! at each call in turn, and then again over what a crash left; and the plan that some leave, as tables of schema 1, is
-//! migrated over such files. A line tells of each stream whether it holds.
+//! Runs worked job streams: each over lists in memory, and over tables in memory that are closed and opened again
+//! halfway. All output and the exit status are compared with what the stream's files say; the definitions, plans and
+//! jobs that the tables hold at the end are compared with those of the lists. Some streams are run over files that
+//! stop at each call in turn, and then again over what a crash left; and the plan that some leave, as tables of schema
+//! 1, is migrated over such files. One line for each stream says whether it holds.
 #![tactic(auto)]
 
 mod differences;
@@ -46,7 +46,7 @@ fn try_line<R: AllocGlobal + Files + Print>(rt: &R, line: &str) -> io::Result<bo
     }
 }
 
-/// Tries each stream of the list, prints a line for each, and tells whether all hold.
+/// Runs each stream of the list, prints a line for each, and returns whether all hold.
 fn try_all<R: AllocGlobal + Files + Print>(rt: &R) -> io::Result<bool> {
     let list = fs::read_to_string(rt, LIST)?;
     let mut all_hold = true;

@@ -1,4 +1,4 @@
-//! A stream over files that stop, and its plan migrated over such files; a line tells of each.
+//! A stream over files that stop, and its plan migrated over such files; a line reports each.
 
 use std::io;
 use stopped_files::{Migrations, Stops, try_migrations, try_stops};

@@ -1,4 +1,4 @@
-//! A stream that is handed over in pieces.
+//! A stream that is read in pieces.
 use std::io::{self, BufRead, ErrorKind, Read};
 
 /// Gives at most so many bytes a call.

@@ -1,4 +1,4 @@
-//! A stream over a store on tables in memory, beside one of lists.
+//! A stream over a store on tables in memory, compared with one of lists.
 ghost use Rattle.std.specs.Prelude.{◌≡◌, false, IfOk};
 ghost use Rattle.stopped_files.specs.Sound.{KeepsSound};
 
@@ -14,16 +14,16 @@ use table_opening::{OpenFault, open_content};
 /// The exit status after a fault.
 const FAILED: u8 = 8;
 
-/// What a run over tables came to.
+/// The result of a run over tables.
 #[derive(Debug, Drop)]
 pub struct Tabled {
     /// What it printed, and its status.
     pub answered: Answered,
-    /// What its content has otherwise than that of lists, if anything.
+    /// How its content differs from that of lists, if it does.
     pub unlike: Option<&'static str>,
 }
 
-/// Runs a part of a stream over tables, and lets them go; with its exit status.
+/// Runs a part of a stream over tables, and closes them; with its exit status.
 fn run_part<S: Alter + Drop>(
     alloc: Global,
     store: TableStore<S>,
@@ -39,7 +39,7 @@ fn run_part<S: Alter + Drop>(
     (store.into_connection(), status)
 }
 
-/// Runs the first part of a stream over tables in memory, and lets them go; with its exit status.
+/// Runs the first part of a stream over tables in memory, and closes them; with its exit status.
 fn begin_tables(
     alloc: Global,
     text: &[u8],
@@ -53,7 +53,7 @@ fn begin_tables(
     }
 }
 
-/// Takes tables up.
+/// Opens tables again.
 fn take_up<S: Alter + Drop>(alloc: Global, conn: Connection<S>) -> Result<TableStore<S>, OpenFault>
     requires { conn.in_transaction ≡ false }
     ensures { IfOk result KeepsSound }
@@ -64,7 +64,7 @@ fn take_up<S: Alter + Drop>(alloc: Global, conn: Connection<S>) -> Result<TableS
     }
 }
 
-/// Takes tables up, runs a further part of the stream over them, and lets them go; with its exit status.
+/// Opens tables again, runs a further part of the stream over them, and closes them; with its exit status.
 fn go_on<S: Alter + Drop>(
     alloc: Global,
     conn: Connection<S>,
@@ -80,7 +80,7 @@ fn go_on<S: Alter + Drop>(
     }
 }
 
-/// Runs both parts of a stream over tables in memory, which are let go between them and behind them; with its exit
+/// Runs both parts of a stream over tables in memory, which are closed between them and after them; with its exit
 /// status.
 fn run_parts(
     alloc: Global,
@@ -98,7 +98,7 @@ fn run_parts(
     Ok((conn, ended.max(status)))
 }
 
-/// What the tables hold otherwise than the lists of a whole run, if anything.
+/// How the tables differ from the lists of a whole run, if they do.
 fn unlike_lists<S: Alter + Drop>(
     alloc: Global,
     conn: Connection<S>,
@@ -111,8 +111,8 @@ fn unlike_lists<S: Alter + Drop>(
     Ok(has_run(alloc, &content, text).err())
 }
 
-/// Runs a stream over tables in memory, which are let go and taken up again in its midst and behind it, and holds the
-/// definitions, plans and jobs in them then against the lists of a whole run.
+/// Runs a stream over tables in memory, which are closed and opened again halfway and at the end, and then compares
+/// the definitions, plans and jobs in them with the lists of a whole run.
 pub fn run_over_tables(alloc: Global, text: &[u8]) -> Result<Tabled, OpenFault> {
     let (first, second) = text.split_at(middle_of(text));
     let mut replies = Vec::new(alloc);

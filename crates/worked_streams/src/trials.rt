@@ -40,11 +40,11 @@ impl Answered {
 pub struct Wrong {
     /// The line ends that it was run with.
     pub ends: &'static str,
-    /// How the stream was handed over.
+    /// How the stream was read.
     pub pieces: &'static str,
-    /// What came of it.
+    /// Its result.
     pub answered: Answered,
-    /// What the store has otherwise than it should, if that is known.
+    /// How the content of the store differs from what it should be, if that is known.
     pub unlike: Option<&'static str>,
 }
 
@@ -71,7 +71,7 @@ fn with_returns(alloc: Global, text: &[u8]) -> Result<Vec<u8>, AllocError> {
     Ok(lines)
 }
 
-/// Runs the text whole and byte by byte, and answers the first run that goes wrong.
+/// Runs the text whole and byte by byte, and returns the first run that goes wrong.
 fn try_text(
     alloc: Global,
     text: &[u8],
@@ -97,7 +97,7 @@ fn is_expected(answered: &Answered, expected: &Expected<'_>) -> bool {
     answered.status == expected.status && answered.replies.as_slice() == expected.replies
 }
 
-/// Runs the text over tables, and answers the run if it goes wrong.
+/// Runs the text over tables, and returns the run if it goes wrong.
 fn try_tables(alloc: Global, text: &[u8], expected: &Expected<'_>) -> Option<Wrong> {
     let (answered, unlike) = match run_over_tables(alloc, text) {
         Ok(run) => (run.answered, run.unlike),
@@ -114,7 +114,7 @@ fn try_tables(alloc: Global, text: &[u8], expected: &Expected<'_>) -> Option<Wro
     })
 }
 
-/// Runs a stream in each way, and answers the first run that goes wrong, if one does.
+/// Runs a stream in each way, and returns the first run that goes wrong, if one does.
 pub fn try_stream(
     alloc: Global,
     text: &[u8],

@@ -1,4 +1,4 @@
-//! Run cycles that don't stand in the order of their names, which no stream shows: definitions keep them in that order.
+//! Run cycles that are not in the order of their names, which no stream shows: definitions keep them in that order.
 use super::{cycle_of, index_of, periods_of, two_days};
 use run_cycles::{Named, generate};
 use std::alloc::{AllocError, Global};

@@ -167,7 +167,7 @@ fn counts(
     Ok((given, jump.visited(), jump.asked()))
 }
 
-// The same of a period, a run cycle and a window, parted by `|`.
+// The same of a period, a run cycle and a window, separated by `|`.
 fn counts_of(rt: &impl Abort, alloc: Global, row: &str) -> Result<(usize, usize, u64), AllocError> {
     let mut parts = row.split('|');
     let index = index_of(rt, alloc, "")?;

@@ -9,7 +9,7 @@ use crate::same_schema::values::Same;
 use sqlite_schema::code::{Op, Terms};
 use sqlite_value::value::Value;
 
-// The node at the place, where that many more are read; none where it stands for NULL.
+// The node at the place, if the depth allows one more; none stands for NULL.
 #[tactic(auto, using(crate::proofs::TermLemmas::term_at))]
 fn node_at(nodes: &[Op], depth: usize, place: usize) -> Option<&Op>
     ensures none { result ≡ None → term_to nodes.now depth place ≡ lit Null }
@@ -26,7 +26,7 @@ fn is_null(op: &Op) -> bool
     matches!(op, Op::Literal(Value::Null))
 }
 
-// Whether the terms at the places are the same, where so many nodes are read of each.
+// Whether the terms at the places are the same, each read to its depth.
 #[cycle(terms)]
 fn is_same_term(
     nodes: &[Op],
