@@ -14,31 +14,21 @@ ghost use Rattle.plan_soundness.specs.Pairs.{AreClosedPairs, FitsRows, HasComple
 use crate::closed::{have_no_ring, have_own_slots};
 use crate::listing::placed_rows;
 use crate::seats::{row_of, table_of};
-use external_dependencies::{Pair, Pairs, PlacedRow};
+use external_dependencies::{Pair, Pairs, PlacedRow, pair_order, rising_is_unique};
 use occurrences::{Place, Row};
 use plan_pairs::{live_rows, settled_pairs};
 use plan_store::Content;
 use std::alloc::{AllocError, Global};
 
-// Whether each of the pairs is one of the others.
-fn all_among(pairs: &[Pair], others: &Pairs) -> bool
-    ensures { IsTrue result ↔ All (Contains others.now) pairs.now }
-{
-    for pair in pairs {
-        if !others.contains(pair) {
-            return false;
-        }
-    }
-    true
-}
-
-// Whether both have the same pairs.
+// Whether both have the same pairs. Both are in rising order, so they are compared one by one.
 fn same_pairs(pairs: &Pairs, others: &Pairs) -> bool
     ensures { (IsTrue result ↔ (All (Contains others.now) pairs.now
         × All (Contains pairs.now) others.now))
         × IsRising pair_cmp pairs.now }
 {
-    all_among(pairs.as_slice(), others) && all_among(others.as_slice(), pairs)
+    rising_is_unique();
+    pair_order();
+    pairs.as_slice() == others.as_slice()
 }
 
 /// Whether the pairs are those that follow from the rows and the lists in force, where the rows are sound: of open
