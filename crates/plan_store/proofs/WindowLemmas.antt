@@ -2,7 +2,7 @@
 use Rattle.std.proofs.Common.{◌≡◌, ◌<◌, ◌≤◌, ℕ, ltb, Bool, true, false, List, [], ◌∷◌, Contains, Option, None, Some}
 use Rattle.std.proofs.Common.{ap, sym, subst}
 use Rattle.std.proofs.Common.{◌∙◌, ◌+◌, arith, inl, inr, length, refl}
-use Rattle.std.specs.Prelude.{filter, if◌then◌else◌, OnOk, Result, Ok, Err}
+use Rattle.std.specs.Prelude.{◌&&◌, ◌↔◌, filter, not, if◌then◌else◌, OnOk, Result, Ok, Err}
 use Rattle.std.proofs.lemmas.Bool.{le-ltb, lt-ltb, ltb-true}
 use Rattle.occurrences.specs.declared.key.Key.{Key as KeyValue}
 use Rattle.occurrences.specs.declared.place.Deletion.{Deletion}
@@ -11,7 +11,7 @@ use Rattle.occurrences.specs.declared.place.Reason.TheVariants.{Operator}
 use Rattle.occurrences.specs.declared.row.Row.{Row}
 use Rattle.external_dependencies.specs.declared.pairs.Pair.{Pair}
 use Rattle.planner_machine.specs.declared.job.Job.{Job}
-use Rattle.planner_machine.specs.Content.{Content, Seat as Places}
+use Rattle.planner_machine.specs.Content.{Content, Seat as Places, Sets}
 use Rattle.planner_machine.specs.DailyPlan.{arrives_before, moved}
 use Rattle.planner_machine.specs.Moves.{keep}
 use Rattle.planner_machine.specs.Sound.{AreNumbered, HaveOwnKeys, IsUnplanned}
@@ -20,12 +20,13 @@ use Rattle.keyed_lists.specs.Rows.{AreRows, look_up, of_current, of_deletion, of
 use Rattle.keyed_lists.specs.Seats.{HasSeats}
 use Rattle.keyed_lists.specs.declared.seats.Seat.{Seat}
 use Rattle.keyed_lists.proofs.KeyLemmas.{contains_filter, filter_contains, nothing}
+use Rattle.keyed_lists.proofs.LookLemmas.{look_has, look_some}
 use Rattle.plan_store.specs.Contents.{content_of}
 use Rattle.plan_store.specs.Asked.{AsksKey, AsksPlan, HasLasts}
 use Rattle.plan_store.specs.Parts.{Rest, rest_of, with_rest}
 use Rattle.plan_store.specs.Views.{Asks, HasAsked, HasPredecessors, Hidden, IsDeletedKey, ListsSet, Sees, Shows}
 use Rattle.plan_store.specs.Views.{ShowsDeleted, ShowsLive, ShowsPart, TellsSizes, asked_pairs, bars, bars_from, deletion_serial}
-use Rattle.plan_store.specs.Views.{hidden_of, is_by_operator, key_of, named, row_serial, shown}
+use Rattle.plan_store.specs.Views.{hidden_of, is_by_operator, is_from_plan_end, key_of, named, row_serial, shown}
 use Rattle.plan_store.specs.Views.{with_hidden, with_part, with_plans_alone, with_these}
 use Rattle.plan_store.specs.declared.contents.Content.{Content as Kept}
 use Rattle.plan_store.specs.declared.stores.Need.{Need}
@@ -189,37 +190,17 @@ shows_key key view kept whole asked history is =
     lasts_are (λ numbered own serial row stands same.
     live_is_last c numbered own key (shown view).sets.history lasts serial row stands (let is : key ≡ row.key = cc in is))
 
--- what keeps keys from being made, as the buffer has it
-module _ (kept : Kept) (barring : List Deletion) (is : barring ≡ filter (bars kept.bounds) kept.deletions.items) where
-  pub barring_rows : AreRows of_deletion barring
-  barring_rows = subst (AreRows of_deletion) (sym is)
-      (filter_rows of_deletion (bars kept.bounds) kept.deletions.items kept.deletion_rows)
-
-  pub barring_seats : HasSeats of_deletion barring kept.seats.items
-  barring_seats x there = kept.deletion_seats x
-      (contains_filter (bars kept.bounds) kept.deletions.items x (subst (λ xs. Contains xs x) is there)).0
-
-  barring_look : (serial : ℕ) → look_up deletion_serial barring serial
-      ≡ keep (bars kept.bounds) ((content_of kept).sets.deletions serial)
-  barring_look serial =
-      ap (λ (xs : List Deletion). look_up deletion_serial xs serial) is
-      ∙ look_filter of_deletion (bars kept.bounds) kept.deletions.items kept.deletion_rows serial
-
-  -- so it stands in a window of the long-term plan
-  barring_named : (history : ℕ → Option Row)
-      → with_part None history (look_up deletion_serial barring) (content_of kept)
-      ≡ named LongTerm history (content_of kept)
-  barring_named history i = with_part None history (λ serial. barring_look serial i) (content_of kept)
-
-  pub shows_plan : (view : View) → view.content.now ≡ kept → HasAsked LongTerm kept
-      → view.history.now ≡ kept.history.items
-      → shown view ≡ with_part kept.buffer.key (look_up row_serial kept.buffer.lasts.items)
-      (look_up deletion_serial barring) (content_of kept) → Shows LongTerm view (content_of kept)
-  shows_plan view whole asked history is' = shows_lasts LongTerm view kept whole asked history
-      (is' ∙ ap (λ (k : Option KeyValue). with_part k (look_up row_serial kept.buffer.lasts.items)
-      (look_up deletion_serial barring) (content_of kept)) asked.key
-      ∙ barring_named (look_up row_serial kept.buffer.lasts.items)) (ap (λ (x : Content). x.sets.history) is')
-      (λ _ _ serial row _ same. absurd (let no : None ≡ Some row.key = same in cc))
+-- a window of the long-term plan has all deletions, and shows those that keep keys from being made
+pub shows_plan : (view : View) (kept : Kept) → view.content.now ≡ kept → HasAsked LongTerm kept
+    → view.history.now ≡ kept.history.items
+    → shown view ≡ with_part kept.buffer.key (look_up row_serial kept.buffer.lasts.items)
+    (λ serial. keep (bars kept.bounds) (look_up deletion_serial kept.deletions.items serial)) (content_of kept)
+    → Shows LongTerm view (content_of kept)
+shows_plan view kept whole asked history is = shows_lasts LongTerm view kept whole asked history
+    (is ∙ ap (λ (k : Option KeyValue). with_part k (look_up row_serial kept.buffer.lasts.items)
+    (λ serial. keep (bars kept.bounds) (look_up deletion_serial kept.deletions.items serial)) (content_of kept)) asked.key)
+    (ap (λ (x : Content). x.sets.history) is)
+    (λ _ _ serial row _ same. absurd (let no : None ≡ Some row.key = same in cc))
 
 -- the rows of a list that arrive before a moment
 pub lists_early : (t : ℕ) (xs : List Row) → AreRows of_row xs → (found : List Row)
@@ -244,6 +225,46 @@ bars_late moment deletion reason late =
     let after : ltb deletion.row.key.ia moment ≡ false = le-ltb deletion.row.key.ia moment late in
     let by : is_by_operator deletion.reason ≡ true = subst (λ r. is_by_operator r ≡ true) (sym reason) refl in
     rw (after, by) refl
+
+and_true : (b : Bool) → (b && true) ≡ b
+and_true true = refl
+and_true false = refl
+
+-- what an operator deleted keeps its key from being made where that arrives from the plan end on
+bars_ahead : (o : Option Bounds) (deletion : Deletion) (key : KeyValue) → deletion.reason ≡ Operator
+    → deletion.row.key ≡ key → bars o deletion ≡ is_from_plan_end o key
+bars_ahead None deletion key reason keyed = refl
+bars_ahead (Some b) deletion key reason keyed =
+    let by : is_by_operator deletion.reason ≡ true = subst (λ r. is_by_operator r ≡ true) (sym reason) refl in
+    ap (λ x. not (arrives_before b.plan_end deletion.row) && x) by
+    ∙ and_true (not (arrives_before b.plan_end deletion.row))
+    ∙ ap (λ (k : KeyValue). not (ltb k.ia b.plan_end)) keyed
+
+-- so of all deletions of a key the window shows one where an operator made it and the key arrives from the plan end on
+module _ (o : Option Bounds) (key : KeyValue) (rows part : List Deletion) (are : AreRows of_deletion rows)
+    (is : (deletion : Deletion) → Contains part deletion ↔ (Contains rows deletion × (deletion.row.key ≡ key))) (s : Sets)
+    (same : s.deletions ≡ (λ serial. keep (bars o) (look_up deletion_serial rows serial))) where
+  pub barred_key : is_from_plan_end o key ≡ true
+      → ((deletion : Deletion) × Contains part deletion × (deletion.reason ≡ Operator)) → IsDeletedKey s key
+  barred_key ahead (deletion, there, reason) =
+      let both = (is deletion).0 there in (
+        deletion.row.serial,
+        deletion,
+        ap (λ (f : ℕ → Option Deletion). f deletion.row.serial) same
+            ∙ is_kept (bars o) (look_up deletion_serial rows deletion.row.serial) deletion
+            (look_has deletion_serial rows are.one_each deletion both.0) (bars_ahead o deletion key reason both.1 ∙ ahead),
+        reason,
+        both.1,
+      )
+
+  pub key_barred : IsDeletedKey s key
+      → (is_from_plan_end o key ≡ true) × ((deletion : Deletion) × Contains part deletion × (deletion.reason ≡ Operator))
+  key_barred (serial, deletion, stands, reason, keyed) =
+      let kept = kept_is (bars o) (look_up deletion_serial rows serial) deletion
+      (sym (ap (λ (f : ℕ → Option Deletion). f serial) same) ∙ stands) in (
+        sym (bars_ahead o deletion key reason keyed) ∙ kept.1,
+        (deletion, (is deletion).1 ((look_some deletion_serial rows serial deletion kept.0).0, keyed), reason),
+      )
 
 -- what a window shows that hides history, deletions, pairs and jobs, with them, is the content
 pub seen_is : {history : ℕ → Option Row} {deletions : ℕ → Option Deletion} {pairs : List Pair} {jobs : ℕ → Option Job}

@@ -1,6 +1,6 @@
 -- What a window shows, and what its calls return.
 use Rattle.std.specs.Prelude.{◌≡◌, ◌≢◌, ◌↔◌, ℕ, ◌≤◌, ◌<◌, List, [], Contains, Option, Some, None, filter, Bool}
-use Rattle.std.specs.Prelude.{◌&&◌, ◌||◌, is_some, length, not, true, false}
+use Rattle.std.specs.Prelude.{◌&&◌, ◌||◌, is_some, length, nat_lt, not, true, false}
 use Rattle.occurrences.specs.Place.{IsLive}
 use Rattle.occurrences.specs.declared.key.Key.{Key}
 use Rattle.occurrences.specs.declared.place.Deletion.{Deletion}
@@ -73,7 +73,27 @@ abbrev pub asked_pairs : Option Key → (ltp : ℕ → Option Row) → (cp : ℕ
     → List Pair → List Pair
 asked_pairs key ltp cp history pairs = filter (λ (pair : Pair). asks_pairs key ltp cp history pair.successor) pairs
 
--- what the window shows, as a content; no job
+abbrev pub is_by_operator : Reason → Bool
+is_by_operator Operator = true
+is_by_operator Withdrawn = false
+is_by_operator Plan = false
+
+-- an operator deleted it, and it arrives at the moment or after it
+abbrev pub bars_from : ℕ → Deletion → Bool
+bars_from moment deletion = not (arrives_before moment deletion.row) && is_by_operator deletion.reason
+
+-- it keeps a planning statement from making its key: an operator deleted it, and it arrives from the plan end on
+abbrev pub bars : Option Bounds → Deletion → Bool
+bars None deletion = false
+bars (Some b) deletion = bars_from b.plan_end deletion
+
+-- there is a plan, and the key arrives at its end or after it
+abbrev pub is_from_plan_end : Option Bounds → Key → Bool
+is_from_plan_end None key = false
+is_from_plan_end (Some b) key = not (nat_lt key.ia b.plan_end)
+
+-- what the window shows, as a content; of the deletions those that keep a planning statement from making their keys; no
+-- job
 abbrev pub shown : View → Content
 shown view = record {
   definitions = view.content.now.definitions;
@@ -83,7 +103,7 @@ shown view = record {
     ltp = look_up row_serial view.ltp.now;
     cp = look_up current_serial view.cp.now;
     history = look_up row_serial view.lasts.now;
-    deletions = look_up deletion_serial view.deletions.now;
+    deletions = λ serial. keep (bars view.content.now.bounds) (look_up deletion_serial view.deletions.now serial);
   };
   in_force = view.content.now.in_force;
   pairs = asked_pairs view.key.now (look_up row_serial view.ltp.now) (look_up current_serial view.cp.now)
@@ -145,20 +165,6 @@ with_part key history deletions c = with_these (record {
   pairs = asked_pairs key c.sets.ltp c.sets.cp c.sets.history c.pairs;
   jobs = λ _. None;
 }) c
-
-abbrev pub is_by_operator : Reason → Bool
-is_by_operator Operator = true
-is_by_operator Withdrawn = false
-is_by_operator Plan = false
-
--- an operator deleted it, and it arrives at the moment or after it
-abbrev pub bars_from : ℕ → Deletion → Bool
-bars_from moment deletion = not (arrives_before moment deletion.row) && is_by_operator deletion.reason
-
--- it keeps a planning statement from making its key: an operator deleted it, and it arrives from the plan end on
-abbrev pub bars : Option Bounds → Deletion → Bool
-bars None deletion = false
-bars (Some b) deletion = bars_from b.plan_end deletion
 
 -- what a need names of a content, where these rows of history are shown: of a daily plan the rows of the current plan,
 -- and those of the long-term plan that arrive before its moment; of one key both plans, and the pairs of what is open
@@ -270,7 +276,6 @@ abbrev pub IsFilled : Need → Kept → Type 0
 IsFilled need.Definitions kept = Unit {0}
 IsFilled (need.Key key) kept = HasAsked (need.Key key) kept
 IsFilled need.LongTerm kept = HasAsked need.LongTerm kept
-    × (kept.buffer.barring.items ≡ filter (bars kept.bounds) kept.deletions.items)
 IsFilled (need.Daily t) kept = kept.buffer.early.items ≡ filter (arrives_before t) kept.ltp.items
 
 -- the list has exactly the rows of the set that pass, by application, input arrival and serial

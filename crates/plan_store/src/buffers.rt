@@ -1,7 +1,7 @@
 ghost use Rattle.std.specs.Prelude.{◌≡◌, []};
 
 use external_dependencies::Pairs;
-use occurrences::{Deletion, Key, Row};
+use occurrences::{Key, Row};
 use std::alloc::Global;
 
 // What windows show that is no part of a list of the content. It is filled before a window is lent.
@@ -14,8 +14,6 @@ pub(crate) struct Buffer {
     pub(crate) places: Vec<usize>,
     // its key, if it is on one
     pub(crate) key: Option<Key>,
-    // the deletions that the latest window of the long-term plan shows
-    pub(crate) barring: Vec<Deletion>,
     // the pairs of a window that shows none
     pub(crate) no_pairs: Pairs,
     ghost none: { no_pairs ≡ [] },
@@ -29,7 +27,6 @@ impl Buffer {
             lasts: Vec::new(alloc),
             places: Vec::new(alloc),
             key: None,
-            barring: Vec::new(alloc),
             no_pairs: Pairs::new(alloc),
         }
     }

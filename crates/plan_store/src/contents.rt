@@ -1,4 +1,4 @@
-ghost use Rattle.std.specs.Prelude.{◌≡◌, [], Contains, OnOk, OnErr, IfOk, filter, option_copied, unwrap_or};
+ghost use Rattle.std.specs.Prelude.{◌≡◌, [], Contains, OnOk, OnErr, IfOk, option_copied, unwrap_or};
 
 use crate::buffers::Buffer;
 use crate::changes::{Change, DefinitionChange};
@@ -7,7 +7,7 @@ use crate::lasts::{key_lasts, plan_lasts};
 use crate::moving::move_rows;
 use crate::pairs::change_pairs;
 use crate::room::{Room, grow};
-use crate::slices::{arriving_before, barring};
+use crate::slices::arriving_before;
 use crate::stores::Need;
 use crate::views::View;
 use app_definitions::Definitions;
@@ -58,7 +58,7 @@ pub struct Content {
 }
 
 ghost use Rattle.keyed_lists.specs.Rows.{AreRows, of_row, of_current, of_deletion};
-ghost use Rattle.planner_machine.specs.Moves.{or_else};
+ghost use Rattle.planner_machine.specs.Moves.{keep, or_else};
 ghost use Rattle.plan_store.specs.Changes.{redefined};
 ghost use Rattle.plan_store.specs.Jobs.{AreJobs};
 ghost use Rattle.keyed_lists.specs.Rows.{HasEachOnce};
@@ -101,9 +101,9 @@ impl Content {
         }
     }
 
-    /// Prepares what a window for the need shows that is no part of a list: for a daily plan the rows of the long-term
-    /// plan that arrive before its end, for a key and for the long-term plan the rows of history that the need names,
-    /// and for the long-term plan what an operator deleted from the plan end on. The content stays as it is.
+    /// Makes ready what a window for the need shows that is no part of a list: for a daily plan the rows of the
+    /// long-term plan that arrive before its end, and for a key and for the long-term plan the rows of history that are
+    /// asked for. The content stays as it is.
     pub fn fill_window(&mut self, need: &Need) -> Result<(), AllocError>
         ensures same { content_of self.new ≡ content_of self.old }
         ensures filled { OnOk result (IsFilled need.now self.new) }
@@ -111,10 +111,7 @@ impl Content {
         match need {
             Need::Daily(moment) => arriving_before(&mut self.buffer.early, &self.ltp, *moment),
             Need::Key(key) => self.fill_for_key(key),
-            Need::LongTerm => {
-                self.fill_barring()?;
-                self.fill_for_plan()
-            }
+            Need::LongTerm => self.fill_for_plan(),
             Need::Definitions => Ok(()),
         }
     }
@@ -138,8 +135,6 @@ impl Content {
     fn fill_for_plan(&mut self) -> Result<(), AllocError>
         ensures same { content_of self.new ≡ content_of self.old }
         ensures filled { OnOk result (HasAsked Need.LongTerm self.new) }
-        ensures barring { self.new.buffer.barring ≡ self.old.buffer.barring }
-        ensures kept { self.new.deletions ≡ self.old.deletions }
     {
         self.buffer.key = None;
         plan_lasts(
@@ -151,21 +146,6 @@ impl Content {
             &self.in_force,
             &self.definitions,
         )
-    }
-
-    // Fills the buffer with what an operator deleted from the plan end on, if there is a plan.
-    fn fill_barring(&mut self) -> Result<(), AllocError>
-        ensures same { content_of self.new ≡ content_of self.old }
-        ensures filled { OnOk result (self.new.buffer.barring.items
-            ≡ filter (bars self.new.bounds) self.new.deletions.items) }
-    {
-        match self.bounds {
-            Some(bounds) => barring(&mut self.buffer.barring, &self.deletions, bounds.plan_end),
-            None => {
-                self.buffer.barring.clear();
-                Ok(())
-            }
-        }
     }
 
     /// Lends a window that shows what the need names, which `fill_window` prepared. It has the sizes of the plans even
@@ -180,7 +160,7 @@ impl Content {
             Need::Definitions => self.window_of_plans(&[], &[]),
             Need::Daily(_) => self.window_of_plans(&self.buffer.early, &self.cp),
             Need::Key(_) => self.window_of_lasts(&[]),
-            Need::LongTerm => self.window_of_lasts(&self.buffer.barring),
+            Need::LongTerm => self.window_of_lasts(&self.deletions),
         }
     }
 
@@ -206,8 +186,9 @@ impl Content {
         }
     }
 
-    // A window of both plans, of the pairs that it needs with both their rows, of the rows of history that it needs,
-    // and of these deletions. `fill_window` noted the key that it is on.
+    // A window of both plans and the pairs that are asked for, with both their rows, of the rows of history that were
+    // asked for, and of these deletions what keeps keys from being made. On which key it is was noted where it was
+    // filled.
     fn window_of_lasts<'a>(&'a self, deletions: &'a [Deletion]) -> View<'a>
         requires lasts { AreRows of_row self.now.buffer.lasts.items }
         requires part { (row : RowValue) → Contains self.now.buffer.lasts.items row
@@ -216,7 +197,8 @@ impl Content {
         requires seats { HasSeats of_deletion deletions.now self.now.seats.items }
         ensures shown { shown result ≡ with_part self.now.buffer.key
             (look_up row_serial self.now.buffer.lasts.items)
-            (look_up deletion_serial deletions.now) (content_of self.now) }
+            (λ serial. keep (bars self.now.bounds) (look_up deletion_serial deletions.now serial))
+            (content_of self.now) }
         ensures history { result.history.now ≡ self.now.history.items }
         ensures whole { result.content.now ≡ self.now }
     {

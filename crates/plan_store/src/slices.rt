@@ -8,10 +8,11 @@ ghost use Rattle.keyed_lists.specs.Seats.{AreSeats, HasSeats};
 ghost use Rattle.external_dependencies.specs.Arrival.{arrival_cmp};
 ghost use Rattle.external_dependencies.specs.Nearest.{arrival_of};
 ghost use Rattle.plan_store.specs.Slices.{HaveOneApp, IsFront};
-ghost use Rattle.plan_store.specs.Views.{bars_from, is_asked, is_by_operator, is_of_key};
+ghost use Rattle.plan_store.specs.Views.{bars_from, is_asked, is_by_operator, is_from_plan_end, is_of_key};
 
 use keyed_lists::{PlanRow, Seat, seats_of};
 use occurrences::{CurrentRow, Deletion, Key, Reason, Row, Serial, Status};
+use planner_machine::Bounds;
 use std::alloc::AllocError;
 use work_calendars::{App, Moment};
 
@@ -195,6 +196,16 @@ pub(crate) fn barring(
         at += of_one.len();
     }
     Ok(())
+}
+
+// Whether there is a plan, and the key arrives at its end or after it.
+pub(crate) fn is_from_plan_end(bounds: Option<Bounds>, key: &Key) -> bool
+    ensures { result ≡ is_from_plan_end bounds key.now }
+{
+    match bounds {
+        Some(bounds) => bounds.plan_end <= key.ia,
+        None => false,
+    }
 }
 
 // Whether the row has the key, where there is one.

@@ -10,8 +10,8 @@ ghost use Rattle.planner_machine.specs.Sound.{AreNumbered};
 use crate::arrivals::{last_live, last_of, later};
 use crate::contents::Content;
 use crate::slices::{
-    arriving_before, before, first_live, first_of, has_operator, is_asked, is_of_key, of_app,
-    of_key, of_serial,
+    arriving_before, before, first_live, first_of, has_operator, is_asked, is_from_plan_end,
+    is_of_key, of_app, of_key, of_serial,
 };
 use crate::spans::next_planned;
 use app_definitions::Definitions;
@@ -30,6 +30,7 @@ pub struct View<'a> {
     pub(crate) ltp: &'a [Row],
     pub(crate) cp: &'a [CurrentRow],
     pub(crate) lasts: &'a [Row],
+    // and of these deletions those that keep a planning statement from making their keys
     pub(crate) deletions: &'a [Deletion],
     // and of these pairs those whose successor is open, or is the live row of the key
     pub(crate) pairs: &'a Pairs,
@@ -303,7 +304,7 @@ impl<'a> View<'a> {
     pub fn is_deleted_by_operator(&self, key: &Key) -> bool
         ensures { IsTrue result ↔ IsDeletedKey (shown self.now).sets key.now }
     {
-        has_operator(of_key(self.deletions, key))
+        is_from_plan_end(self.content.bounds, key) && has_operator(of_key(self.deletions, key))
     }
 
     // The live occurrence of the application that arrives last before the minute.

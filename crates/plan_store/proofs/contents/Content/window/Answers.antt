@@ -1,7 +1,7 @@
 use Rattle.std.proofs.Common.{◌∙◌, subst, sym}
 use Rattle.plan_store.specs.Contents.{content_of}
 use Rattle.plan_store.specs.Views.{Shows}
-use Rattle.plan_store.proofs.WindowLemmas.{barring_rows, barring_seats, early_rows, early_seats}
+use Rattle.plan_store.proofs.WindowLemmas.{early_rows, early_seats}
 use Rattle.plan_store.proofs.WindowLemmas.{shows_definitions, shows_early, shows_key, shows_plan, tells_sizes}
 use Rattle.plan_store.proofs.contents.Content.window.Goals as goal
 
@@ -17,13 +17,11 @@ window_of_plans-requires-in-Daily-clause-ltp_seats c =
 
 pub window_of_lasts-requires-in-LongTerm-clause-rows : goal.window_of_lasts-requires-in-LongTerm-clause-rows
 window_of_lasts-requires-in-LongTerm-clause-rows c =
-    let filled = rw c.in-LongTerm.is at c.requires in
-    barring_rows c.args.self.now c.deref-in-LongTerm.result.now (c.deref-in-LongTerm.ensures.value ∙ filled.1)
+    rw c.deref-in-LongTerm.ensures.value c.args.self.now.deletion_rows
 
 pub window_of_lasts-requires-in-LongTerm-clause-seats : goal.window_of_lasts-requires-in-LongTerm-clause-seats
 window_of_lasts-requires-in-LongTerm-clause-seats c =
-    let filled = rw c.in-LongTerm.is at c.requires in
-    barring_seats c.args.self.now c.deref-in-LongTerm.result.now (c.deref-in-LongTerm.ensures.value ∙ filled.1)
+    rw c.deref-in-LongTerm.ensures.value c.args.self.now.deletion_seats
 
 pub returns-in-Definitions-clause-shows : goal.returns-in-Definitions-clause-shows
 returns-in-Definitions-clause-shows c =
@@ -43,10 +41,10 @@ pub returns-in-LongTerm-clause-shows : goal.returns-in-LongTerm-clause-shows
 returns-in-LongTerm-clause-shows c =
     let kept = c.args.self.now in
     let filled = rw c.in-LongTerm.is at c.requires in
+    let shows = rw c.deref-in-LongTerm.ensures.value at c.window_of_lasts-in-LongTerm.ensures.shown in
     subst (λ n. Shows n c.window_of_lasts-in-LongTerm.result (content_of kept)) (sym c.in-LongTerm.is)
-    (shows_plan kept c.deref-in-LongTerm.result.now (c.deref-in-LongTerm.ensures.value ∙ filled.1)
-    c.window_of_lasts-in-LongTerm.result c.window_of_lasts-in-LongTerm.ensures.whole filled.0
-    c.window_of_lasts-in-LongTerm.ensures.history c.window_of_lasts-in-LongTerm.ensures.shown)
+    (shows_plan c.window_of_lasts-in-LongTerm.result kept c.window_of_lasts-in-LongTerm.ensures.whole filled
+    c.window_of_lasts-in-LongTerm.ensures.history shows)
 
 pub returns-in-Daily-clause-shows : goal.returns-in-Daily-clause-shows
 returns-in-Daily-clause-shows c =

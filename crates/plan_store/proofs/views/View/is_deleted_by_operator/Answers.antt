@@ -1,11 +1,18 @@
-use Rattle.std.proofs.Common.{refl}
-use Rattle.plan_store.specs.Views.{shown}
-use Rattle.plan_store.proofs.ViewLemmas.{deleted_key}
+use Rattle.std.proofs.Common.{◌≡◌, ◌∙◌, refl, sym, true}
+use Rattle.plan_store.specs.Views.{is_from_plan_end, shown}
+use Rattle.plan_store.proofs.WindowLemmas.{barred_key, key_barred}
 use Rattle.plan_store.proofs.views.View.is_deleted_by_operator.Goals as goal
 
-pub returns : goal.returns
-returns c =
+pub returns-then-is_from_plan_end : goal.returns-then-is_from_plan_end
+returns-then-is_from_plan_end c =
     let view = c.args.self.now in
-    let is = c.of_key.ensures.all in
-    deleted_key c.args.key.now view.deletions.now c.of_key.result.now view.deletion_rows (is view.deletion_rows.keyed)
-    c.has_operator.result c.has_operator.ensures (shown view).sets (λ serial. refl)
+    let bounds = view.content.now.bounds in
+    let key = c.args.key.now in
+    let all = view.deletions.now in
+    let own = c.of_key.result.now in
+    let is = c.of_key.ensures.all view.deletion_rows.keyed in
+    let ahead : is_from_plan_end bounds key ≡ true = sym c.is_from_plan_end.ensures ∙ c.if-is_from_plan_end.true in (
+      (λ yes. barred_key bounds key all own view.deletion_rows is (shown view).sets refl ahead
+          (c.has_operator.ensures.0 yes)),
+      λ there. c.has_operator.ensures.1 (key_barred bounds key all own view.deletion_rows is (shown view).sets refl there).1,
+    )
