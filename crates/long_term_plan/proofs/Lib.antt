@@ -17,3 +17,4 @@ mod ModifyPlanLemmas
 mod ModifyAllLemmas
 mod ModifyOneLemmas
 mod OneListLemmas
+mod EarlyLemmas

@@ -1,3 +1,5 @@
+-- What public clauses cite.
+pub mod Early
 -- For private contracts only: no public contract cites these definitions.
 pub mod Deletes
 pub mod Drafting

@@ -4,10 +4,11 @@ ghost use Rattle.planner_machine.specs.Create.{AreBadPlanDays, create};
 ghost use Rattle.planner_machine.specs.Sound.{IsSound};
 ghost use Rattle.plan_store.specs.Verdicts.{VerdictIs};
 ghost use Rattle.plan_store.specs.Views.{Shows};
+ghost use Rattle.long_term_plan.specs.Early.{IsRefusedEarly};
 
 use crate::lists::defined_lists;
 use crate::making::add_days;
-use crate::refusals::lacking_definition;
+use crate::refusals::{dates_or_lacking, lacking_definition};
 use external_dependencies::find_loop;
 use occurrences::Refusal;
 use plan_store::{Need, Verdict, View};
@@ -43,6 +44,21 @@ pub fn create(alloc: Global, view: &View<'_>, from: Day, to: Day) -> Result<Verd
         plan_end,
     };
     add_days(alloc, view, &bounds, links, plan_end)
+}
+
+/// Why `ltp-create` is refused by the bounds and the days, which a window of the definitions shows: there is a plan (21),
+/// or the days are out of order or past a limit (24), where no active application lacks a definition (22, 23).
+pub fn create_refusal(view: &View<'_>, from: Day, to: Day) -> Option<Refusal>
+    ensures { (c : Content) → Shows Need.Definitions view.now c
+        → IsRefusedEarly (create from to) c result }
+{
+    if view.bounds().is_some() {
+        return Some(Refusal::PlanExists);
+    }
+    if !are_bad_days(from, to) {
+        return None;
+    }
+    Some(dates_or_lacking(view.definitions()))
 }
 
 // Whether a plan can't have these as its first and last day.

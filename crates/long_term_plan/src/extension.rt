@@ -4,11 +4,12 @@ ghost use Rattle.planner_machine.specs.Extend.{IsBadLastDay, extend};
 ghost use Rattle.planner_machine.specs.Sound.{IsSound};
 ghost use Rattle.plan_store.specs.Verdicts.{VerdictIs};
 ghost use Rattle.plan_store.specs.Views.{Shows};
+ghost use Rattle.long_term_plan.specs.Early.{IsRefusedEarly};
 
 use crate::creation::midnight;
 use crate::lists::defined_lists;
 use crate::making::add_days;
-use crate::refusals::lacking_definition;
+use crate::refusals::{dates_or_lacking, lacking_definition};
 use external_dependencies::find_loop;
 use occurrences::Refusal;
 use plan_store::{Need, Verdict, View};
@@ -45,6 +46,21 @@ pub fn extend(alloc: Global, view: &View<'_>, to: Day) -> Result<Verdict, AllocE
         ..bounds
     };
     add_days(alloc, view, &later, links, midnight(first))
+}
+
+/// Why `ltp-extend` is refused by the bounds and the day, which a window of the definitions shows: there is no plan (20),
+/// or the day isn't later or lies past a limit (24), where no active application lacks a definition (22, 23).
+pub fn extend_refusal(view: &View<'_>, to: Day) -> Option<Refusal>
+    ensures { (c : Content) → Shows Need.Definitions view.now c
+        → IsRefusedEarly (extend to) c result }
+{
+    let Some(bounds) = view.bounds() else {
+        return Some(Refusal::NoPlan);
+    };
+    if !is_bad_last_day(&bounds, to) {
+        return None;
+    }
+    Some(dates_or_lacking(view.definitions()))
 }
 
 // Whether the plan of these bounds can't end with that day from now on.

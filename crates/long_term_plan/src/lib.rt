@@ -20,7 +20,7 @@ mod parting;
 mod refusals;
 
 pub use addition::add;
-pub use creation::create;
+pub use creation::{create, create_refusal};
 pub use deletion::delete;
-pub use extension::extend;
-pub use modification::{modify_all, modify_one};
+pub use extension::{extend, extend_refusal};
+pub use modification::{modify_all, modify_one, modify_refusal};

@@ -18,6 +18,7 @@ ghost use Rattle.plan_store.specs.Verdicts.{VerdictIs};
 ghost use Rattle.plan_store.specs.Views.{Behind, BehindAny, IsAny, ListsSet, Shows, ShowsDeleted, shown};
 ghost use Rattle.occurrences.specs.declared.key.Key.{Key as KeyValue};
 ghost use Rattle.plan_pairs.specs.Turns.{AreKnownLinks, ArePlanned};
+ghost use Rattle.long_term_plan.specs.Early.{IsRefusedEarly};
 ghost use Rattle.long_term_plan.specs.Drafting.{DraftsRise};
 ghost use Rattle.long_term_plan.specs.Modifying.{AreAsked, AreModifying, AreOf, AreTooMany, HavePlanned, Looks};
 ghost use Rattle.long_term_plan.specs.Modifying.{ModifiesPlan, ModifiesRows, modified_sets, outcome};
@@ -84,6 +85,20 @@ pub fn modify_one(alloc: Global, view: &View<'_>, app: &App) -> Result<Verdict, 
         return Ok(Verdict::Refused(Refusal::NoActiveApplication));
     }
     modify(alloc, view, &bounds, &Some(*app), links)
+}
+
+/// Why `ltp-modify-all` and `ltp-modify-one` are refused by the bounds, which a window of the definitions shows: there is
+/// no plan (20).
+pub fn modify_refusal(view: &View<'_>) -> Option<Refusal>
+    ensures all { (c : Content) → Shows Need.Definitions view.now c
+        → IsRefusedEarly modify_all c result }
+    ensures one { (app : List ℕ) (c : Content) → Shows Need.Definitions view.now c
+        → IsRefusedEarly (modify_one app) c result }
+{
+    match view.bounds() {
+        Some(_) => None,
+        None => Some(Refusal::NoPlan),
+    }
 }
 
 // The verdict if the statement looks at all applications, or at one, and these lists come into force.

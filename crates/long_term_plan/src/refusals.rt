@@ -1,3 +1,4 @@
+ghost use Rattle.std.specs.Prelude.{Some, ◌≡◌, ◌⊎◌, None};
 ghost use Rattle.long_term_plan.specs.Making.{LacksDefinition, LacksOwnDefinition};
 
 use app_definitions::Definitions;
@@ -16,6 +17,17 @@ pub(crate) fn lacking_definition(all: &Definitions) -> Option<Refusal>
     }
     let app = least_without_period(all)?;
     Some(Refusal::PeriodUndefined { app })
+}
+
+// That refusal, and where no application lacks one, that of days that a plan can't have.
+pub(crate) fn dates_or_lacking(all: &Definitions) -> Refusal
+    ensures { LacksDefinition all.now (Some result)
+        ⊎ (LacksDefinition all.now None × (result ≡ Refusal.DatesOutOfRange)) }
+{
+    match lacking_definition(all) {
+        Some(refusal) => refusal,
+        None => Refusal::DatesOutOfRange,
+    }
 }
 
 // The refusal of an application that is active and lacks its calendar, or else a period.

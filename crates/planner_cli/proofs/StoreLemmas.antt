@@ -234,6 +234,15 @@ module _ {S : Type 0} (g : Ghosts S) where
     read_answered (Ok printed) Does told memory = read_printed printed Does told
     read_answered (Err fault) Does told memory = read_refused (Err fault) Does memory
 
+    -- it was read, and what is printed answers it, or memory was refused
+    pub read_tried : (result : Result Printed StoreFault) (Does : AnswerLines → Content → Type 0)
+        → (g.is_honest mid → IfOk result (λ printed. (reply : AnswerLines) × Does reply (g.content before)
+        × Prints reply printed.text.items printed.is_accepted))
+        → IfErr result (λ fault. fault ≡ Memory)
+        → AnswersBy g before mid result Does
+    read_tried (Ok printed) Does told memory = read_printed printed Does told
+    read_tried (Err fault) Does told memory = read_refused (Err fault) Does memory
+
   module _ {T U : Type 0} (before now : S) (read : Result T StoreFault) (IsRight : T → Type 0)
       (reads : ReadsBy g before now read IsRight) (value : T) (was : read ≡ Ok value) (Tells : U → Type 0) where
     own : ReadsBy g before now (Ok value) IsRight

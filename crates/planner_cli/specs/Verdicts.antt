@@ -14,6 +14,7 @@ use Rattle.statements.specs.declared.statements.ChangeStatement.{ChangeStatement
 use Rattle.statements.specs.declared.statements.ChangeStatement.TheVariants as statement
 use Rattle.statements.specs.declared.statements.DailyFunction.{DailyFunction}
 use Rattle.statements.specs.declared.statements.DailyFunction.TheVariants as daily
+use Rattle.statements.specs.declared.statements.PlanFunction.{PlanFunction}
 use Rattle.daily_planning.specs.DailyPlans.{IsEndBy, daily_need, plan_end_of}
 use Rattle.planner_cli.specs.Changes.{change_of}
 use Rattle.planner_cli.specs.Kinds.{count_of}
@@ -70,6 +71,21 @@ daily_in (statement.Act action key) = None
 abbrev pub daily_of : JobChange → Option DailyFunction
 daily_of (by_job.Define block) = None
 daily_of (by_job.Statement change) = daily_in change
+
+-- the change of the long-term plan by what the definitions name that a change without data asks for, if it asks for one
+abbrev pub plan_in : ChangeStatement → Option PlanFunction
+plan_in (statement.Plan function) = Some function
+plan_in (statement.Undefine kind name) = None
+plan_in (statement.Add key) = None
+plan_in (statement.Delete key) = None
+plan_in (statement.Daily function) = None
+plan_in (statement.AddCurrent key) = None
+plan_in (statement.Act action key) = None
+
+-- and that a job requests
+abbrev pub plan_of : JobChange → Option PlanFunction
+plan_of (by_job.Define block) = None
+plan_of (by_job.Statement change) = plan_in change
 
 -- the end of a daily plan: its moment, the new plan end that its days give, or the plan end as it is; or that there is
 -- none

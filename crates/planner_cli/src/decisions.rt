@@ -5,14 +5,17 @@ ghost use Rattle.planner_machine.specs.Sound.{IsSound};
 ghost use Rattle.planner_machine.specs.Statement.{decision_of};
 ghost use Rattle.plan_store.specs.Verdicts.{VerdictIs};
 ghost use Rattle.plan_store.specs.Views.{Shows};
-ghost use Rattle.plan_store.specs.declared.stores.Need.TheVariants.{LongTerm};
+ghost use Rattle.plan_store.specs.declared.stores.Need.TheVariants.{Definitions, LongTerm};
+ghost use Rattle.long_term_plan.specs.Early.{IsRefusedEarly};
 ghost use Rattle.daily_planning.specs.DailyPlans.{daily_need};
 ghost use Rattle.planner_cli.specs.Changes.{change_of, daily_change, plan_change};
 ghost use Rattle.planner_cli.specs.Verdicts.{IsEnd, IsEndOf, daily_in, daily_of, job_change, need_of, need_of_change};
+ghost use Rattle.planner_cli.specs.Verdicts.{plan_in, plan_of};
 
 use crate::define::{define, undefine};
 use crate::kinds::definitions_kind;
 use app_definitions::Block;
+use occurrences::Refusal;
 use plan_store::{Need, Verdict, View};
 use statements::{ChangeStatement, DailyFunction, PlanFunction};
 use std::alloc::{AllocError, Global};
@@ -47,6 +50,31 @@ fn daily_in(change: &ChangeStatement) -> Option<DailyFunction>
         | ChangeStatement::Plan(_)
         | ChangeStatement::Add { .. }
         | ChangeStatement::Delete { .. }
+        | ChangeStatement::AddCurrent { .. }
+        | ChangeStatement::Act { .. } => None,
+    }
+}
+
+/// The change of the long-term plan that a job asks for, if it asks for one by what the definitions name.
+pub(crate) fn plan_of(job: &JobChange) -> Option<PlanFunction>
+    ensures { result ≡ plan_of job.now }
+{
+    match job {
+        JobChange::Define(_) => None,
+        JobChange::Statement(change) => plan_in(change),
+    }
+}
+
+// The same of a change without data.
+fn plan_in(change: &ChangeStatement) -> Option<PlanFunction>
+    ensures { result ≡ plan_in change.now }
+{
+    match change {
+        ChangeStatement::Plan(function) => Some(*function),
+        ChangeStatement::Undefine { .. }
+        | ChangeStatement::Add { .. }
+        | ChangeStatement::Delete { .. }
+        | ChangeStatement::Daily(_)
         | ChangeStatement::AddCurrent { .. }
         | ChangeStatement::Act { .. } => None,
     }
@@ -134,6 +162,20 @@ pub(crate) fn decide_plan(
         PlanFunction::Extend { to } => long_term_plan::extend(alloc, view, *to),
         PlanFunction::ModifyAll => long_term_plan::modify_all(alloc, view),
         PlanFunction::ModifyOne { app } => long_term_plan::modify_one(alloc, view, app),
+    }
+}
+
+/// Why a change of the long-term plan is refused by the bounds and its days, if it is.
+pub(crate) fn plan_refusal(view: &View<'_>, function: &PlanFunction) -> Option<Refusal>
+    ensures { (c : Content) → Shows Definitions view.now c
+        → IsRefusedEarly (decision_of (plan_change function.now)) c result }
+{
+    match function {
+        PlanFunction::Create { from, to } => long_term_plan::create_refusal(view, *from, *to),
+        PlanFunction::Extend { to } => long_term_plan::extend_refusal(view, *to),
+        PlanFunction::ModifyAll | PlanFunction::ModifyOne { .. } => {
+            long_term_plan::modify_refusal(view)
+        }
     }
 }
 

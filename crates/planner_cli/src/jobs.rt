@@ -8,17 +8,20 @@ ghost use Rattle.planner_machine.specs.Sound.{IsSound};
 ghost use Rattle.planner_machine.specs.Statement.{Answer as AnswerValue, decision_of};
 ghost use Rattle.plan_store.specs.Changes.{Fits, after};
 ghost use Rattle.statements.specs.JobNumber.{IsJobNumber};
+ghost use Rattle.planner_cli.specs.Changes.{plan_change};
 ghost use Rattle.planner_cli.specs.Outcomes.{answering};
 ghost use Rattle.planner_cli.specs.Stores.{AnswersBy, ReadsBy};
 ghost use Rattle.planner_cli.specs.Verdicts.{FitsVerdict, IsEndOf, IsKeptAnswer, answer_in, daily_of, job_change};
 ghost use Rattle.planner_cli.specs.Verdicts.{job_left, left_by};
 
 use crate::answers::{Printed, print_alone};
-use crate::decisions::{JobChange, daily_of, decide, need_of};
+use crate::decisions::{JobChange, daily_of, decide, need_of, plan_of};
+use crate::early::find_refusal;
 use crate::ends::find_end;
 use occurrences::{Refusal, Reply};
 use plan_store::{Change, PlanStore, StoreFault, Verdict};
 use planner_machine::{Answer, Job, JobText, streams};
+use statements::{ChangeStatement, PlanFunction};
 use std::alloc::Global;
 use work_calendars::Moment;
 
@@ -88,12 +91,63 @@ fn perform<S: PlanStore>(
         × AnswersJob number text (decision_of (job_change change)) (S.content store.old) answer c
         × (reply ≡ answering answer)) }
 {
+    match plan_of(&change) {
+        Some(function) => perform_plan(alloc, store, number, text, function),
+        None => perform_other(alloc, store, number, text, change),
+    }
+}
+
+// The same, where it is no change of the long-term plan by what the definitions name.
+fn perform_other<S: PlanStore>(
+    alloc: Global,
+    store: &mut S,
+    number: u64,
+    text: JobText,
+    change: JobChange,
+) -> Result<Printed, StoreFault>
+    requires numbered { IsJobNumber number }
+    requires well_formed { IsWellFormed (job_change change) }
+    requires sound { S.is_honest store.old → IsSound (S.content store.old) }
+    requires new { S.is_honest store.old → (S.content store.old).jobs number ≡ None }
+    ensures { AnswersBy S.PlanStore store.old store.new result (λ reply c.
+        (answer : AnswerValue)
+        × AnswersJob number text (decision_of (job_change change)) (S.content store.old) answer c
+        × (reply ≡ answering answer)) }
+{
     match daily_of(&change) {
         Some(function) => {
             let end = find_end(alloc, store, &function)?;
             perform_within(alloc, store, end, number, text, change)
         }
         None => perform_within(alloc, store, None, number, text, change),
+    }
+}
+
+// The same of a change of the long-term plan by what the definitions name. What the bounds and its days refuse is
+// refused before a row is read.
+fn perform_plan<S: PlanStore>(
+    alloc: Global,
+    store: &mut S,
+    number: u64,
+    text: JobText,
+    function: PlanFunction,
+) -> Result<Printed, StoreFault>
+    requires numbered { IsJobNumber number }
+    requires well_formed { IsWellFormed (plan_change function) }
+    requires sound { S.is_honest store.old → IsSound (S.content store.old) }
+    requires new { S.is_honest store.old → (S.content store.old).jobs number ≡ None }
+    ensures { AnswersBy S.PlanStore store.old store.new result (λ reply c.
+        (answer : AnswerValue)
+        × AnswersJob number text (decision_of (plan_change function)) (S.content store.old)
+        answer c × (reply ≡ answering answer)) }
+{
+    streams();
+    match find_refusal(store, &function)? {
+        Some(refusal) => settle(alloc, store, number, text, Verdict::Refused(refusal)),
+        None => {
+            let change = JobChange::Statement(ChangeStatement::Plan(function));
+            perform_within(alloc, store, None, number, text, change)
+        }
     }
 }
 

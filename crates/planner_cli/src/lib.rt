@@ -13,6 +13,7 @@ mod answers;
 mod days;
 mod decisions;
 mod define;
+mod early;
 mod ends;
 mod faults;
 mod jobs;

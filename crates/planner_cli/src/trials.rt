@@ -1,5 +1,5 @@
 //! Trials: the decision of a statement, and the rows that it would change, which are shown and not changed.
-ghost use Rattle.std.specs.Prelude.{◌≡◌, IfOk, filter, map};
+ghost use Rattle.std.specs.Prelude.{◌≡◌, IfErr, IfOk, filter, map};
 ghost use Rattle.planner_machine.specs.Content.{Content};
 ghost use Rattle.planner_machine.specs.DailyPlan.{is_completed, is_deleted, is_uncompleted};
 ghost use Rattle.planner_machine.specs.Sound.{IsSound};
@@ -23,10 +23,11 @@ ghost use Rattle.planner_cli.specs.Verdicts.{IsDone, IsEnd};
 
 use crate::answers::{Printed, accepted, refused};
 use crate::decisions::{decide_daily, decide_plan};
+use crate::early::find_refusal;
 use crate::ends::find_end;
 use crate::well_formed::plan_is_well_formed;
 use daily_planning::daily_need;
-use occurrences::{CurrentRow, Row, Status};
+use occurrences::{CurrentRow, Refusal, Row, Status};
 use plan_listings::{dp_report, ltp_report};
 use plan_store::{Need, PlanStore, StoreFault, Verdict, View};
 use planner_machine::{fate_is_followed, sound_content_stays_sound};
@@ -44,8 +45,42 @@ pub(crate) fn answer_plan_trial<S: PlanStore>(
     ensures { AnswersBy S.PlanStore store.old store.new result
         (Serves (Trial (plan_change function.now)) (S.content store.old)) }
 {
+    match find_refusal(store, function)? {
+        Some(refusal) => print_refusal(alloc, function, refusal),
+        None => answer_seen(alloc, store, function),
+    }
+}
+
+// The same where what it plans is seen.
+fn answer_seen<S: PlanStore>(
+    alloc: Global,
+    store: &mut S,
+    function: &PlanFunction,
+) -> Result<Printed, StoreFault>
+    requires { S.is_honest store.old → IsSound (S.content store.old) }
+    ensures { AnswersBy S.PlanStore store.old store.new result
+        (Serves (Trial (plan_change function.now)) (S.content store.old)) }
+{
     let view = store.read_window(Need::LongTerm)?;
     Ok(plan_trial(alloc, &view, function)?)
+}
+
+// What a trial of the long-term plan prints that is refused.
+fn print_refusal(
+    alloc: Global,
+    function: &PlanFunction,
+    refusal: Refusal,
+) -> Result<Printed, StoreFault>
+    ensures prints { IfOk result (λ printed. (c : Content) → IsSound c
+        → VerdictIs (decision_of (plan_change function.now)) c (Verdict.Refused refusal)
+        → PrintsTrial (plan_change function.now) c printed) }
+    ensures err { IfErr result (λ fault. fault ≡ StoreFault.Memory) }
+{
+    plan_is_well_formed(function);
+    match print_plan(alloc, &Verdict::Refused(refusal)) {
+        Ok(printed) => Ok(printed),
+        Err(AllocError) => Err(StoreFault::Memory),
+    }
 }
 
 // What a trial of the long-term plan prints.

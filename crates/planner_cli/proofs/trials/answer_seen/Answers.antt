@@ -1,5 +1,5 @@
 use Rattle.planner_cli.proofs.StoreLemmas.{read_printed, read_refused}
-use Rattle.planner_cli.proofs.trials.answer_plan_trial.Goals as goal
+use Rattle.planner_cli.proofs.trials.answer_seen.Goals as goal
 
 pub returns : goal.returns
 returns g c =
