@@ -1,6 +1,8 @@
 mod AlikeLemmas
+mod AppPairLemmas
 mod ArrivalLemmas
 mod AskedLemmas
+pub mod EndLemmas
 pub mod FitLemmas
 mod FittingLemmas
 mod JobLemmas

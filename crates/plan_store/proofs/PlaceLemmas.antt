@@ -16,7 +16,7 @@ use Rattle.plan_store.proofs.ViewLemmas.{issued_from}
 pub some_is : {X : Type 0} (o : Option X) (x y : X) → o ≡ Some x → o ≡ Some y → x ≡ y
 some_is o x y a b = cc
 
-none_some : {X : Type 0} (o : Option X) (x : X) → o ≡ None → o ≡ Some x → ⊥
+pub none_some : {X : Type 0} (o : Option X) (x : X) → o ≡ None → o ≡ Some x → ⊥
 none_some o x a b = cc
 
 module _ (s : Sets) (numbered : AreNumbered s) where

@@ -434,28 +434,37 @@ module _ {X K : Type 0} (Takes Refuses : K → Shown → K → Type 0) (old new 
     ends = h.ends;
   }
 
--- the pairs of a content, each with both its rows
-pub lists_links : (c : Content) (app : Option (List ℕ)) → AreNumbered c.sets → IsRising pair_cmp c.pairs
-    → ListsPairs app c (links_at c.sets app c.pairs)
-lists_links c app numbered rises = record {
-  rising = links_rise c.sets app numbered c.pairs rises;
+-- some pairs of a content, with all of the application or of any, each with both its rows
+pub lists_some : (c : Content) (app : Option (List ℕ)) → AreNumbered c.sets → (found : List Pair)
+    → IsRising pair_cmp found → ((pair : Pair) → Contains found pair → Contains c.pairs pair)
+    → ((pair : Pair) (row : Row) → Contains c.pairs pair → row_at c.sets pair.successor ≡ Some row
+    → IsOfApp app row.key.app → Contains found pair) → ListsPairs app c (links_at c.sets app found)
+lists_some c app numbered found rises only each = record {
+  rising = links_rise c.sets app numbered found rises;
   exactly = λ l. (to l, from l);
 }
   where
-    to : (l : LinkedRows) → Contains (links_at c.sets app c.pairs) l → IsLinked app c l
+    to : (l : LinkedRows) → Contains (links_at c.sets app found) l → IsLinked app c l
     to l there =
-        let (pair, among, is) = links_from c.sets app c.pairs l there in
+        let (pair, among, is) = links_from c.sets app found l there in
         let (a, b, of_app) = link_parts app (row_at c.sets pair.successor) (row_at c.sets pair.predecessor) l is in (
           pair,
-          among,
+          only pair among,
           row_at_some c.sets numbered pair.successor l.successor a,
           row_at_some c.sets numbered
               pair.predecessor l.predecessor b,
           of_app,
         )
 
-    from : (l : LinkedRows) → IsLinked app c l → Contains (links_at c.sets app c.pairs) l
-    from l (pair, among, (place, at), (place', at'), of_app) = links_to c.sets app c.pairs l pair among
-        (link_from app (row_at c.sets pair.successor) (row_at c.sets pair.predecessor) l
-        (row_at_stands c.sets pair.successor (record { row = l.successor; place = place }) at)
+    from : (l : LinkedRows) → IsLinked app c l → Contains (links_at c.sets app found) l
+    from l (pair, among, (place, at), (place', at'), of_app) =
+        let successor = row_at_stands c.sets pair.successor (record { row = l.successor; place = place }) at in
+        links_to c.sets app found l pair (each pair l.successor among successor of_app)
+        (link_from app (row_at c.sets pair.successor) (row_at c.sets pair.predecessor) l successor
         (row_at_stands c.sets pair.predecessor (record { row = l.predecessor; place = place' }) at') of_app)
+
+-- all of them
+pub lists_links : (c : Content) (app : Option (List ℕ)) → AreNumbered c.sets → IsRising pair_cmp c.pairs
+    → ListsPairs app c (links_at c.sets app c.pairs)
+lists_links c app numbered rises =
+    lists_some c app numbered c.pairs rises (λ _ there. there) (λ _ _ there _ _. there)

@@ -1,7 +1,9 @@
+pub mod AppPairs
 pub mod Arrivals
 pub mod Asked
 pub mod Changes
 pub mod Contents
+pub mod Ends
 pub mod Faults
 pub mod Jobs
 pub mod Listed

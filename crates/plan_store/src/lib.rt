@@ -9,6 +9,7 @@
 //! ```
 #![tactic(auto)]
 
+mod app_pairs;
 mod arrivals;
 mod buffers;
 mod changes;

@@ -389,9 +389,7 @@ impl Content {
             What::Cp => self.cp_to(alloc, app, sink),
             What::History => hand_rows(alloc, &self.history, app, false, sink),
             What::Deletions => hand_rows(alloc, &self.deletions, app, false, sink),
-            What::Dependencies => {
-                self.pairs_to(alloc, &self.history, &self.deletions, app, sink)
-            }
+            What::Dependencies => self.listed_pairs_to(alloc, app, sink),
             What::Links => self.links_to(app, sink),
         }
     }

@@ -11,7 +11,6 @@ use Rattle.plan_store.specs.Contents.{content_of}
 use Rattle.plan_store.specs.Listed.{ShowsSet}
 use Rattle.plan_store.specs.Listings.{ShowRows}
 use Rattle.plan_store.specs.Parts.{rest_of}
-use Rattle.plan_store.proofs.SerialLemmas.{lists_set}
 use Rattle.plan_store.proofs.ShownLemmas.{shows_deletions, shows_history, whole_all, whole_part}
 use Rattle.plan_store.proofs.contents.Content.rows_to.Goals as goal
 
@@ -74,18 +73,10 @@ returns-in-Deletions-clause-part g c numbered =
     c.hand_rows-in-Deletions.result (h kept.deletion_rows))
 
 pub returns-in-Dependencies-clause-all : goal.returns-in-Dependencies-clause-all
-returns-in-Dependencies-clause-all g c numbered =
-    let kept = c.args.self.now in
-    let h = rw (c.deref-in-Dependencies.ensures.value, c.deref-in-Dependencies-2.ensures.value) at c.pairs_to.ensures.all in
-    rw c.in-Dependencies.is (h (rest_of (content_of kept)) numbered (lists_set of_row kept.history.items kept.history_rows)
-    (lists_set of_deletion kept.deletions.items kept.deletion_rows))
+returns-in-Dependencies-clause-all g c numbered = rw c.in-Dependencies.is (c.listed_pairs_to.ensures.all numbered)
 
 pub returns-in-Dependencies-clause-part : goal.returns-in-Dependencies-clause-part
-returns-in-Dependencies-clause-part g c numbered =
-    let kept = c.args.self.now in
-    let h = rw (c.deref-in-Dependencies.ensures.value, c.deref-in-Dependencies-2.ensures.value) at c.pairs_to.ensures.part in
-    rw c.in-Dependencies.is (h (rest_of (content_of kept)) numbered (lists_set of_row kept.history.items kept.history_rows)
-    (lists_set of_deletion kept.deletions.items kept.deletion_rows))
+returns-in-Dependencies-clause-part g c numbered = rw c.in-Dependencies.is (c.listed_pairs_to.ensures.part numbered)
 
 pub returns-in-Links-clause-all : goal.returns-in-Links-clause-all
 returns-in-Links-clause-all g c numbered =

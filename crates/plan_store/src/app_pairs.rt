@@ -1,0 +1,232 @@
+//! The pairs of one application, found from its rows, each with both its rows, looked up by serial.
+ghost use Rattle.std.specs.Prelude.{◌≡◌, ◌≢◌, None, Some, IfOk, IfErr, OnOk, Contains, length, map, option_copied, option_map};
+ghost use Rattle.external_dependencies.specs.declared.pairs.Pair.{Pair as PairValue};
+ghost use Rattle.keyed_lists.specs.Rows.{AreRows, look_up};
+ghost use Rattle.keyed_lists.specs.Seats.{AreSeats, HasSeats};
+ghost use Rattle.planner_machine.specs.Sound.{AreNumbered};
+ghost use Rattle.plan_store.specs.AppPairs.{AddsPairs, AreBySerials, HasAppPairs, HasEnds, LacksNone, with_others};
+ghost use Rattle.plan_store.specs.Contents.{content_of};
+ghost use Rattle.plan_store.specs.Listed.{EndsWithin, link_at, linked_rows, links_at, row_at};
+ghost use Rattle.plan_store.specs.Listings.{HandsAll, HandsPart, IsListing, TakesAll, link_shown};
+ghost use Rattle.plan_store.specs.Parts.{Rest, with_rest};
+ghost use Rattle.plan_store.specs.Views.{row_serial};
+ghost use Rattle.plan_store.specs.declared.listings.What.{What as Showable};
+
+use crate::contents::Content;
+use crate::listings::{Item, ListFault, RowSink};
+use crate::slices::{of_app, of_serial};
+use external_dependencies::{Pair, Pairs};
+use keyed_lists::{PlanRow, Seat};
+use occurrences::{Row, Serial};
+use std::alloc::{AllocError, Global};
+use work_calendars::App;
+
+// What the list has under the serial.
+fn row_in<T: PlanRow>(list: &[T], seats: &[Seat], serial: Serial) -> Option<T>
+    requires rows { AreRows T.row_of list.now }
+    requires order { AreSeats seats.now }
+    requires seated { HasSeats T.row_of list.now seats.now }
+    ensures { result ≡ look_up (λ x. (T.row_of x).serial) list.now serial }
+{
+    of_serial(list, seats, serial)
+}
+
+// Which of the rows, which are sorted by serial, has the serial.
+fn row_among(rows: &[Row], serial: Serial) -> Option<Row>
+    ensures { AreBySerials rows.now → result ≡ look_up row_serial rows.now serial }
+{
+    match rows.binary_search_by_key(&serial.get(), |row| row.serial.get()) {
+        Ok(at) => Some(rows[at]),
+        Err(_at) => None,
+    }
+}
+
+// Adds the pairs of each of the rows that is of the application.
+fn push_pairs<T: PlanRow>(
+    found: &mut Vec<Pair>,
+    pairs: &Pairs,
+    rows: &[T],
+    app: &App,
+) -> Result<(), AllocError>
+    ensures { OnOk result (AddsPairs T.row_of app.now pairs.now rows.now
+        found.old.items found.new.items) }
+{
+    for x in rows {
+        let row = x.row();
+        if row.key.app == *app {
+            found.extend_from_slice(pairs.of_successor(row.serial))?;
+        }
+    }
+    Ok(())
+}
+
+impl Content {
+    // The row of the serial in the lists, or in history among the others.
+    fn known_row(&self, others: &[Row], serial: Serial) -> Option<Row>
+        ensures { AreBySerials others.now
+            → result ≡ row_at (with_others others.now (content_of self.now).sets) serial }
+    {
+        if let Some(row) = row_in(&self.ltp, &self.seats, serial) {
+            return Some(row);
+        }
+        if let Some(current) = row_in(&self.cp, &self.seats, serial) {
+            return Some(current.row);
+        }
+        if let Some(row) = row_in(&self.history, &self.seats, serial) {
+            return Some(row);
+        }
+        if let Some(row) = row_among(others, serial) {
+            return Some(row);
+        }
+        match row_in(&self.deletions, &self.seats, serial) {
+            Some(deletion) => Some(deletion.row),
+            None => None,
+        }
+    }
+
+    // The two rows of a pair, where its successor is of the application.
+    fn known_link(&self, others: &[Row], pair: Pair, app: &App) -> Option<(Row, Row)>
+        ensures { AreBySerials others.now → option_map linked_rows result
+            ≡ link_at (with_others others.now (content_of self.now).sets) (Some app.now) pair }
+    {
+        let successor = self.known_row(others, pair.successor)?;
+        if successor.key.app != *app {
+            return None;
+        }
+        let predecessor = self.known_row(others, pair.predecessor)?;
+        Some((successor, predecessor))
+    }
+
+    // The pairs of the application's rows in the lists and among the others.
+    fn app_pairs(&self, alloc: Global, others: &[Row], app: &App) -> Result<Pairs, AllocError>
+        ensures { IfOk result (λ found. HasAppPairs app.now
+            (with_others others.now (content_of self.now).sets) self.now.pairs found) }
+    {
+        let mut found = Vec::new(alloc);
+        push_pairs(&mut found, &self.pairs, of_app(&self.ltp, app), app)?;
+        push_pairs(&mut found, &self.pairs, of_app(&self.cp, app), app)?;
+        push_pairs(&mut found, &self.pairs, of_app(&self.history, app), app)?;
+        push_pairs(&mut found, &self.pairs, of_app(&self.deletions, app), app)?;
+        push_pairs(&mut found, &self.pairs, others, app)?;
+        Ok(Pairs::from_vec(found))
+    }
+
+    // Hands the sink the rows of these pairs, where their successors are of the application.
+    fn hand_known<K: RowSink>(
+        &self,
+        others: &[Row],
+        pairs: &[Pair],
+        app: &App,
+        sink: &mut K,
+    ) -> Result<usize, ListFault>
+        ensures all { AreBySerials others.now → IfOk result (λ count.
+            (count ≡ length (links_at (with_others others.now (content_of self.now).sets)
+            (Some app.now) pairs.now)) × TakesAll K.takes sink.old
+            (map link_shown (links_at (with_others others.now (content_of self.now).sets)
+            (Some app.now) pairs.now)) sink.new) }
+        ensures part { AreBySerials others.now → IfErr result (λ fault.
+            EndsWithin K.takes K.refuses sink.old
+            (map link_shown (links_at (with_others others.now (content_of self.now).sets)
+            (Some app.now) pairs.now)) sink.new fault) }
+        ensures blames { IfErr result (λ fault. fault ≢ ListFault.Device) }
+    {
+        let mut count = 0;
+        for pair in pairs {
+            match self.known_link(others, *pair, app) {
+                Some(link) => match sink.take(Item::Pair(&link.0, &link.1)) {
+                    Ok(()) => count += 1,
+                    Err(fault) => return Err(ListFault::Sink(fault)),
+                },
+                None => {}
+            }
+        }
+        Ok(count)
+    }
+
+    /// Hands the sink the pairs of one application, as `rows_to` does, where history and the deletions may stand
+    /// elsewhere: these other rows are of history, in the order of their serials, and the lists and they have the
+    /// application's rows and the predecessors of those.
+    pub fn app_pairs_to<K: RowSink>(
+        &self,
+        alloc: Global,
+        others: &[Row],
+        app: &App,
+        sink: &mut K,
+    ) -> Result<usize, ListFault>
+        ensures all { (rest : Rest) → AreNumbered (with_rest rest (content_of self.now)).sets
+            → HasEnds app.now rest others.now (content_of self.now)
+            → IfOk result (HandsAll K.takes (IsListing Showable.Dependencies (Some app.now)
+            (with_rest rest (content_of self.now))) sink.old sink.new) }
+        ensures part { (rest : Rest) → AreNumbered (with_rest rest (content_of self.now)).sets
+            → HasEnds app.now rest others.now (content_of self.now)
+            → IfErr result (HandsPart K.takes K.refuses (IsListing Showable.Dependencies
+            (Some app.now) (with_rest rest (content_of self.now))) sink.old sink.new) }
+        ensures blames { IfErr result (λ fault. fault ≢ ListFault.Device) }
+    {
+        let _rising = self.pairs.as_slice();
+        match self.app_pairs(alloc, others, app) {
+            Ok(found) => self.hand_known(others, found.as_slice(), app, sink),
+            Err(_) => Err(ListFault::Memory),
+        }
+    }
+
+    /// Hands the sink the pairs, as `rows_to` does, where the lists have all of history and all deletions.
+    pub(crate) fn listed_pairs_to<K: RowSink>(
+        &self,
+        alloc: Global,
+        app: Option<&App>,
+        sink: &mut K,
+    ) -> Result<usize, ListFault>
+        ensures all { AreNumbered (content_of self.now).sets
+            → IfOk result (HandsAll K.takes (IsListing Showable.Dependencies
+            (option_copied app.entry) (content_of self.now)) sink.old sink.new) }
+        ensures part { AreNumbered (content_of self.now).sets
+            → IfErr result (HandsPart K.takes K.refuses (IsListing Showable.Dependencies
+            (option_copied app.entry) (content_of self.now)) sink.old sink.new) }
+        ensures blames { IfErr result (λ fault. fault ≢ ListFault.Device) }
+    {
+        match app {
+            Some(app) => self.app_pairs_to(alloc, &[], app, sink),
+            None => self.pairs_to(alloc, &self.history, &self.deletions, None, sink),
+        }
+    }
+
+    // Adds each predecessor of these pairs that neither the lists nor the others have.
+    fn push_unknown(
+        &self,
+        serials: &mut Vec<Serial>,
+        others: &[Row],
+        pairs: &[Pair],
+    ) -> Result<(), AllocError>
+        ensures { AreBySerials others.now → OnOk result ((pair : PairValue)
+            → Contains pairs.now pair
+            → row_at (with_others others.now (content_of self.now).sets) pair.predecessor ≡ None
+            → Contains serials.new.items pair.predecessor) }
+    {
+        for pair in pairs {
+            match self.known_row(others, pair.predecessor) {
+                Some(_row) => {}
+                None => serials.push(pair.predecessor)?,
+            }
+        }
+        Ok(())
+    }
+
+    /// The predecessors of the application's rows in the lists and among the others, of which neither those nor these
+    /// have the row. The others are of history, in the order of their serials.
+    pub fn unknown_ends(
+        &self,
+        alloc: Global,
+        others: &[Row],
+        app: &App,
+    ) -> Result<Vec<Serial>, AllocError>
+        ensures { AreBySerials others.now → IfOk result (λ serials.
+            LacksNone app.now others.now (content_of self.now) serials.items) }
+    {
+        let found = self.app_pairs(alloc, others, app)?;
+        let mut serials = Vec::new(alloc);
+        self.push_unknown(&mut serials, others, found.as_slice())?;
+        serials.sort_unstable();
+        Ok(serials)
+    }
+}
