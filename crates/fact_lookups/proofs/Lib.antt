@@ -8,3 +8,4 @@ pub mod LastLemmas
 pub mod DeletionLemmas
 pub mod AllLemmas
 pub mod CollectLemmas
+mod OfAppLemmas

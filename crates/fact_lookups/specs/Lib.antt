@@ -2,3 +2,4 @@ pub mod Telling
 pub mod Finding
 pub mod Deletions
 pub mod Last
+pub mod OfApp

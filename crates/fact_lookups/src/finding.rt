@@ -1,24 +1,32 @@
 // Facts are fetched by a number, by a name and a moment, or all of a table.
 
-ghost use Rattle.std.specs.Prelude.{◌≡◌, ◌<◌, ◌^◌};
+ghost use Rattle.std.specs.Prelude.{◌≡◌, ◌<◌, ◌^◌, [], ◌∷◌};
 ghost use Rattle.sqlite.specs.Held.{state};
+ghost use Rattle.sqlite.specs.Value.{owned};
+ghost use Rattle.sqlite.specs.Values.{bound_value};
+ghost use Rattle.sqlite.specs.declared.types.Value.TheVariants.{Text};
 ghost use Rattle.keyed_lists.specs.Rows.{of_deletion, of_row};
 ghost use Rattle.plan_store.specs.Parts.{ListsAll};
+ghost use Rattle.table_lookups.specs.Finding.{AreAll, Finds};
+ghost use Rattle.table_lookups.specs.declared.looks.Look.TheVariants as look;
 ghost use Rattle.table_schema.specs.Rows.{tables_of};
 ghost use Rattle.fact_lookups.specs.Deletions.{AreGoneFrom};
 ghost use Rattle.fact_lookups.specs.Finding.{FindsFact};
 ghost use Rattle.fact_lookups.specs.Last.{IsLastRow};
+ghost use Rattle.fact_lookups.specs.OfApp.{AreAllOf};
 
 use crate::collecting::tell_all;
 use crate::faults::LookupFault;
 use crate::telling::{tell_each, tell_found, tell_row};
 use occurrences::{Deletion, Row, Serial};
 use planner_machine::Job;
-use sqlite::{Alter, Connection};
+use sqlite::types::ValueRef;
+use sqlite::{Alter, Connection, Error, Row as Cells};
 use std::alloc::Global;
 use table_facts::answer_is_small;
 use table_lookups::{
-    deletion_of_serial, history_of_serial, job_of_number, last_of, operator_deletions_from,
+    Look, ask, deletion_of_serial, history_of_serial, job_of_number, last_of,
+    operator_deletions_from,
 };
 use table_schema::Table;
 use work_calendars::App;
@@ -106,6 +114,36 @@ pub fn deletions_from<S: Alter>(
         Err(error) => return Err(LookupFault::Store(error)),
     };
     tell_each::<Deletion>(alloc, &rows)
+}
+
+fn name(app: &App) -> ValueRef<'_>
+    ensures { bound_value (owned result) ≡ Text app.now }
+{
+    ValueRef::Text(app.as_bytes())
+}
+
+// The rows of the table that show the application.
+fn history_of<S: Alter>(conn: &mut Connection<S>, app: &App) -> Result<Vec<Cells>, Error>
+    ensures { Finds S.Store conn.old conn.new result
+        (λ all rows. AreAll look.HistoryOf (Text app.now ∷ []) all rows.items) }
+{
+    ask(conn, Look::HistoryOf, &[name(app)])
+}
+
+/// The rows of history of the application, in some order.
+pub fn completed_of<S: Alter>(
+    alloc: Global,
+    conn: &mut Connection<S>,
+    app: &App,
+) -> Result<Vec<Row>, LookupFault>
+    ensures { FindsFact S.Store conn.old conn.new result (λ c found.
+        AreAllOf c.sets.history app.now found.items) }
+{
+    let rows = match history_of(conn, app) {
+        Ok(rows) => rows,
+        Err(error) => return Err(LookupFault::Store(error)),
+    };
+    tell_each::<Row>(alloc, &rows)
 }
 
 /// All rows of history, in some order.

@@ -9,6 +9,6 @@ mod telling;
 
 pub use faults::LookupFault;
 pub use finding::{
-    completed_row, completed_rows, deleted_row, deleted_rows, deletions_from, kept_job,
-    last_completed,
+    completed_of, completed_row, completed_rows, deleted_row, deleted_rows, deletions_from,
+    kept_job, last_completed,
 };
