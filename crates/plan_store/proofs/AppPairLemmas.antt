@@ -22,7 +22,7 @@ use Rattle.external_dependencies.specs.Rising.{IsRising}
 use Rattle.external_dependencies.specs.declared.pairs.Pair.{Pair}
 use Rattle.planner_machine.specs.Content.{Content, Sets}
 use Rattle.planner_machine.specs.Moves.{or_else}
-use Rattle.planner_machine.specs.Shown.{LinkedRows, ListsPairs}
+use Rattle.planner_machine.specs.Shown.{ListsPairs}
 use Rattle.planner_machine.specs.Sound.{AreNumbered}
 use Rattle.keyed_lists.specs.Keyed.{IsKeyed}
 use Rattle.keyed_lists.specs.Rows.{AreRows, OneEach, look_up, of_current, of_deletion, of_row}
