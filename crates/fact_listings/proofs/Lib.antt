@@ -5,3 +5,4 @@ pub mod KnownLemmas
 pub mod ListingLemmas
 pub mod SetLemmas
 pub mod ListsLemmas
+mod ToldLemmas

@@ -1,5 +1,5 @@
 -- What rows on their way to a listing encode.
-use Rattle.std.specs.Prelude.{◌≡◌, ℕ, ◌+◌, List, ◌∷◌, ◌++◌, length, map}
+use Rattle.std.specs.Prelude.{◌≡◌, ℕ, ◌+◌, Err, List, ◌∷◌, ◌++◌, None, Ok, Option, Result, Some, length, map}
 use Rattle.sqlite.specs.Order.{Row as Values}
 use Rattle.occurrences.specs.declared.row.Row.{Row}
 use Rattle.plan_store.specs.Listings.{Marked, Shown, TakesAll}
@@ -9,6 +9,19 @@ use Rattle.fact_listings.specs.declared.faults.ListedFault.TheVariants.{Memory, 
 -- a fact as a listing shows it: its occurrence, and its letter
 abbrev pub marked : {X : Type 0} → (X → Row) → (X → ℕ) → X → Shown
 marked row_of letter_of x = Marked (row_of x) (letter_of x)
+
+-- what is told by what was found in a row, or why nothing is: no fact has its values, or memory was refused
+abbrev pub told_by : {X E : Type 0} → Result (Option X) E → Result X ListedFault
+told_by (Ok (Some x)) = Ok x
+told_by (Ok None) = Err Untold
+told_by (Err e) = Err Memory
+
+-- memory was refused, or the row has the values of nothing that has its form
+abbrev pub TellsNone : {X : Type 0} → (X → Type 0) → (X → Values) → Values → ListedFault → Type 0
+TellsNone Is values_of row Memory = Unit {0}
+TellsNone {X} Is values_of row Untold = (x : X) → Is x → values_of x ≡ row → ⊥
+TellsNone Is values_of row (Sink _) = ⊥
+TellsNone Is values_of row (Store e) = ⊥
 
 -- the sink accepted the fact that the row encodes, and it was counted
 pub record TakesRow {X K : Type 0} (values_of : X → Values) (row_of : X → Row) (letter_of : X → ℕ)

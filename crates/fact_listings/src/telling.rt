@@ -13,7 +13,8 @@ ghost use Rattle.table_lookups.specs.Question.{Answers};
 ghost use Rattle.table_schema.specs.Rows.{StaysOrIsUndone, tables_of};
 ghost use Rattle.table_schema.specs.Schema.{HasTables};
 ghost use Rattle.fact_listings.specs.Listing.{StopsFor};
-ghost use Rattle.fact_listings.specs.Telling.{RefusesRow, TakesRow, TellsAll, TellsPart};
+ghost use Rattle.fact_listings.specs.Telling.{RefusesRow, TakesRow, TellsAll, TellsNone, TellsPart};
+ghost use Rattle.fact_listings.specs.Telling.{told_by};
 
 use crate::faults::ListedFault;
 use occurrences::{Deletion, Row, Status};
@@ -66,6 +67,25 @@ impl Marked for Deletion {
     }
 }
 
+// What was found in a row, or why nothing was.
+fn told_by<T>(found: Result<Option<T>, AllocError>) -> Result<T, ListedFault>
+    ensures { result ≡ told_by found }
+{
+    match found {
+        Ok(Some(fact)) => Ok(fact),
+        Ok(None) => Err(ListedFault::Untold),
+        Err(AllocError) => Err(ListedFault::Memory),
+    }
+}
+
+// What the row tells.
+fn tell_row<T: Told>(alloc: Global, row: &Cells) -> Result<T, ListedFault>
+    ensures told { IfOk result (λ x. T.values x ≡ row.now) }
+    ensures untold { IfErr result (TellsNone T.has_form T.values row.now) }
+{
+    told_by(T::tell(alloc, row))
+}
+
 // Decodes each row that it accepts, and passes on what that encodes.
 #[derive(Drop)]
 struct Teller<'a, T, K> {
@@ -88,14 +108,10 @@ impl<T: Marked + Drop, K: RowSink> ValuesSink for Teller<'_, T, K> {
         new.sink.now new.why };
 
     fn take(&mut self, cells: &Cells) -> Result<(), SinkFault> {
-        let fact = match T::tell(self.alloc, cells) {
-            Ok(Some(fact)) => fact,
-            Ok(None) => {
-                self.why = ListedFault::Untold;
-                return Err(SinkFault);
-            }
-            Err(AllocError) => {
-                self.why = ListedFault::Memory;
+        let fact = match tell_row::<T>(self.alloc, cells) {
+            Ok(fact) => fact,
+            Err(why) => {
+                self.why = why;
                 return Err(SinkFault);
             }
         };
