@@ -202,6 +202,18 @@ pub told_kept : {T : Type 0} (r : Result T StoreFault) (e : StoreFault) (old new
 told_kept (Ok v) e old new is h = absurd is
 told_kept (Err told) e old new is h = λ memory. h (sym is ∙ memory)
 
+-- what is told of want of memory is told of the fault that is made of it
+pub told_memory : {T X : Type 0} (r : Result T StoreFault) (e : StoreFault) → IsErrAnd r (λ told. told ≡ e)
+    → (e ≡ Memory → X) → IfErr r (λ fault. fault ≡ Memory → X)
+told_memory (Ok v) e is h = tt
+told_memory (Err told) e is h = λ memory. h (sym is ∙ memory)
+
+-- a count that stays, since it stayed before
+pub steady_since : {T : Type 0} (r : Result T StoreFault) (a b d : ℕ) → IfErr r (λ fault. fault ≡ Memory → a ≡ b)
+    → b ≡ d → IfErr r (λ fault. fault ≡ Memory → a ≡ d)
+steady_since (Ok v) a b d h is = tt
+steady_since (Err e) a b d h is = λ memory. h memory ∙ is
+
 -- ---- tables with room
 
 pub room_still : (old mid : State) (change : Change) → mid.now ≡ old.now → HasRoomFor old change → HasRoomFor mid change

@@ -1,6 +1,7 @@
 mod BegunLemmas
 pub mod StoredLemmas
 mod SeekLemmas
+mod WhyLemmas
 mod WindowLemmas
 mod ListLemmas
 pub mod LookLemmas

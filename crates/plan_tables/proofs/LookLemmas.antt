@@ -239,5 +239,11 @@ pub listed_open : {A : Type 0} (r : Result A ListFault) (opens : Bool) (W : Type
 listed_open (Ok v) opens W is mild given = is
 listed_open (Err e) opens W is mild given = mild given
 
+-- the count stays that stayed before
+pub listed_steady : {A : Type 0} (r : Result A ListFault) (a b d : ℕ) → IfErr r (λ fault. fault ≡ list.Memory → a ≡ b)
+    → b ≡ d → IfErr r (λ fault. fault ≡ list.Memory → a ≡ d)
+listed_steady (Ok v) a b d h is = tt
+listed_steady (Err e) a b d h is = λ memory. h memory ∙ is
+
 pub no_mild_listing : (doubt : Bool) (W : Type 0) → doubt ≡ true → IsMildListing (W × (doubt ≡ false)) list.Memory → ⊥
 no_mild_listing doubt W told mild = true≢false (sym told ∙ (mild.1 refl).1)

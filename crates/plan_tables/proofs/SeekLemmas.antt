@@ -1,5 +1,5 @@
 -- What is sought in the tables of a kept content.
-use Rattle.std.proofs.Common.{◌≡◌, ◌⊎◌, Err, Ok, Some, arith, subst}
+use Rattle.std.proofs.Common.{◌≡◌, ◌⊎◌, Err, Ok, Some, arith, refl, subst, sym}
 use Rattle.std.proofs.Math.Logic.{∥∥₁_map}
 use Rattle.std.specs.Prelude.{false}
 use Rattle.sqlite.specs.Held.{Held, state}
@@ -17,6 +17,7 @@ use Rattle.fact_gathering.specs.Gathering.{AreOfTables, Gathers}
 use Rattle.plan_tables.specs.Causes.{fault_in}
 use Rattle.plan_tables.specs.Kept.{IsKept, StaysPut}
 use Rattle.plan_tables.specs.Sought.{Seeks}
+use Rattle.plan_tables.specs.Whys.{IsWhyOf}
 use Rattle.plan_tables.specs.declared.keeping.Unmade.{Unmade}
 use Rattle.plan_tables.specs.declared.keeping.Unmade.TheVariants as unmade
 use Rattle.plan_tables.proofs.CauseLemmas.{failed_so}
@@ -50,7 +51,7 @@ module _ {S : Type 0} (g : Ghosts S) (old new : Held S) (was now : Content) (IsF
     survives = did.survives;
   }
 
-  pub seeks_memory : (why : LookupFault) → why ≡ lookup.Memory → Gathers {T = Unit {0}} g old new was now (Err why) IsFound
+  seeks_memory : (why : LookupFault) → why ≡ lookup.Memory → Gathers {T = Unit {0}} g old new was now (Err why) IsFound
       → Seeks g old new was now (Err unmade.Memory) IsFound
   seeks_memory why is did = record {
     found = λ clean kept. tt;
@@ -64,7 +65,7 @@ module _ {S : Type 0} (g : Ghosts S) (old new : Held S) (was now : Content) (IsF
     survives = did.survives;
   }
 
-  pub seeks_untold : (why : LookupFault) → why ≡ lookup.Untold → Gathers {T = Unit {0}} g old new was now (Err why) IsFound
+  seeks_untold : (why : LookupFault) → why ≡ lookup.Untold → Gathers {T = Unit {0}} g old new was now (Err why) IsFound
       → Seeks g old new was now (Err unmade.Device) IsFound
   seeks_untold why is did = record {
     found = λ clean kept. tt;
@@ -83,7 +84,7 @@ module _ {S : Type 0} (g : Ghosts S) (old new : Held S) (was now : Content) (IsF
     abbrev last : State
     last = state g end
 
-    pub seeks_asked : (error : Error) (why : LookupFault) (cause : Unmade) → why ≡ lookup.Store error
+    seeks_asked : (error : Error) (why : LookupFault) (cause : Unmade) → why ≡ lookup.Store error
         → Gathers {T = Unit {0}} g old new was now (Err why) IsFound
         → (HasCleanDisk last → cause ≡ unmade.Memory → IsUnchanged to last)
         → (HasCleanDisk last → cause ≡ unmade.Device → (fault_in error ≡ Some fault.Memory → ⊥)
@@ -110,3 +111,15 @@ module _ {S : Type 0} (g : Ghosts S) (old new : Held S) (was now : Content) (IsF
           survives = survives_then from to last _ (λ _. ⊥) _ (λ _ _ none. none) (λ _ _ none. absurd none) did.survives
               survives;
         }
+
+  pub seeks_why : (end : Held S) (fault : LookupFault) (why : Unmade)
+      → Gathers {T = Unit {0}} g old new was now (Err fault) IsFound → IsWhyOf g new end fault why
+      → Seeks g old end was now (Err why) IsFound
+  seeks_why end lookup.Memory why did (is, same) =
+      subst (λ (h : Held S). Seeks g old h was now (Err why) IsFound) (sym same)
+      (subst (λ (w : Unmade). Seeks g old new was now (Err w) IsFound) (sym is) (seeks_memory lookup.Memory refl did))
+  seeks_why end lookup.Untold why did (is, same) =
+      subst (λ (h : Held S). Seeks g old h was now (Err why) IsFound) (sym same)
+      (subst (λ (w : Unmade). Seeks g old new was now (Err w) IsFound) (sym is) (seeks_untold lookup.Untold refl did))
+  seeks_why end (lookup.Store error) why did cause =
+      seeks_asked end error (lookup.Store error) why refl did cause.asked cause.shut cause.stays cause.mode cause.survives

@@ -31,6 +31,7 @@ pub record ListsBy {S K : Type 0} (g : Ghosts S) (before now : S) (Takes Refuses
   pub crash : (c : Content) → g.may_leave now c → g.may_leave before c
   pub blames : IfErr result (λ fault. fault ≡ list.Device → MoreFailures (g.failures before) (g.failures now))
   pub counts : g.failures before ≤ g.failures now
+  pub steady : IfErr result (λ fault. fault ≡ list.Memory → g.failures now ≡ g.failures before)
   pub honest : g.is_honest now → g.is_honest before
   pub clean : g.is_clean now → g.is_clean before
   pub stays_honest : g.is_honest before → g.is_clean now → IfErr result (IsMildListing (g.is_whole now))

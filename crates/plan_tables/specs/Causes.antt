@@ -23,6 +23,11 @@ fault_in (SqliteFailure DiskFull) = Some Device
 fault_in (SqliteFailure Closed) = Some Device
 fault_in _ = None
 
+-- why files could not be closed: want of memory, or else the device
+abbrev pub closing_fault : Error → StoreFault
+closing_fault (SqliteFailure OutOfMemory) = Memory
+closing_fault _ = Device
+
 -- the database can accept a change of the content: no index made by hand is of its tables, and these accept it
 abbrev pub CanTake : State → Content → Change → Type 0
 CanTake s c change = HasOwnIndexes s.now.schema × AreTaken c change (tables_of s.now.trees)

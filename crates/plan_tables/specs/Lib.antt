@@ -8,5 +8,6 @@ pub mod Found
 pub mod Refused
 pub mod Told
 pub mod Causes
+pub mod Whys
 pub mod Taken
 pub mod Applied

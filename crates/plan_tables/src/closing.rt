@@ -14,6 +14,7 @@ ghost use Rattle.sqlite_wal.specs.Recovery.{Image};
 ghost use Rattle.planner_machine.specs.Content.{Content as ContentValue};
 ghost use Rattle.plan_store.specs.Contents.{content_of};
 ghost use Rattle.plan_store.specs.declared.stores.StoreFault.TheVariants.{Device, Memory};
+ghost use Rattle.plan_tables.specs.Causes.{closing_fault};
 ghost use Rattle.plan_tables.specs.Found.{HoldsLeft, IsFoundIn, IsFoundInEither, KeepsAlone, Tells};
 ghost use Rattle.plan_tables.specs.Kept.{kept_in};
 ghost use Rattle.plan_tables.specs.Stored.{MayLeave, TellsSound};
@@ -71,6 +72,7 @@ impl<D: Disk + Drop> TableStore<FileStore<D>> {
 
 // Why files could not be closed.
 fn fault_of_closing(error: &Error) -> StoreFault
+    ensures value { result ≡ closing_fault error.now }
     ensures memory { error.now ≡ Error.SqliteFailure ErrorCode.OutOfMemory → result ≡ Memory }
     ensures cases { (result ≡ Memory) ⊎ (result ≡ Device) }
 {

@@ -21,7 +21,9 @@ ghost use Rattle.table_writing.specs.Writing.{IsTellableChange};
 ghost use Rattle.plan_tables.specs.Causes.{CanTake, HasFailed, fault_in};
 ghost use Rattle.plan_tables.specs.Found.{Tells};
 ghost use Rattle.plan_tables.specs.Kept.{IsMet, StaysPut, jobless};
+ghost use Rattle.plan_tables.specs.Whys.{IsWhyOf};
 
+use fact_lookups::LookupFault;
 use plan_store::{Change, Content, DefinitionChange, Redefining, Room, StoreFault};
 use sqlite::{Alter, Connection, Error, ErrorCode};
 use std::alloc::{AllocError, Global};
@@ -94,6 +96,7 @@ pub(crate) fn cause_of<S: Alter>(conn: &mut Connection<S>, error: &Error) -> Unm
         → StaysPut (state S.Store conn.old) (state S.Store conn.new) }
     ensures mode { conn.old.in_transaction ≡ false → conn.new.in_transaction ≡ false }
     ensures survives { Survives (state S.Store conn.old) (state S.Store conn.new) (λ _. ⊥) }
+    ensures exact { (result ≡ Unmade.Device) ⊎ (fault_in error.now ≡ Some Memory) }
 {
     match fault_in(error) {
         Some(StoreFault::Memory) => match ask_open(conn) {
@@ -102,6 +105,17 @@ pub(crate) fn cause_of<S: Alter>(conn: &mut Connection<S>, error: &Error) -> Unm
             Err(StoreFault::Device) => Unmade::Device,
         },
         Some(StoreFault::Device) | None => Unmade::Device,
+    }
+}
+
+/// Why something is not done whose look-up failed so. A row that tells no fact is a failure of the device.
+pub(crate) fn why_of<S: Alter>(conn: &mut Connection<S>, fault: &LookupFault) -> Unmade
+    ensures { IsWhyOf S.Store conn.old conn.new fault.now result }
+{
+    match fault {
+        LookupFault::Memory => Unmade::Memory,
+        LookupFault::Untold => Unmade::Device,
+        LookupFault::Store(error) => cause_of(conn, error),
     }
 }
 

@@ -10,6 +10,7 @@ ghost use Rattle.plan_store.specs.Listings.{HandsAll, HandsPart, IsListing};
 ghost use Rattle.plan_store.specs.Parts.{ListsAll};
 ghost use Rattle.table_schema.specs.Schema.{HasTables};
 ghost use Rattle.fact_lookups.specs.Finding.{FindsFact};
+ghost use Rattle.plan_tables.specs.Causes.{HasFailed};
 ghost use Rattle.plan_tables.specs.Kept.{IsKept, StaysPut, kept_in};
 ghost use Rattle.plan_tables.specs.Listing.{LeavesOpen, ListsKept, fault_so, listed_so, what_of};
 
@@ -145,6 +146,10 @@ pub(crate) fn list_kept<S: Alter, K: RowSink>(
     ensures opens { HasCleanDisk (state S.Store conn.new)
         → IsKept (state S.Store conn.old) (content_of lists.now)
         → IfErr result (λ why. LeavesOpen why → IsTrue (state S.Store conn.new).is_open) }
+    ensures failed { HasCleanDisk (state S.Store conn.new)
+        → IsKept (state S.Store conn.old) (content_of lists.now)
+        → IfErr result (λ why. why ≡ Unlisted.Unmade Unmade.Device
+        → HasFailed (state S.Store conn.old) (state S.Store conn.new)) }
     ensures mode { conn.old.in_transaction ≡ false → conn.new.in_transaction ≡ false }
     ensures survives { Survives (state S.Store conn.old) (state S.Store conn.new)
         (λ _. HasTables (state S.Store conn.old).now.schema → ⊥) }

@@ -5,10 +5,11 @@ ghost use Rattle.sqlite.specs.State.{HasCleanDisk, IsUnchanged, Survives};
 ghost use Rattle.sqlite.specs.Held.{state};
 ghost use Rattle.planner_machine.specs.Content.{Content};
 ghost use Rattle.table_schema.specs.Schema.{HasTables};
+ghost use Rattle.plan_tables.specs.Causes.{HasFailed};
 ghost use Rattle.plan_tables.specs.Kept.{IsKept, StaysPut, kept_in};
 
-use crate::keeping::{Unmade, cause_of};
-use fact_lookups::{LookupFault, kept_job};
+use crate::keeping::{Unmade, why_of};
+use fact_lookups::kept_job;
 use planner_machine::Job;
 use sqlite::{Alter, Connection};
 use std::alloc::Global;
@@ -31,6 +32,10 @@ pub(crate) fn job_kept<S: Alter>(
     ensures memory { HasCleanDisk (state S.Store conn.new) → (lists : Content)
         → IsKept (state S.Store conn.old) lists
         → IfErr result (λ why. why ≡ Unmade.Memory → IsTrue (state S.Store conn.new).is_open) }
+    ensures failed { HasCleanDisk (state S.Store conn.new) → (lists : Content)
+        → IsKept (state S.Store conn.old) lists
+        → IfErr result (λ why. why ≡ Unmade.Device
+        → HasFailed (state S.Store conn.old) (state S.Store conn.new)) }
     ensures mode { conn.old.in_transaction ≡ false → conn.new.in_transaction ≡ false }
     ensures survives { Survives (state S.Store conn.old) (state S.Store conn.new)
         (λ _. HasTables (state S.Store conn.old).now.schema → ⊥) }
@@ -41,8 +46,6 @@ pub(crate) fn job_kept<S: Alter>(
     }
     match kept_job(alloc, conn, number) {
         Ok(found) => Ok(found),
-        Err(LookupFault::Memory) => Err(Unmade::Memory),
-        Err(LookupFault::Untold) => Err(Unmade::Device),
-        Err(LookupFault::Store(error)) => Err(cause_of(conn, &error)),
+        Err(fault) => Err(why_of(conn, &fault)),
     }
 }

@@ -4,7 +4,7 @@ ghost use Rattle.plan_store.specs.Contents.{content_of};
 ghost use Rattle.fact_gathering.specs.Gathering.{Gathers};
 ghost use Rattle.plan_tables.specs.Sought.{IsFoundFor, Seeks};
 
-use crate::keeping::{Unmade, cause_of};
+use crate::keeping::{Unmade, why_of};
 use fact_gathering::{gather, gather_for_change};
 use fact_lookups::LookupFault;
 use plan_store::{Change, Content, Need};
@@ -46,8 +46,6 @@ pub(crate) fn seek<S: Alter>(
 {
     match gather_sought(alloc, conn, lists, sought) {
         Ok(()) => Ok(()),
-        Err(LookupFault::Memory) => Err(Unmade::Memory),
-        Err(LookupFault::Untold) => Err(Unmade::Device),
-        Err(LookupFault::Store(error)) => Err(cause_of(conn, &error)),
+        Err(fault) => Err(why_of(conn, &fault)),
     }
 }

@@ -4,6 +4,8 @@ ghost use Rattle.std.specs.Prelude.{◌≡◌, ◌≢◌, ◌⊎◌, ◌↔◌, 
 ghost use Rattle.std.specs.Prelude.{option_copied};
 ghost use Rattle.sqlite.specs.State.{HasCleanDisk, Survives};
 ghost use Rattle.sqlite.specs.Held.{state};
+ghost use Rattle.sqlite.specs.declared.error.Error.TheVariants.{SqliteFailure};
+ghost use Rattle.sqlite.specs.declared.error.ErrorCode.TheVariants.{OutOfMemory};
 ghost use Rattle.sqlite_disk.specs.Disk.{MoreFaults};
 ghost use Rattle.planner_machine.specs.Content.{Content as ContentValue};
 ghost use Rattle.planner_machine.specs.Sound.{AreNumbered, IsSound};
@@ -71,10 +73,12 @@ pub struct TableStore<S: Alter> {
 }
 
 impl<S: Alter + Drop> TableStore<S> {
-    /// Whether the tables have no indexes but those of their keys: an index that a user added may refuse a row.
+    /// Whether the tables have no indexes but those of their keys: one that someone made beside may refuse a row. Its
+    /// only error is want of memory.
     pub fn has_own_indexes(&self, alloc: Global) -> Result<bool, Error>
-        ensures { IfOk result (λ own. HasTables (state S.Store self.now.conn).now.schema
+        ensures own { IfOk result (λ own. HasTables (state S.Store self.now.conn).now.schema
             → (IsTrue own ↔ HasOwnIndexes (state S.Store self.now.conn).now.schema)) }
+        ensures refused { IfErr result (λ error. error ≡ SqliteFailure OutOfMemory) }
     {
         has_own_indexes(alloc, &self.conn)
     }
@@ -144,6 +148,8 @@ impl<S: Alter + Drop> TableStore<S> {
         ensures unknown { HasCleanDisk (state S.Store self.new.conn)
             → IsTrue (state S.Store self.new.conn).is_open → IfErr result (λ fault. fault ≡ Memory
             → ∥ (state S.Store self.new.conn).now ≡ (state S.Store self.old.conn).now ∥₁) }
+        ensures steady { IfErr result (λ fault. fault ≡ Memory
+            → self.new.failures ≡ self.old.failures) }
     {
         if !self.in_doubt {
             return Ok(());
@@ -189,10 +195,15 @@ impl<S: Alter + Drop> TableStore<S> {
         ensures memory { HasCleanDisk (state S.Store self.new.conn)
             → IfErr result (λ fault. fault ≡ Memory → self.new.in_doubt ≡ false
             → IsTrue (state S.Store self.new.conn).is_open) }
+        ensures caused { HasCleanDisk (state S.Store self.new.conn)
+            → IfErr result (λ fault. fault ≡ Device
+            → ∥ HasFailed (state S.Store self.old.conn) (state S.Store self.new.conn) ∥₁) }
         ensures blames { IfErr result (λ fault. fault ≡ Device
             → MoreFailures self.old.failures self.new.failures) }
         ensures counts { self.old.failures ≤ self.new.failures }
         ensures whole { OnOk result ((self.new.failures ≡ 0) × (self.new.in_doubt ≡ false)) }
+        ensures steady { IfErr result (λ fault. fault ≡ Memory
+            → self.new.failures ≡ self.old.failures) }
     {
         match job_kept(self.alloc, &mut self.conn, number) {
             Ok(found) => {
@@ -240,6 +251,8 @@ impl<S: Alter + Drop> TableStore<S> {
             → MoreFailures self.old.failures self.new.failures) }
         ensures counts { self.old.failures ≤ self.new.failures }
         ensures whole { OnOk result ((self.new.failures ≡ 0) × (self.new.in_doubt ≡ false)) }
+        ensures steady { IfErr result (λ fault. fault ≡ Memory
+            → self.new.failures ≡ self.old.failures) }
     {
         match seek(self.alloc, &mut self.conn, &mut self.lists, sought) {
             Ok(()) => Ok(()),
@@ -273,6 +286,8 @@ impl<S: Alter + Drop> TableStore<S> {
         ensures schema { KeepsSchema (state S.Store self.old.conn)
             (state S.Store self.new.conn) result }
         ensures counted { CountsOn (state S.Store self.old.conn) (state S.Store self.new.conn) }
+        ensures steady { IfErr result (λ fault. fault ≡ Memory
+            → self.new.failures ≡ self.old.failures) }
     {
         self.make_sure()?;
         self.find_out(sought)
@@ -308,6 +323,11 @@ impl<S: Alter + Drop> TableStore<S> {
             → IfErr result (λ fault. IsMildListing
             ((self.new.failures ≡ 0) × (self.new.in_doubt ≡ false)) fault
             → IsTrue (state S.Store self.new.conn).is_open) }
+        ensures caused { HasCleanDisk (state S.Store self.new.conn)
+            → IfErr result (λ fault. fault ≡ ListFault.Device
+            → ∥ HasFailed (state S.Store self.old.conn) (state S.Store self.new.conn) ∥₁) }
+        ensures steady { IfErr result (λ fault. fault ≡ ListFault.Memory
+            → self.new.failures ≡ self.old.failures) }
         ensures blames { IfErr result (λ fault. fault ≡ ListFault.Device
             → MoreFailures self.old.failures self.new.failures) }
         ensures counts { self.old.failures ≤ self.new.failures }
@@ -376,9 +396,11 @@ impl<S: Alter + Drop> TableStore<S> {
         Ok(self.lists.admits(alloc, change)?)
     }
 
-    // Checks that a change fits, as does any that was decided over what is kept here. One that doesn't was decided
-    // over bytes that a disk gave back and that were not written, and counts as a failure.
-    fn admit(&mut self, alloc: Global, change: &Change) -> Result<(), StoreFault>
+    // Goes on with a change that fits, as any does that was decided over what is kept here. One that doesn't was
+    // decided over bytes that a disk gave back and that were not written, and counts as a failure. It takes no memory.
+    fn admit(&mut self, change: &Change, is_fit: bool) -> Result<(), StoreFault>
+        requires fit { IsTrue is_fit ↔ (Fits change.now (content_of self.old.lists)
+            × IfSome change.now.job (λ (job : JobValue). job.number < 2 ^ 63)) }
         requires whole { self.old.failures ≡ 0 }
         requires sure { self.old.in_doubt ≡ false }
         requires fits { CanRead (state S.Store self.old.conn) → Fits change.now
@@ -392,7 +414,7 @@ impl<S: Alter + Drop> TableStore<S> {
         ensures number { OnOk result (IfSome change.now.job
             (λ (job : JobValue). job.number < 2 ^ 63)) }
         ensures ok { OnOk result (self.new ≡ self.old) }
-        ensures memory { IfErr result (λ fault. fault ≡ Memory → self.new ≡ self.old) }
+        ensures refused { IfErr result (λ fault. (fault ≡ Device) × (is_fit ≡ false)) }
         ensures conn { self.new.conn ≡ self.old.conn }
         ensures lists { self.new.lists ≡ self.old.lists }
         ensures blames { IfErr result (λ fault. fault ≡ Device
@@ -401,7 +423,8 @@ impl<S: Alter + Drop> TableStore<S> {
         ensures admits { HasCleanDisk (state S.Store self.old.conn)
             → IfErr result (λ fault. fault ≢ Device) }
     {
-        if self.admits(alloc, change)? {
+        let _ = change;
+        if is_fit {
             return Ok(());
         }
         self.failures = self.failures.saturating_add(1);
@@ -466,6 +489,8 @@ impl<S: Alter + Drop> TableStore<S> {
         ensures ends_whole { OnOk result ((self.new.failures ≡ 0) × (self.new.in_doubt ≡ false)) }
         ensures schema { KeepsSchema (state S.Store self.old.conn)
             (state S.Store self.new.conn) result }
+        ensures steady { IfErr result (λ fault. fault ≡ Memory
+            → self.new.failures ≡ self.old.failures) }
     {
         tables_have_one_content();
         tables_tell_sets();
@@ -594,9 +619,9 @@ impl<S: Alter + Drop> PlanStore for TableStore<S> {
         }
     }
 
-    // The clauses of every store, and why the device is blamed: over an open connection whose tables accept the change
-    // it failed meanwhile, by the count of sqlite, or a limit on steps is set. The tables accept each change for which
-    // there is room, and keep their schema.
+    // The clauses of every store, and why the device is blamed: over an open connection whose tables take the change it
+    // failed meanwhile, by the count of sqlite, or a limit on steps is set. They take each change that finds room, and
+    // keep their schema. Want of memory is never counted as a failure.
     fn apply(&mut self, alloc: Global, change: Change) -> Result<(), StoreFault>
         requires fits { CanRead (state S.Store self.old.conn) → Fits change
             (kept_in (state S.Store self.old.conn) (content_of self.old.lists)) }
@@ -616,10 +641,13 @@ impl<S: Alter + Drop> PlanStore for TableStore<S> {
             ⊎ ((state S.Store self.old.conn).is_open ≡ false) ∥₁) }
         ensures schema { KeepsSchema (state S.Store self.old.conn)
             (state S.Store self.new.conn) result }
+        ensures steady { IfErr result (λ fault. fault ≡ StoreFault.Memory
+            → self.new.failures ≡ self.old.failures) }
     {
         let prepared = self.prepared(alloc, &change)?;
         self.make_ready(Sought::Change(&change))?;
-        self.admit(alloc, &change)?;
+        let is_fit = self.admits(alloc, &change)?;
+        self.admit(&change, is_fit)?;
         self.change_so(alloc, &prepared, change)
     }
 }

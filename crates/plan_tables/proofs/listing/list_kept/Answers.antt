@@ -1,4 +1,4 @@
-use Rattle.std.proofs.Common.{arith, subst}
+use Rattle.std.proofs.Common.{◌≡◌, arith, subst}
 use Rattle.std.specs.Prelude.{option_copied}
 use Rattle.sqlite.specs.Held.{state}
 use Rattle.sqlite.specs.State.{HasCleanDisk}
@@ -9,6 +9,8 @@ use Rattle.fact_listings.specs.Listing.{StopsFor}
 use Rattle.fact_listings.specs.declared.faults.ListedFault.{ListedFault}
 use Rattle.plan_tables.specs.Kept.{kept_in}
 use Rattle.plan_tables.specs.Listing.{what_of}
+use Rattle.plan_tables.specs.declared.keeping.Unmade.TheVariants.{Device}
+use Rattle.plan_tables.proofs.CauseLemmas.{failed_so}
 use Rattle.plan_tables.proofs.ListLemmas.{handed_refused, handed_short, handed_unread, handed_untold, open_so}
 use Rattle.plan_tables.proofs.LookLemmas.{put_by, put_then}
 use Rattle.plan_tables.proofs.listing.list_kept.Goals as goal
@@ -98,6 +100,22 @@ pub returns-in-Err-Store-clause-opens : goal.returns-in-Err-Store-clause-opens
 returns-in-Err-Store-clause-opens g c clean kept =
     open_so c.cause_of.result (state g.S.Store c.cause_of.new.conn).is_open
     (λ is. (c.cause_of.ensures.open clean is).0.is_open)
+
+pub returns-in-Err-Untold-clause-failed : goal.returns-in-Err-Untold-clause-failed
+returns-in-Err-Untold-clause-failed g c clean kept _ =
+    absurd (c.in-Err-Untold.ensures.told clean ∣ kept ∣₁ c.in-Err-Untold.field-0-is)
+
+pub returns-in-Err-Store-clause-failed : goal.returns-in-Err-Store-clause-failed
+returns-in-Err-Store-clause-failed g c clean kept device =
+    let old = state g.S.Store c.args.conn.now in
+    let mid = state g.S.Store c.list_facts.new.conn in
+    let calm : HasCleanDisk mid = omega (arith, c.cause_of.ensures.survives.clean, clean) in
+    let is : c.cause_of.result ≡ Device = cc device in
+    failed_so old mid (state g.S.Store c.cause_of.new.conn) c.in-Err-Store.error _ _ kept.stored.is_open calm
+    c.list_facts.ensures.survives c.cause_of.ensures.survives
+    (subst (λ (f : ListedFault). StopsFor old mid f) c.in-Err-Store.field-0-is
+    (c.in-Err-Store.ensures.fails calm kept.stored.plan.schema))
+    (c.cause_of.ensures.shut clean is)
 
 pub returns-in-Err-Store-clause-survives : goal.returns-in-Err-Store-clause-survives
 returns-in-Err-Store-clause-survives g c =

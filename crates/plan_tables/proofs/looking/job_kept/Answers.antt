@@ -1,9 +1,8 @@
 use Rattle.std.proofs.Common.{arith, sym}
 use Rattle.sqlite.specs.Held.{state}
-use Rattle.sqlite.specs.State.{HasCleanDisk}
-use Rattle.sqlite.proofs.StateLemmas.{survives_then}
 use Rattle.plan_tables.specs.Kept.{kept_in}
-use Rattle.plan_tables.proofs.LookLemmas.{none_so_great, put_by, put_then, stopped_open, unasked}
+use Rattle.plan_tables.proofs.LookLemmas.{none_so_great, put_by, unasked}
+use Rattle.plan_tables.proofs.WhyLemmas.{ends_for}
 use Rattle.plan_tables.proofs.looking.job_kept.Goals as goal
 
 pub returns-then-number-clause-found : goal.returns-then-number-clause-found
@@ -26,34 +25,27 @@ returns-in-Ok-clause-stays g c clean lists kept =
     put_by (state g.S.Store c.args.conn.now) (state g.S.Store c.kept_job.new.conn)
     (c.kept_job.ensures.leaves clean kept.stored.plan.schema)
 
-pub returns-in-Err-Memory-clause-stays : goal.returns-in-Err-Memory-clause-stays
-returns-in-Err-Memory-clause-stays g c clean lists kept =
-    put_by (state g.S.Store c.args.conn.now) (state g.S.Store c.kept_job.new.conn)
-    (c.kept_job.ensures.leaves clean kept.stored.plan.schema)
+pub returns-in-Err-clause-stays : goal.returns-in-Err-clause-stays
+returns-in-Err-clause-stays g c =
+    (ends_for g.S.Store c.args.conn.now c.kept_job.new.conn _ c.why_of.new.conn c.in-Err.fault c.why_of.result
+    c.in-Err.ensures c.why_of.ensures).stays
 
-pub returns-in-Err-Untold-clause-stays : goal.returns-in-Err-Untold-clause-stays
-returns-in-Err-Untold-clause-stays g c clean lists kept =
-    put_by (state g.S.Store c.args.conn.now) (state g.S.Store c.kept_job.new.conn)
-    (c.kept_job.ensures.leaves clean kept.stored.plan.schema)
+pub returns-in-Err-clause-memory : goal.returns-in-Err-clause-memory
+returns-in-Err-clause-memory g c =
+    (ends_for g.S.Store c.args.conn.now c.kept_job.new.conn _ c.why_of.new.conn c.in-Err.fault c.why_of.result
+    c.in-Err.ensures c.why_of.ensures).memory
 
-pub returns-in-Err-Store-clause-stays : goal.returns-in-Err-Store-clause-stays
-returns-in-Err-Store-clause-stays g c clean lists kept =
-    let old = state g.S.Store c.args.conn.now in
-    let mid = state g.S.Store c.kept_job.new.conn in
-    let calm : HasCleanDisk mid = omega (arith, c.cause_of.ensures.survives.clean, clean) in
-    put_then old mid (state g.S.Store c.cause_of.new.conn)
-    (put_by old mid (c.kept_job.ensures.leaves calm kept.stored.plan.schema)) (c.cause_of.ensures.stays clean)
+pub returns-in-Err-clause-failed : goal.returns-in-Err-clause-failed
+returns-in-Err-clause-failed g c =
+    (ends_for g.S.Store c.args.conn.now c.kept_job.new.conn _ c.why_of.new.conn c.in-Err.fault c.why_of.result
+    c.in-Err.ensures c.why_of.ensures).failed
 
-pub returns-in-Err-Memory-clause-memory : goal.returns-in-Err-Memory-clause-memory
-returns-in-Err-Memory-clause-memory g c clean lists kept _ =
-    stopped_open (state g.S.Store c.args.conn.now) (state g.S.Store c.kept_job.new.conn) c.in-Err-Memory.field-0
-    c.in-Err-Memory.field-0-is (c.in-Err-Memory.ensures.fails clean kept.stored.plan.schema)
+pub returns-in-Err-clause-mode : goal.returns-in-Err-clause-mode
+returns-in-Err-clause-mode g c =
+    (ends_for g.S.Store c.args.conn.now c.kept_job.new.conn _ c.why_of.new.conn c.in-Err.fault c.why_of.result
+    c.in-Err.ensures c.why_of.ensures).mode
 
-pub returns-in-Err-Store-clause-memory : goal.returns-in-Err-Store-clause-memory
-returns-in-Err-Store-clause-memory g c clean lists kept is = (c.cause_of.ensures.open clean is).0.is_open
-
-pub returns-in-Err-Store-clause-survives : goal.returns-in-Err-Store-clause-survives
-returns-in-Err-Store-clause-survives g c =
-    survives_then (state g.S.Store c.args.conn.now) (state g.S.Store c.kept_job.new.conn)
-    (state g.S.Store c.cause_of.new.conn) _ (λ _. ⊥) _ (λ _ _ none. none) (λ _ _ none. absurd none)
-    c.kept_job.ensures.survives c.cause_of.ensures.survives
+pub returns-in-Err-clause-survives : goal.returns-in-Err-clause-survives
+returns-in-Err-clause-survives g c =
+    (ends_for g.S.Store c.args.conn.now c.kept_job.new.conn _ c.why_of.new.conn c.in-Err.fault c.why_of.result
+    c.in-Err.ensures c.why_of.ensures).survives

@@ -28,8 +28,8 @@ returns-clause-admits g c clean _ =
     ∥∥₁_elim (kept_sure old.in_doubt old.failures c.requires.sure c.requires.whole old.stored) no_prop (λ h.
     let k = h clean in
     let can : CanRead before = (clean, k.stored.is_open) in
-    let yes = c.in_ok-admits.ensures.admits.1 (
+    let yes = c.requires.fit.1 (
       fits_lists before lists change old.jobless k.part (c.requires.knows can) (c.requires.fits can),
       (told_by_tables change (kept_in before lists) (c.requires.sound can)).1,
     ) in
-    true≢false (sym yes ∙ c.if-branch.false))
+    true≢false (sym yes ∙ c.if-is_fit.false))

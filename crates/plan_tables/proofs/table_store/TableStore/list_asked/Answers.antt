@@ -208,6 +208,15 @@ returns-in-Err-Unmade-Device-clause-part g c clean numbered =
     rw c.in-Err-Unmade-Device.field-0-0-is at (rw c.in-Err-Unmade-Device.field-0-is at
     (c.in-Err-Unmade-Device.ensures.part clean (∥∥₁_map kept (λ h. h calm)) numbered))
 
+pub returns-in-Err-Unmade-Device-clause-caused : goal.returns-in-Err-Unmade-Device-clause-caused
+returns-in-Err-Unmade-Device-clause-caused g c clean _ =
+    let old = c.args.self.now in
+    let before = state g.S.Store old.conn in
+    let kept = kept_sure old.in_doubt old.failures c.requires.sure c.requires.whole old.stored in
+    let calm : HasCleanDisk before = omega (arith, c.list_kept.ensures.survives.clean, clean) in
+    ∥∥₁_map kept (λ h. c.in-Err-Unmade-Device.ensures.failed clean (h calm)
+    (c.in-Err-Unmade-Device.field-0-is ∙ ap Unmade c.in-Err-Unmade-Device.field-0-0-is))
+
 pub returns-in-Err-Sink-clause-mild : goal.returns-in-Err-Sink-clause-mild
 returns-in-Err-Sink-clause-mild g c clean _ =
     let old = c.args.self.now in

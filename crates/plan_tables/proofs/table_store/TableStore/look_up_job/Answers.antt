@@ -128,6 +128,14 @@ returns-in-Ok-clause-opens g c clean =
     ∥∥₁_elim kept (truth_prop after_it.is_open)
     (λ h. (c.in-Ok.ensures.same clean (content_of old.lists) (h calm)).0.is_open)
 
+pub returns-in-Err-Device-clause-caused : goal.returns-in-Err-Device-clause-caused
+returns-in-Err-Device-clause-caused g c clean _ =
+    let old = c.args.self.now in
+    let before = state g.S.Store old.conn in
+    let kept = kept_sure old.in_doubt old.failures c.requires.sure c.requires.whole old.stored in
+    let calm : HasCleanDisk before = omega (arith, c.job_kept.ensures.survives.clean, clean) in
+    ∥∥₁_map kept (λ h. c.in-Err-Device.ensures.failed clean (content_of old.lists) (h calm) c.in-Err-Device.field-0-is)
+
 pub returns-in-Err-Memory-clause-memory : goal.returns-in-Err-Memory-clause-memory
 returns-in-Err-Memory-clause-memory g c clean _ _ =
     let old = c.args.self.now in

@@ -9,7 +9,7 @@ use Rattle.plan_store.specs.Parts.{Rest, rest_of}
 use Rattle.plan_store.specs.declared.stores.StoreFault.TheVariants.{Device}
 use Rattle.plan_tables.specs.Kept.{CanRead, kept_in}
 use Rattle.plan_tables.specs.Sought.{IsFoundFor}
-use Rattle.plan_tables.proofs.CauseLemmas.{caused_since, counts_on, counts_then, told_kept, told_shut}
+use Rattle.plan_tables.proofs.CauseLemmas.{caused_since, counts_on, counts_then, steady_since, told_kept, told_memory, told_shut}
 use Rattle.plan_tables.proofs.LookLemmas.{looks_listed, mild_open, ok_if, ok_since, read_so, schema_since}
 use Rattle.plan_tables.proofs.StoredLemmas.{stays_so}
 use Rattle.plan_tables.proofs.table_store.TableStore.make_ready.Goals as goal
@@ -83,3 +83,13 @@ returns-in_err-make_sure-clause-schema g c =
 pub returns-in_err-make_sure-clause-counted : goal.returns-in_err-make_sure-clause-counted
 returns-in_err-make_sure-clause-counted g c = counts_on (state g.S.Store c.args.self.now.conn)
     (state g.S.Store c.make_sure.new.self.conn) c.make_sure.ensures.survives
+
+pub returns-clause-steady : goal.returns-clause-steady
+returns-clause-steady g c =
+    steady_since c.find_out.result c.find_out.new.self.failures c.make_sure.new.self.failures c.args.self.now.failures
+    c.find_out.ensures.steady (c.in_ok-make_sure.ensures.whole ∙ sym c.requires)
+
+pub returns-in_err-make_sure-clause-steady : goal.returns-in_err-make_sure-clause-steady
+returns-in_err-make_sure-clause-steady g c =
+    told_memory c.from_residual.result c.in_err-make_sure.field-0.0 c.from_residual.ensures.1
+    c.in_err-make_sure.ensures.steady

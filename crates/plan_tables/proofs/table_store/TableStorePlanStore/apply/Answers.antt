@@ -13,7 +13,7 @@ use Rattle.plan_store.specs.Faults.{IsMild, MoreFailures}
 use Rattle.plan_store.specs.Stores.{Applies}
 use Rattle.plan_store.specs.declared.changes.Change.{Change}
 use Rattle.plan_store.specs.declared.stores.StoreFault.{StoreFault}
-use Rattle.plan_store.specs.declared.stores.StoreFault.TheVariants.{Device}
+use Rattle.plan_store.specs.declared.stores.StoreFault.TheVariants.{Device, Memory}
 use Rattle.plan_store.specs.declared.contents.Content.{Content as Kept}
 use Rattle.plan_parts.specs.Changes.{KnowsNamed}
 use Rattle.table_schema.specs.Rows.{tables_of}
@@ -23,7 +23,7 @@ use Rattle.plan_tables.specs.Kept.{CanRead, LooksOn, kept_in}
 use Rattle.plan_tables.specs.Stored.{MayLeave}
 use Rattle.plan_tables.specs.Taken.{KeepsSchema}
 use Rattle.plan_tables.specs.declared.table_store.TableStore.{TableStore}
-use Rattle.plan_tables.proofs.CauseLemmas.{can_still, caused_since, merely_err, never_told, room_still, told_kept}
+use Rattle.plan_tables.proofs.CauseLemmas.{can_still, caused_since, merely_err, never_told, room_still, steady_since, told_kept, told_memory}
 use Rattle.plan_tables.proofs.LookLemmas.{looks_read, mild_open}
 use Rattle.plan_tables.proofs.StoredLemmas.{settled_so}
 use Rattle.plan_tables.proofs.table_store.TableStorePlanStore.apply.Goals as goal
@@ -323,3 +323,61 @@ returns-in_err-admit-clause-schema g c =
     ≡ (state g.S.Store c.args.self.now.conn).now.schema ∥₁) (sym c.admit.ensures.conn)
     (∥∥₁_map (c.in_ok-make_ready.ensures.same (subst (λ (conn : Held _). HasCleanDisk (state g.S.Store conn))
     c.admit.ensures.conn clean)) (ap (λ (db : Database). db.schema))))
+
+pub returns-in_err-make_ready-clause-steady : goal.returns-in_err-make_ready-clause-steady
+returns-in_err-make_ready-clause-steady g c =
+    told_memory c.from_residual-in_err-make_ready.result c.in_err-make_ready.field-0.0
+    c.from_residual-in_err-make_ready.ensures.1 c.in_err-make_ready.ensures.steady
+
+pub returns-in_err-admit-clause-steady : goal.returns-in_err-admit-clause-steady
+returns-in_err-admit-clause-steady g c =
+    told_memory c.from_residual-in_err-admit.result c.in_err-admit.field-0.0 c.from_residual-in_err-admit.ensures.1
+    (λ memory. absurd (let told : Memory ≡ Device = sym memory ∙ c.in_err-admit.ensures.refused.0 in
+    let h : ⊥ = cc told in h))
+
+pub returns-clause-steady : goal.returns-clause-steady
+returns-clause-steady g c =
+    steady_since c.change_so.result c.change_so.new.self.failures c.admit.new.self.failures c.args.self.now.failures
+    c.change_so.ensures.steady (ap (λ (s : TableStore _ _). s.failures) c.in_ok-admit.ensures.ok
+    ∙ c.in_ok-make_ready.ensures.whole ∙ sym c.in_ok-prepared.ensures.whole)
+
+pub returns-in_err-prepared-clause-steady : goal.returns-in_err-prepared-clause-steady
+returns-in_err-prepared-clause-steady g c =
+    told_memory c.from_residual.result c.in_err-prepared.field-0.0
+    c.from_residual.ensures.1 (λ _. refl)
+
+-- where memory is refused as the change is tested, nothing is written
+
+pub returns-in_err-is_fit-clause-applies : goal.returns-in_err-is_fit-clause-applies
+returns-in_err-is_fit-clause-applies g c =
+    let before = c.args.self.now in
+    let now = c.make_ready.new.self in
+    let reads = c.in_ok-make_ready.ensures.reads in
+    let none : before.failures ≡ 0 = c.in_ok-prepared.ensures.whole in
+    unwritten before now c.args.change c.from_residual-in_err-is_fit.result c.in_err-is_fit.field-0.0
+    c.from_residual-in_err-is_fit.ensures.1 reads.same reads.crash
+    (λ device. absurd (let told : Memory ≡ Device = sym c.in_err-is_fit.ensures.memory ∙ device in
+    let h : ⊥ = cc told in h))
+    (λ some. absurd (let h : ⊥ = omega (arith, none, some) in h))
+    reads.counts reads.honest reads.clean (λ was clean mild. reads.stays_honest was clean tt)
+
+pub returns-in_err-is_fit-clause-caused : goal.returns-in_err-is_fit-clause-caused
+returns-in_err-is_fit-clause-caused g c none clean can =
+    never_told _ c.from_residual-in_err-is_fit.result c.in_err-is_fit.field-0.0 c.from_residual-in_err-is_fit.ensures.1
+    (λ device. let told : Memory ≡ Device = sym c.in_err-is_fit.ensures.memory ∙ device in let h : ⊥ = cc told in h)
+
+pub returns-in_err-is_fit-clause-taken : goal.returns-in_err-is_fit-clause-taken
+returns-in_err-is_fit-clause-taken g c none clean room =
+    never_told _ c.from_residual-in_err-is_fit.result c.in_err-is_fit.field-0.0 c.from_residual-in_err-is_fit.ensures.1
+    (λ device. let told : Memory ≡ Device = sym c.in_err-is_fit.ensures.memory ∙ device in let h : ⊥ = cc told in h)
+
+pub returns-in_err-is_fit-clause-schema : goal.returns-in_err-is_fit-clause-schema
+returns-in_err-is_fit-clause-schema g c =
+    told_kept c.from_residual-in_err-is_fit.result c.in_err-is_fit.field-0.0 (state g.S.Store c.args.self.now.conn)
+    (state g.S.Store c.make_ready.new.self.conn) c.from_residual-in_err-is_fit.ensures.1
+    (λ memory clean opens. ∥∥₁_map (c.in_ok-make_ready.ensures.same clean) (ap (λ (db : Database). db.schema)))
+
+pub returns-in_err-is_fit-clause-steady : goal.returns-in_err-is_fit-clause-steady
+returns-in_err-is_fit-clause-steady g c =
+    told_memory c.from_residual-in_err-is_fit.result c.in_err-is_fit.field-0.0 c.from_residual-in_err-is_fit.ensures.1
+    (λ _. c.in_ok-make_ready.ensures.whole ∙ sym c.in_ok-prepared.ensures.whole)
