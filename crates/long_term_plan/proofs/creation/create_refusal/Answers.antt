@@ -1,4 +1,4 @@
-use Rattle.std.proofs.Common.{◌≡◌, ◌∙◌, None, Option, false, refl, rules, subst, sym, true}
+use Rattle.std.proofs.Common.{◌≡◌, ◌∙◌, None, Option, Some, false, refl, rules, subst, sym, true}
 use Rattle.std.specs.Prelude.{is_some}
 use Rattle.app_definitions.specs.declared.definitions.Definitions.{Definitions as All}
 use Rattle.long_term_plan.proofs.EarlyLemmas.{IsOfDates, bounds_shown, create_bad, definitions_shown}
