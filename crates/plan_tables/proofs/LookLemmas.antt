@@ -18,7 +18,7 @@ use Rattle.plan_store.specs.declared.stores.StoreFault.{StoreFault}
 use Rattle.plan_store.specs.declared.stores.StoreFault.TheVariants.{Device, Memory}
 use Rattle.table_schema.specs.Rows.{StaysOrIsUndone}
 use Rattle.table_schema.specs.Schema.{HasTables}
-use Rattle.fact_gathering.specs.Gathering.{Grows}
+use Rattle.plan_tables_windows.specs.Gathering.{Grows}
 use Rattle.fact_lookups.specs.Finding.{StopsFor}
 use Rattle.fact_lookups.specs.declared.faults.LookupFault.{LookupFault}
 use Rattle.plan_tables.specs.Kept.{CanRead, IsKept, LooksOn, StaysPut, kept_in}

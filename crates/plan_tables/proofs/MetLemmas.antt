@@ -3,15 +3,15 @@ use Rattle.std.proofs.Common.{◌≡◌, ◌∙◌, None, ap, subst, sym}
 use Rattle.sqlite.specs.State.{HasCleanDisk, State}
 use Rattle.planner_machine.specs.Content.{Content}
 use Rattle.planner_machine.specs.Sound.{IsSound}
-use Rattle.plan_parts.specs.Changes.{KnowsNamed}
-use Rattle.plan_parts.proofs.ChangeLemmas.{change_fits, change_part}
+use Rattle.plan_tables_windows.specs.Changes.{KnowsNamed}
+use Rattle.plan_tables_windows.proofs.ChangeLemmas.{change_fits, change_part}
 use Rattle.plan_store.specs.Changes.{Fits, after}
 use Rattle.plan_store.specs.Parts.{IsPartOf, Rest, rest_of}
 use Rattle.plan_store.specs.Room.{no_jobs}
 use Rattle.plan_store.specs.declared.changes.Change.{Change}
 use Rattle.table_schema.specs.Rows.{tables_of}
 use Rattle.table_facts.specs.ToldSets.{AllTellSets}
-use Rattle.fact_gathering.specs.Gathering.{told_rest}
+use Rattle.plan_tables_windows.specs.Gathering.{told_rest}
 use Rattle.table_opening.specs.Opened.{IsStored}
 use Rattle.table_writing.specs.declared.redefining.DefinitionMoves.{DefinitionMoves}
 use Rattle.plan_tables.specs.Kept.{CanRead, IsKept, IsMet, jobless, kept_in}

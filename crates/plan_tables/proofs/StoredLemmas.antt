@@ -21,7 +21,7 @@ use Rattle.plan_store.specs.declared.changes.Change.{Change}
 use Rattle.plan_store.specs.declared.changes.DefinitionChange.TheVariants.{AsBefore}
 use Rattle.table_facts.specs.Content.{HaveOneContent, IsContentOf}
 use Rattle.table_facts.specs.ToldSets.{AllTellSets}
-use Rattle.fact_gathering.specs.Gathering.{Grows, told_rest, told_with}
+use Rattle.plan_tables_windows.specs.Gathering.{Grows, told_rest, told_with}
 use Rattle.table_opening.specs.Opened.{IsStored}
 use Rattle.table_opening.specs.Stored.{AllHaveRowids}
 use Rattle.plan_tables.specs.Found.{Tells}

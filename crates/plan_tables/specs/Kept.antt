@@ -8,7 +8,7 @@ use Rattle.plan_store.specs.Changes.{Fits}
 use Rattle.plan_store.specs.Parts.{IsPartOf, Rest, with_rest}
 use Rattle.plan_store.specs.declared.changes.Change.{Change}
 use Rattle.table_schema.specs.Rows.{tables_of}
-use Rattle.fact_gathering.specs.Gathering.{told_rest, told_with}
+use Rattle.plan_tables_windows.specs.Gathering.{told_rest, told_with}
 use Rattle.table_opening.specs.Opened.{IsStored}
 use Rattle.table_writing.specs.Redefining.{AreMovesOf}
 use Rattle.plan_tables.specs.Stored.{MayLeave}

@@ -5,11 +5,11 @@ use Rattle.sqlite.specs.State.{HasCleanDisk, IsUnchanged, Survives}
 use Rattle.sqlite.specs.Store.{Ghosts}
 use Rattle.planner_machine.specs.Content.{Content}
 use Rattle.plan_store.specs.Parts.{IsPartOf, Rest}
-use Rattle.plan_parts.specs.Changes.{KnowsNamed}
-use Rattle.plan_parts.specs.Windows.{IsReadyFor}
+use Rattle.plan_tables_windows.specs.Changes.{KnowsNamed}
+use Rattle.plan_tables_windows.specs.Windows.{IsReadyFor}
 use Rattle.table_schema.specs.Rows.{tables_of}
 use Rattle.table_schema.specs.Schema.{HasTables}
-use Rattle.fact_gathering.specs.Gathering.{Grows, told_rest}
+use Rattle.plan_tables_windows.specs.Gathering.{Grows, told_rest}
 use Rattle.plan_tables.specs.Causes.{HasFailed}
 use Rattle.plan_tables.specs.Kept.{IsKept, StaysPut}
 use Rattle.plan_tables.specs.declared.keeping.Unmade.{Unmade}

@@ -1,11 +1,11 @@
 // What is fetched from the tables before a window is lent or a change is made, and loaded into the lists.
 
 ghost use Rattle.plan_store.specs.Contents.{content_of};
-ghost use Rattle.fact_gathering.specs.Gathering.{Gathers};
+ghost use Rattle.plan_tables_windows.specs.Gathering.{Gathers};
 ghost use Rattle.plan_tables.specs.Sought.{IsFoundFor, Seeks};
 
 use crate::keeping::{Unmade, why_of};
-use fact_gathering::{gather, gather_for_change};
+use plan_tables_windows::{gather, gather_for_change};
 use fact_lookups::LookupFault;
 use plan_store::{Change, Content, Need};
 use sqlite::{Alter, Connection};

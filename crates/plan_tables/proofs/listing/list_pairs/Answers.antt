@@ -9,7 +9,7 @@ use Rattle.plan_store.specs.Contents.{content_of}
 use Rattle.plan_store.specs.Parts.{ListsAll}
 use Rattle.plan_store.specs.declared.listings.What.TheVariants as Whats
 use Rattle.table_schema.specs.Rows.{tables_of}
-use Rattle.fact_gathering.specs.Gathering.{told_rest}
+use Rattle.plan_tables_windows.specs.Gathering.{told_rest}
 use Rattle.fact_listings.specs.declared.faults.ListedFault.{ListedFault}
 use Rattle.plan_tables.specs.Listing.{ListsKept}
 use Rattle.plan_tables.specs.declared.listing.Asked.TheVariants as asked

@@ -9,7 +9,7 @@ use Rattle.plan_store.specs.Faults.{MoreFailures}
 use Rattle.plan_store.specs.Listings.{HandsAll, HandsPart, IsListing}
 use Rattle.plan_store.specs.declared.listings.ListFault.TheVariants.{Device}
 use Rattle.table_schema.specs.Rows.{tables_of}
-use Rattle.fact_gathering.specs.Gathering.{told_rest}
+use Rattle.plan_tables_windows.specs.Gathering.{told_rest}
 use Rattle.plan_tables.specs.Kept.{CanRead, kept_in}
 use Rattle.plan_tables.specs.Listing.{what_of}
 use Rattle.plan_tables.proofs.LookLemmas.{listed_open, listed_steady, looks_listed, no_mild_listing}

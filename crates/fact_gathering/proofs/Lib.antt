@@ -1,6 +1,0 @@
-mod SetLemmas
-pub mod BarLemmas
-pub mod BringLemmas
-pub mod EachLemmas
-pub mod GatherLemmas
-pub mod NeedLemmas

@@ -1,2 +1,0 @@
-pub mod Bringing
-pub mod Gathering

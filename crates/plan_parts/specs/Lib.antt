@@ -1,4 +1,0 @@
-pub mod Asks
-pub mod Changes
-pub mod Unknown
-pub mod Windows

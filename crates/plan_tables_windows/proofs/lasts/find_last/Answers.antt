@@ -1,0 +1,21 @@
+use Rattle.plan_store.specs.Contents.{content_of}
+use Rattle.plan_tables_windows.specs.Bringing.{IsAnswered}
+use Rattle.plan_tables_windows.proofs.BringLemmas.{gathers_last, gathers_no_last}
+use Rattle.plan_tables_windows.proofs.GatherLemmas.{gathers_failed}
+use Rattle.plan_tables_windows.proofs.lasts.find_last.Goals as goal
+
+pub returns-in-Ok-Some : goal.returns-in-Ok-Some
+returns-in-Ok-Some g c =
+    gathers_last g.S.Store c.args.conn.now c.last_completed.new.conn c.args.ask.now (content_of c.args.lists.now)
+    c.in-Ok-Some.row (rw c.in-Ok-Some.field-0-is at c.in-Ok-Some.ensures) (content_of c.bring_row.new.lists)
+    c.bring_row.result c.bring_row.ensures
+
+pub returns-in-Ok-None : goal.returns-in-Ok-None
+returns-in-Ok-None g c =
+    gathers_no_last g.S.Store c.args.conn.now c.last_completed.new.conn c.args.ask.now (content_of c.args.lists.now)
+    (rw c.in-Ok-None.field-0-is at c.in-Ok-None.ensures)
+
+pub returns-in-Err : goal.returns-in-Err
+returns-in-Err g c =
+    gathers_failed g.S.Store c.args.conn.now c.last_completed.new.conn _ (content_of c.args.lists.now)
+    (IsAnswered c.args.ask.now) c.in-Err.fault c.in-Err.ensures

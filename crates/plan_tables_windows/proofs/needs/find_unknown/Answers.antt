@@ -1,0 +1,28 @@
+use Rattle.plan_store.specs.Contents.{content_of}
+use Rattle.plan_store.specs.Parts.{Knows, KnowsDeletion}
+use Rattle.plan_tables_windows.specs.Bringing.{KnowsAll}
+use Rattle.plan_tables_windows.proofs.EachLemmas.{Each}
+use Rattle.plan_tables_windows.proofs.GatherLemmas.{gathers_stopped, gathers_then}
+use Rattle.plan_tables_windows.proofs.NeedLemmas.{all_known}
+use Rattle.plan_tables_windows.proofs.needs.find_unknown.Goals as goal
+
+pub returns-in-Ok : goal.returns-in-Ok
+returns-in-Ok g c =
+    let completed = c.args.unknown.now.history.items in
+    let deleted = c.args.unknown.now.deletions.items in
+    let mid = content_of c.find_each_completed.new.lists in
+    let now = content_of c.find_each_deleted.new.lists in
+    gathers_then g.S.Store c.args.conn.now c.find_each_completed.new.conn c.find_each_deleted.new.conn
+    (content_of c.args.lists.now) mid now c.find_each_deleted.result
+    (Each (λ serial rest l. Knows rest l serial) completed)
+    (Each (λ serial rest l. KnowsDeletion rest l serial) deleted)
+    (KnowsAll completed deleted) (rw c.deref.ensures.value at c.in-Ok.ensures)
+    (rw c.deref-in-Ok.ensures.value at c.find_each_deleted.ensures)
+    (λ rest part more. all_known completed deleted rest mid now part more)
+
+pub returns-in-Err : goal.returns-in-Err
+returns-in-Err g c =
+    let completed = c.args.unknown.now.history.items in
+    gathers_stopped g.S.Store c.args.conn.now c.find_each_completed.new.conn (content_of c.args.lists.now)
+    (content_of c.find_each_completed.new.lists) c.in-Err.fault (Each (λ serial rest l. Knows rest l serial) completed)
+    (KnowsAll completed c.args.unknown.now.deletions.items) (rw c.deref.ensures.value at c.in-Err.ensures)

@@ -1,0 +1,69 @@
+// The rows of history that are read by an application and a moment are loaded into lists.
+
+ghost use Rattle.std.specs.Prelude.{Contains};
+ghost use Rattle.plan_tables_windows.specs.declared.asks.Ask.{Ask as AskValue};
+ghost use Rattle.plan_store.specs.Contents.{content_of};
+ghost use Rattle.plan_store.specs.Views.{Asks};
+ghost use Rattle.plan_tables_windows.specs.Windows.{HasLastsOf};
+ghost use Rattle.plan_tables_windows.specs.Bringing.{IsAnswered};
+ghost use Rattle.plan_tables_windows.specs.Gathering.{Gathers};
+
+use crate::bringing::bring_row;
+use fact_lookups::{LookupFault, last_completed};
+use crate::{Ask, asks_of};
+use plan_store::{Content, Need};
+use sqlite::{Alter, Connection};
+use std::alloc::{AllocError, Global};
+
+// Loads the last row of the application at the moment or before it.
+fn find_last<S: Alter>(
+    alloc: Global,
+    conn: &mut Connection<S>,
+    lists: &mut Content,
+    ask: &Ask,
+) -> Result<(), LookupFault>
+    ensures { Gathers S.Store conn.old conn.new (content_of lists.old) (content_of lists.new)
+        result (IsAnswered ask.now) }
+{
+    match last_completed(alloc, conn, &ask.app, ask.moment) {
+        Ok(Some(row)) => bring_row(alloc, lists, row),
+        Ok(None) => Ok(()),
+        Err(fault) => Err(fault),
+    }
+}
+
+// Loads each of the last rows that are read.
+fn find_lasts<S: Alter>(
+    alloc: Global,
+    conn: &mut Connection<S>,
+    lists: &mut Content,
+    asks: &[Ask],
+) -> Result<(), LookupFault>
+    ensures { Gathers S.Store conn.old conn.new (content_of lists.old) (content_of lists.new)
+        result (λ rest now. (ask : AskValue) → Contains asks.now ask
+        → IsAnswered ask rest now) }
+{
+    for ask in asks {
+        match find_last(alloc, conn, lists, ask) {
+            Ok(()) => {}
+            Err(fault) => return Err(fault),
+        }
+    }
+    Ok(())
+}
+
+/// Loads the last rows that a window for the need reads.
+pub(crate) fn find_asked<S: Alter>(
+    alloc: Global,
+    conn: &mut Connection<S>,
+    lists: &mut Content,
+    need: &Need,
+) -> Result<(), LookupFault>
+    ensures { Gathers S.Store conn.old conn.new (content_of lists.old) (content_of lists.new)
+        result (λ rest now. HasLastsOf (Asks need.now now) rest now) }
+{
+    match asks_of(alloc, lists, need) {
+        Ok(asks) => find_lasts(alloc, conn, lists, &asks),
+        Err(AllocError) => Err(LookupFault::Memory),
+    }
+}

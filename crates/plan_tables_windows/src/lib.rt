@@ -1,0 +1,16 @@
+//! Lists that have a part of history and of the deletions, because all of it is stored elsewhere: what has to be
+//! loaded before a window is lent or a change is made, so that the result is that of the whole.
+//! What lists lack of history and of the deletions is fetched from the tables of a plan and loaded into them: before a
+//! window is lent, and before a change is made.
+#![tactic(auto)]
+
+mod asks;
+mod bringing;
+mod gathering;
+mod lasts;
+mod needs;
+mod unknown;
+
+pub use asks::{Ask, asks_of};
+pub use needs::{gather, gather_for_change};
+pub use unknown::{Unknown, unknown_for_key, unknown_of};
