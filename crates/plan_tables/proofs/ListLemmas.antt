@@ -25,12 +25,12 @@ use Rattle.table_schema.specs.declared.tables.Table.{Table}
 use Rattle.table_schema.proofs.StopLemmas.{vain_since}
 use Rattle.table_facts.specs.Content.{IsContentOf}
 use Rattle.table_reading.proofs.LookLemmas.{undone_since}
-use Rattle.fact_lookups.specs.Finding.{FindsFact, StopsFor}
-use Rattle.fact_lookups.specs.declared.faults.LookupFault.{LookupFault}
-use Rattle.fact_lookups.specs.declared.faults.LookupFault.TheVariants as lookup
-use Rattle.fact_listings.specs.Listing.{HandsPart, HoldsContent, Lists, StopsFor as StopsListing}
-use Rattle.fact_listings.specs.declared.faults.ListedFault.{ListedFault}
-use Rattle.fact_listings.specs.declared.faults.ListedFault.TheVariants as listed
+use Rattle.plan_tables_queries.specs.Finding.{FindsFact, StopsFor}
+use Rattle.plan_tables_queries.specs.declared.faults.LookupFault.{LookupFault}
+use Rattle.plan_tables_queries.specs.declared.faults.LookupFault.TheVariants as lookup
+use Rattle.plan_tables_queries.specs.Listing.{HandsPart, HoldsContent, Lists, StopsFor as StopsListing}
+use Rattle.plan_tables_queries.specs.declared.listing_faults.ListedFault.{ListedFault}
+use Rattle.plan_tables_queries.specs.declared.listing_faults.ListedFault.TheVariants as listed
 use Rattle.plan_tables.specs.Kept.{IsKept, kept_in}
 use Rattle.plan_tables.specs.Listing.{LeavesOpen, ListsKept, fault_so, listed_so, what_of}
 use Rattle.plan_tables.specs.declared.listing.Asked.{Asked}

@@ -19,8 +19,8 @@ use Rattle.plan_store.specs.declared.stores.StoreFault.TheVariants.{Device, Memo
 use Rattle.table_schema.specs.Rows.{StaysOrIsUndone}
 use Rattle.table_schema.specs.Schema.{HasTables}
 use Rattle.plan_tables_windows.specs.Gathering.{Grows}
-use Rattle.fact_lookups.specs.Finding.{StopsFor}
-use Rattle.fact_lookups.specs.declared.faults.LookupFault.{LookupFault}
+use Rattle.plan_tables_queries.specs.Finding.{StopsFor}
+use Rattle.plan_tables_queries.specs.declared.faults.LookupFault.{LookupFault}
 use Rattle.plan_tables.specs.Kept.{CanRead, IsKept, LooksOn, StaysPut, kept_in}
 use Rattle.plan_tables.specs.Stored.{LeavesSound, MayLeave}
 use Rattle.plan_tables.specs.Taken.{KeepsSchema}

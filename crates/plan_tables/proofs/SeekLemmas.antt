@@ -11,8 +11,8 @@ use Rattle.sqlite_disk.specs.Disk.{MoreFaults}
 use Rattle.planner_machine.specs.Content.{Content}
 use Rattle.plan_store.specs.Parts.{Rest}
 use Rattle.plan_store.specs.declared.stores.StoreFault.TheVariants as fault
-use Rattle.fact_lookups.specs.declared.faults.LookupFault.{LookupFault}
-use Rattle.fact_lookups.specs.declared.faults.LookupFault.TheVariants as lookup
+use Rattle.plan_tables_queries.specs.declared.faults.LookupFault.{LookupFault}
+use Rattle.plan_tables_queries.specs.declared.faults.LookupFault.TheVariants as lookup
 use Rattle.plan_tables_windows.specs.Gathering.{AreOfTables, Gathers}
 use Rattle.plan_tables.specs.Causes.{fault_in}
 use Rattle.plan_tables.specs.Kept.{IsKept, StaysPut}

@@ -8,9 +8,9 @@ use Rattle.sqlite.specs.declared.error.Error.{Error}
 use Rattle.sqlite.proofs.StateLemmas.{survives_then}
 use Rattle.planner_machine.specs.Content.{Content}
 use Rattle.table_schema.specs.Schema.{HasTables}
-use Rattle.fact_lookups.specs.Finding.{FindsFact}
-use Rattle.fact_lookups.specs.declared.faults.LookupFault.{LookupFault}
-use Rattle.fact_lookups.specs.declared.faults.LookupFault.TheVariants as lookup
+use Rattle.plan_tables_queries.specs.Finding.{FindsFact}
+use Rattle.plan_tables_queries.specs.declared.faults.LookupFault.{LookupFault}
+use Rattle.plan_tables_queries.specs.declared.faults.LookupFault.TheVariants as lookup
 use Rattle.plan_tables.specs.Causes.{HasFailed}
 use Rattle.plan_tables.specs.Kept.{IsKept, StaysPut, kept_in}
 use Rattle.plan_tables.specs.Whys.{IsCauseOf, IsWhyOf}

@@ -12,11 +12,11 @@ use Rattle.plan_store.specs.declared.listings.What.{What}
 use Rattle.plan_store.specs.declared.listings.What.TheVariants as whats
 use Rattle.table_schema.specs.Rows.{StaysOrIsUndone}
 use Rattle.table_schema.specs.Schema.{HasTables}
-use Rattle.fact_listings.specs.Listing.{HandsPart, StopsFor}
-use Rattle.fact_listings.specs.declared.faults.ListedFault.{ListedFault}
-use Rattle.fact_listings.specs.declared.faults.ListedFault.TheVariants as listed
-use Rattle.fact_lookups.specs.declared.faults.LookupFault.{LookupFault}
-use Rattle.fact_lookups.specs.declared.faults.LookupFault.TheVariants as lookup
+use Rattle.plan_tables_queries.specs.Listing.{HandsPart, StopsFor}
+use Rattle.plan_tables_queries.specs.declared.listing_faults.ListedFault.{ListedFault}
+use Rattle.plan_tables_queries.specs.declared.listing_faults.ListedFault.TheVariants as listed
+use Rattle.plan_tables_queries.specs.declared.faults.LookupFault.{LookupFault}
+use Rattle.plan_tables_queries.specs.declared.faults.LookupFault.TheVariants as lookup
 use Rattle.plan_tables.specs.Kept.{IsKept, kept_in}
 use Rattle.plan_tables.specs.declared.keeping.Unmade.TheVariants as unmade
 use Rattle.plan_tables.specs.declared.listing.Asked.{Asked}

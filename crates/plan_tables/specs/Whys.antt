@@ -6,8 +6,8 @@ use Rattle.sqlite.specs.Store.{Ghosts}
 use Rattle.sqlite.specs.declared.error.Error.{Error}
 use Rattle.sqlite_disk.specs.Disk.{MoreFaults}
 use Rattle.plan_store.specs.declared.stores.StoreFault.TheVariants.{Memory}
-use Rattle.fact_lookups.specs.declared.faults.LookupFault.{LookupFault}
-use Rattle.fact_lookups.specs.declared.faults.LookupFault.TheVariants as lookup
+use Rattle.plan_tables_queries.specs.declared.faults.LookupFault.{LookupFault}
+use Rattle.plan_tables_queries.specs.declared.faults.LookupFault.TheVariants as lookup
 use Rattle.plan_tables.specs.Causes.{fault_in}
 use Rattle.plan_tables.specs.Kept.{StaysPut}
 use Rattle.plan_tables.specs.declared.keeping.Unmade.{Unmade}

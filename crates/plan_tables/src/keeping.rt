@@ -23,7 +23,7 @@ ghost use Rattle.plan_tables.specs.Found.{Tells};
 ghost use Rattle.plan_tables.specs.Kept.{IsMet, StaysPut, jobless};
 ghost use Rattle.plan_tables.specs.Whys.{IsWhyOf};
 
-use fact_lookups::LookupFault;
+use plan_tables_queries::LookupFault;
 use plan_store::{Change, Content, DefinitionChange, Redefining, Room, StoreFault};
 use sqlite::{Alter, Connection, Error, ErrorCode};
 use std::alloc::{AllocError, Global};

@@ -9,14 +9,14 @@ ghost use Rattle.plan_store.specs.Contents.{content_of};
 ghost use Rattle.plan_store.specs.Listings.{HandsAll, HandsPart, IsListing};
 ghost use Rattle.plan_store.specs.Parts.{ListsAll};
 ghost use Rattle.table_schema.specs.Schema.{HasTables};
-ghost use Rattle.fact_lookups.specs.Finding.{FindsFact};
+ghost use Rattle.plan_tables_queries.specs.Finding.{FindsFact};
 ghost use Rattle.plan_tables.specs.Causes.{HasFailed};
 ghost use Rattle.plan_tables.specs.Kept.{IsKept, StaysPut, kept_in};
 ghost use Rattle.plan_tables.specs.Listing.{LeavesOpen, ListsKept, fault_so, listed_so, what_of};
 
 use crate::keeping::{Unmade, cause_of};
-use fact_listings::{ListedFault, list_deletions, list_history};
-use fact_lookups::{LookupFault, completed_rows, deleted_rows};
+use plan_tables_queries::{ListedFault, list_deletions, list_history};
+use plan_tables_queries::{LookupFault, completed_rows, deleted_rows};
 use occurrences::{Deletion, Row};
 use plan_store::{Content, ListFault, RowSink, SinkFault};
 use sqlite::{Alter, Connection};

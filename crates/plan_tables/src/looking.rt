@@ -9,7 +9,7 @@ ghost use Rattle.plan_tables.specs.Causes.{HasFailed};
 ghost use Rattle.plan_tables.specs.Kept.{IsKept, StaysPut, kept_in};
 
 use crate::keeping::{Unmade, why_of};
-use fact_lookups::kept_job;
+use plan_tables_queries::kept_job;
 use planner_machine::Job;
 use sqlite::{Alter, Connection};
 use std::alloc::Global;

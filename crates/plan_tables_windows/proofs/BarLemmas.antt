@@ -16,9 +16,9 @@ use Rattle.plan_store.specs.Views.{bars_from, is_by_operator}
 use Rattle.plan_tables_windows.proofs.PartLemmas.{deleted_has, deleted_part, stood_still}
 use Rattle.table_schema.specs.Rows.{Tables, tables_of}
 use Rattle.table_schema.proofs.ResultLemmas.{still_ok}
-use Rattle.fact_lookups.specs.Deletions.{AreGoneFrom}
-use Rattle.fact_lookups.specs.Finding.{FindsFact}
-use Rattle.fact_lookups.specs.declared.faults.LookupFault.{LookupFault}
+use Rattle.plan_tables_queries.specs.Deletions.{AreGoneFrom}
+use Rattle.plan_tables_queries.specs.Finding.{FindsFact}
+use Rattle.plan_tables_queries.specs.declared.faults.LookupFault.{LookupFault}
 use Rattle.plan_tables_windows.specs.Bringing.{Brings, BringsEach, HasGoneFrom, Stand}
 use Rattle.plan_tables_windows.specs.Gathering.{Gathers, Grows, rest_in}
 use Rattle.plan_tables_windows.proofs.BringLemmas.{brings_either, brings_ok, deleted_grows, numbered_deletion}

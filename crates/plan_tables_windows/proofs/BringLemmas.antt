@@ -21,9 +21,9 @@ use Rattle.table_schema.specs.Rows.{Tables, shown, tables_of}
 use Rattle.table_schema.specs.declared.tables.Table.TheVariants as table
 use Rattle.table_facts.specs.Decoded.{deletion_of, row_of}
 use Rattle.table_facts.specs.ToldSets.{told_deletions, told_history}
-use Rattle.fact_lookups.specs.Finding.{FindsFact}
-use Rattle.fact_lookups.specs.Last.{IsLastRow}
-use Rattle.fact_lookups.specs.declared.faults.LookupFault.{LookupFault}
+use Rattle.plan_tables_queries.specs.Finding.{FindsFact}
+use Rattle.plan_tables_queries.specs.Last.{IsLastRow}
+use Rattle.plan_tables_queries.specs.declared.faults.LookupFault.{LookupFault}
 use Rattle.plan_tables_windows.specs.Bringing.{Brings, IsAnswered}
 use Rattle.plan_tables_windows.specs.Gathering.{Gathers, Grows, rest_in}
 use Rattle.plan_tables_windows.proofs.GatherLemmas.{as_before, gathers_found}

@@ -9,7 +9,7 @@ use Rattle.sqlite.specs.Store.{Ghosts}
 use Rattle.planner_machine.specs.Content.{Content}
 use Rattle.plan_store.specs.Parts.{IsPartOf, Knows, KnowsDeletion, Rest}
 use Rattle.plan_tables_windows.specs.Unknown.{HasMore}
-use Rattle.fact_lookups.specs.declared.faults.LookupFault.{LookupFault}
+use Rattle.plan_tables_queries.specs.declared.faults.LookupFault.{LookupFault}
 use Rattle.plan_tables_windows.specs.Gathering.{Gathers}
 use Rattle.plan_tables_windows.proofs.GatherLemmas.{gathers_none, gathers_stopped, gathers_then}
 

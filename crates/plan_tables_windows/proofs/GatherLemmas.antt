@@ -18,9 +18,9 @@ use Rattle.table_schema.specs.Schema.{HasTables}
 use Rattle.table_schema.proofs.ResultLemmas.{if_err, still_ok}
 use Rattle.table_schema.proofs.StopLemmas.{vain_since}
 use Rattle.table_facts.specs.Content.{IsContentOf}
-use Rattle.fact_lookups.specs.Finding.{FindsFact, StopsFor}
-use Rattle.fact_lookups.specs.declared.faults.LookupFault.{LookupFault}
-use Rattle.fact_lookups.specs.declared.faults.LookupFault.TheVariants.{Memory, Untold, Store}
+use Rattle.plan_tables_queries.specs.Finding.{FindsFact, StopsFor}
+use Rattle.plan_tables_queries.specs.declared.faults.LookupFault.{LookupFault}
+use Rattle.plan_tables_queries.specs.declared.faults.LookupFault.TheVariants.{Memory, Untold, Store}
 use Rattle.plan_tables_windows.specs.Gathering.{AreOfTables, Gathers, Grows, rest_in, told_rest, told_with}
 use Rattle.plan_tables_windows.proofs.SetLemmas.{no_prop, rest_set}
 

@@ -8,8 +8,8 @@ use Rattle.plan_store.specs.Asked.{HasLast}
 use Rattle.plan_store.specs.Parts.{IsPartOf, Knows, KnowsDeletion, Rest}
 use Rattle.plan_store.specs.Views.{bars_from}
 use Rattle.plan_tables_windows.specs.declared.asks.Ask.{Ask}
-use Rattle.fact_lookups.specs.declared.faults.LookupFault.{LookupFault}
-use Rattle.fact_lookups.specs.declared.faults.LookupFault.TheVariants.{Memory}
+use Rattle.plan_tables_queries.specs.declared.faults.LookupFault.{LookupFault}
+use Rattle.plan_tables_queries.specs.declared.faults.LookupFault.TheVariants.{Memory}
 use Rattle.plan_tables_windows.specs.Gathering.{Grows}
 
 -- the lists are these afterwards, or memory was refused, and they are as they were

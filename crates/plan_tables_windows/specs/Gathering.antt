@@ -11,9 +11,9 @@ use Rattle.table_schema.specs.Rows.{StaysOrIsUndone, Tables, tables_of}
 use Rattle.table_schema.specs.Schema.{HasTables}
 use Rattle.table_facts.specs.Content.{IsContentOf}
 use Rattle.table_facts.specs.ToldSets.{told_deletions, told_history, told_jobs}
-use Rattle.fact_lookups.specs.Finding.{StopsFor}
-use Rattle.fact_lookups.specs.declared.faults.LookupFault.{LookupFault}
-use Rattle.fact_lookups.specs.declared.faults.LookupFault.TheVariants.{Untold}
+use Rattle.plan_tables_queries.specs.Finding.{StopsFor}
+use Rattle.plan_tables_queries.specs.declared.faults.LookupFault.{LookupFault}
+use Rattle.plan_tables_queries.specs.declared.faults.LookupFault.TheVariants.{Untold}
 
 -- what the tables encode apart from the lists
 abbrev pub told_rest : Tables → Rest

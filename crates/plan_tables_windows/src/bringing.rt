@@ -4,7 +4,7 @@ ghost use Rattle.plan_store.specs.Contents.{content_of};
 ghost use Rattle.plan_store.specs.Parts.{with_completed, with_deleted};
 ghost use Rattle.plan_tables_windows.specs.Bringing.{Brings, BringsEach};
 
-use fact_lookups::LookupFault;
+use plan_tables_queries::LookupFault;
 use occurrences::{Deletion, Row};
 use plan_store::Content;
 use std::alloc::{AllocError, Global};

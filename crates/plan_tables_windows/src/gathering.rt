@@ -7,7 +7,7 @@ ghost use Rattle.plan_tables_windows.specs.Bringing.{HasGoneFrom};
 ghost use Rattle.plan_tables_windows.specs.Gathering.{Gathers};
 
 use crate::bringing::{bring_deletion, bring_deletions, bring_row};
-use fact_lookups::{LookupFault, completed_row, deleted_row, deletions_from};
+use plan_tables_queries::{LookupFault, completed_row, deleted_row, deletions_from};
 use occurrences::Serial;
 use plan_store::Content;
 use sqlite::{Alter, Connection};

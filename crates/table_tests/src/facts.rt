@@ -1,8 +1,8 @@
 //! What the tables of a plan encode: facts that are fetched, and listings, row by row.
 ghost use Rattle.std.specs.Prelude.{⊤};
 
-use fact_listings::{ListedFault, list_deletions, list_history};
-use fact_lookups::{
+use plan_tables_queries::{ListedFault, list_deletions, list_history};
+use plan_tables_queries::{
     LookupFault, completed_row, completed_rows, deleted_row, deleted_rows, deletions_from,
     kept_job, last_completed,
 };

@@ -1,5 +1,5 @@
 use Rattle.std.proofs.Common.{refl, subst, sym}
-use Rattle.fact_lookups.specs.declared.faults.LookupFault.{LookupFault}
+use Rattle.plan_tables_queries.specs.declared.faults.LookupFault.{LookupFault}
 use Rattle.plan_tables.specs.Whys.{IsWhyOf}
 use Rattle.plan_tables.specs.declared.keeping.Unmade.TheVariants.{Device, Memory}
 use Rattle.plan_tables.proofs.keeping.why_of.Goals as goal

@@ -5,8 +5,8 @@ use Rattle.sqlite.specs.State.{HasCleanDisk}
 use Rattle.sqlite.proofs.StateLemmas.{survives_then}
 use Rattle.plan_store.specs.Contents.{content_of}
 use Rattle.plan_store.specs.Listings.{IsListing}
-use Rattle.fact_listings.specs.Listing.{StopsFor}
-use Rattle.fact_listings.specs.declared.faults.ListedFault.{ListedFault}
+use Rattle.plan_tables_queries.specs.Listing.{StopsFor}
+use Rattle.plan_tables_queries.specs.declared.listing_faults.ListedFault.{ListedFault}
 use Rattle.plan_tables.specs.Kept.{kept_in}
 use Rattle.plan_tables.specs.Listing.{what_of}
 use Rattle.plan_tables.specs.declared.keeping.Unmade.TheVariants.{Device}

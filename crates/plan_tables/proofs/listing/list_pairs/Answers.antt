@@ -10,7 +10,7 @@ use Rattle.plan_store.specs.Parts.{ListsAll}
 use Rattle.plan_store.specs.declared.listings.What.TheVariants as Whats
 use Rattle.table_schema.specs.Rows.{tables_of}
 use Rattle.plan_tables_windows.specs.Gathering.{told_rest}
-use Rattle.fact_listings.specs.declared.faults.ListedFault.{ListedFault}
+use Rattle.plan_tables_queries.specs.declared.listing_faults.ListedFault.{ListedFault}
 use Rattle.plan_tables.specs.Listing.{ListsKept}
 use Rattle.plan_tables.specs.declared.listing.Asked.TheVariants as asked
 use Rattle.plan_tables.proofs.ListLemmas.{pairs_memory, pairs_ok, pairs_refused, unread_kept}

@@ -1,5 +1,0 @@
-pub mod Telling
-pub mod Finding
-pub mod Deletions
-pub mod Last
-pub mod OfApp

@@ -1,0 +1,85 @@
+-- What rows tell is found out as the rows are found.
+use Rattle.std.specs.Prelude.{◌≢◌, ⊤, Result, Ok, Err, IfErr, IfOk, OnOk}
+use Rattle.sqlite.specs.Held.{Held, state}
+use Rattle.sqlite.specs.State.{IsUnchanged, State}
+use Rattle.sqlite.specs.Store.{Ghosts}
+use Rattle.sqlite.specs.declared.error.Error.{Error}
+use Rattle.planner_machine.specs.Content.{Content}
+use Rattle.planner_machine.specs.Sound.{IsSound}
+use Rattle.table_schema.specs.Rows.{Tables, tables_of}
+use Rattle.table_schema.proofs.ResultLemmas.{if_err, if_ok}
+use Rattle.table_facts.specs.Content.{IsContentOf}
+use Rattle.table_lookups.specs.Finding.{Finds}
+use Rattle.plan_tables_queries.specs.Finding.{FindsFact, StopsFor}
+use Rattle.plan_tables_queries.specs.Telling.{TellsTables}
+use Rattle.plan_tables_queries.specs.declared.faults.LookupFault.{LookupFault}
+use Rattle.plan_tables_queries.specs.declared.faults.LookupFault.TheVariants.{Memory, Untold, Store}
+
+-- it is of a row, and not of the tables
+abbrev pub IsOfRow : LookupFault → Type 0
+IsOfRow Memory = ⊤
+IsOfRow Untold = ⊤
+IsOfRow (Store e) = ⊥
+
+holds_ok : {T : Type 0} (result : Result T LookupFault) (P : Type 0) → P → OnOk result P
+holds_ok (Ok x) P is = is
+holds_ok (Err fault) P is = tt
+
+pub stops_for : (fault : LookupFault) (old new : State) → IsOfRow fault → IsUnchanged old new → StopsFor old new fault
+stops_for Memory old new of_row same = same
+stops_for Untold old new of_row same = same
+stops_for (Store e) old new of_row same = absurd of_row
+
+stops : {T : Type 0} (result : Result T LookupFault) (old new : State) → IfErr result IsOfRow → IsUnchanged old new
+    → IfErr result (StopsFor old new)
+stops (Ok x) old new of_row same = tt
+stops (Err fault) old new of_row same = stops_for fault old new of_row same
+
+module _ {S T R : Type 0} (g : Ghosts S) (old new : Held S) (rows : R) (IsRows : Tables → R → Type 0)
+    (asked : Finds g old new (Ok rows) IsRows) (IsFound : Content → T → Type 0) (result : Result T LookupFault) where
+  abbrev Tells : (Content → Type 0) → Type 0
+  Tells Is = (c : Content) → IsContentOf (tables_of (state g old).now.trees) c → IsSound c
+      → IsRows (tables_of (state g old).now.trees) rows → Is c
+
+  pub finds_fact : Tells (λ c. IfOk result (IsFound c)) → Tells (λ _. IfErr result (λ fault. fault ≢ Untold))
+      → IfErr result IsOfRow → FindsFact g old new result IsFound
+  finds_fact found told of_row = record {
+    found = λ clean has c is sound. found c is sound (asked.found clean has);
+    told = λ clean has c is sound. told c is sound (asked.found clean has);
+    same = λ clean has. holds_ok result _ (asked.same clean has);
+    fails = λ clean has. stops result _ _ of_row (asked.same clean has);
+    leaves = asked.leaves;
+    mode = asked.mode;
+    survives = asked.survives;
+  }
+
+-- the tables could not be asked
+pub not_found : {S T R : Type 0} (g : Ghosts S) (old new : Held S) (error : Error) (IsRows : Tables → R → Type 0)
+    → Finds g old new (Err error) IsRows → (IsFound : Content → T → Type 0)
+    → FindsFact g old new (Err (Store error)) IsFound
+not_found g old new error IsRows asked IsFound = record {
+  found = λ _ _ _ _ _. tt;
+  told = λ _ _ _ _ _ e. cc;
+  same = λ _ _. tt;
+  fails = asked.fails;
+  leaves = asked.leaves;
+  mode = asked.mode;
+  survives = asked.survives;
+}
+
+-- what all rows of a table tell
+module _ {S T : Type 0} (g : Ghosts S) (old new : Held S) (result : Result T LookupFault) (IsTold : Tables → T → Type 0)
+    (IsUntold : Tables → Type 0) (IsFound : Content → T → Type 0)
+    (found : (all : Tables) (c : Content) → IsContentOf all c → (x : T) → IsTold all x → IsFound c x)
+    (told : (all : Tables) (c : Content) → IsContentOf all c → IsSound c → IsUntold all → ⊥) where
+  pub finds_told : TellsTables g old new result IsTold IsUntold → FindsFact g old new result IsFound
+  finds_told tells = record {
+    found = λ clean has c is sound. if_ok result _ _ (found _ c is) (tells.told clean has);
+    told = λ clean has c is sound. if_err result _ _ (λ fault untold e. told _ c is sound (untold e))
+        (tells.untold clean has);
+    same = tells.same;
+    fails = tells.fails;
+    leaves = tells.leaves;
+    mode = tells.mode;
+    survives = tells.survives;
+  }

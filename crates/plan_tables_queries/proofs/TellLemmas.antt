@@ -1,0 +1,99 @@
+-- What the rows tell that a teller took.
+use Rattle.std.proofs.Common.{◌≡◌, ◌∙◌, ℕ, ◌+◌, List, [], ◌∷◌, ◌++◌, length, map, refl, sym, ap, subst, arith}
+use Rattle.sqlite.specs.Order.{Row as Values}
+use Rattle.sqlite.specs.declared.error.Error.{Error}
+use Rattle.occurrences.specs.declared.row.Row.{Row}
+use Rattle.plan_store.specs.Listings.{Shown, TakesAll}
+use Rattle.table_lookups.specs.Handing.{HandsAll, HandsPart}
+use Rattle.table_lookups.specs.Handing.{TakesAll as TakesRows}
+use Rattle.table_lookups.specs.declared.handing.HandFault.TheVariants as hand
+use Rattle.plan_tables_queries.specs.ListedRows.{EndsTelling, RefusesRow, TakesRow, TellsAll, TellsPart, marked}
+use Rattle.plan_tables_queries.specs.declared.listing_faults.ListedFault.{ListedFault}
+use Rattle.plan_tables_queries.specs.declared.listing_faults.ListedFault.TheVariants.{Memory, Untold, Sink, Store}
+
+module _ {W K X N : Type 0} (some : W) (sink : W → K) (name : W → N) (count : W → ℕ) (why : W → ListedFault)
+    (Is : X → Type 0) (values_of : X → Values) (row_of : X → Row) (letter_of : X → ℕ)
+    (Takes Refuses : K → Shown → K → Type 0) where
+  abbrev TakesHere : W → Values → W → Type 0
+  TakesHere old row new = (name new ≡ name old)
+      × TakesRow values_of row_of letter_of Takes (sink old) (count old) row (sink new) (count new)
+
+  abbrev RefusesHere : W → Values → W → Type 0
+  RefusesHere old row new = (name new ≡ name old)
+      × RefusesRow Is values_of row_of letter_of Refuses (sink old) row (sink new) (why new)
+
+  -- the facts of these rows, and their number
+  abbrev Told : K → ℕ → List Values → K → ℕ → Type 0
+  Told old before rows new after = (facts : List X) × (map values_of facts ≡ rows)
+      × TakesAll Takes old (map (marked row_of letter_of) facts) new × (after ≡ before + length facts)
+
+  took : (rows : List Values) (old new : W) → TakesRows TakesHere old rows new
+      → (name new ≡ name old) × Told (sink old) (count old) rows (sink new) (count new)
+  took [] old new is = (ap name is, ([], refl, ap sink is, (let e = ap count is in omega (arith, e))))
+  took (row ∷ rows) old new (next, (named, one), later) =
+      let (named', (facts, are, taken, counted)) = took rows next new later in (
+        named' ∙ named,
+        (
+          one.fact ∷ facts,
+          λ i. one.is i ∷ are i,
+          (sink next, one.taken, taken),
+          omega (arith, counted, one.counted),
+        ),
+      )
+
+  ends_by : (fault : ListedFault) (old : K) (done : List X) (rest : List Values) (last : K) (row : Values)
+      (later : List Values) (new : K) → rest ≡ row ∷ later
+      → TakesAll Takes old (map (marked row_of letter_of) done) last
+      → RefusesRow Is values_of row_of letter_of Refuses last row new fault
+      → EndsTelling Is values_of row_of letter_of Takes Refuses old done rest new fault
+  ends_by Memory old done rest last row later new is taken same =
+      subst (TakesAll Takes old (map (marked row_of letter_of) done)) (sym same) taken
+  ends_by Untold old done rest last row later new is taken (same, none) = (
+    subst (TakesAll Takes old (map (marked row_of letter_of) done)) (sym same) taken,
+    (row, later, is, none),
+  )
+  ends_by (Sink fault) old done rest last row later new is taken (fact, tells, refused) =
+      (last, fact, later, is ∙ ap (λ r. r ∷ later) (sym tells), taken, refused)
+  ends_by (Store error) old done rest last row later new is taken none = absurd none
+
+  module _ (IsWhole : List Values → Type 0) (old new : W) where
+    pub told_all : count old ≡ 0 → HandsAll TakesHere IsWhole old new → (name new ≡ name old)
+        × TellsAll values_of row_of letter_of Takes IsWhole (sink old) (sink new) (count new)
+    told_all none h =
+        let (named, (facts, are, taken, counted)) = took h.rows old new h.taken in (
+          named,
+          record {
+            facts = facts;
+            whole = subst IsWhole (sym are) h.whole;
+            taken = taken;
+            counted = omega (arith, counted, none);
+          },
+        )
+
+    pub told_before : (error : Error) → HandsPart TakesHere RefusesHere IsWhole old new (hand.Store error)
+        → (name new ≡ name old)
+        × TellsPart Is values_of row_of letter_of Takes Refuses IsWhole (sink old) (sink new) (Store error)
+    told_before error h =
+        let (named, (facts, are, taken, counted)) = took h.done old new h.ends in (
+          named,
+          record {
+            done = facts;
+            rest = h.rest;
+            whole = subst (λ l. IsWhole (l ++ h.rest)) (sym are) h.whole;
+            ends = taken;
+          },
+        )
+
+    pub told_part : HandsPart TakesHere RefusesHere IsWhole old new hand.Sink → (name new ≡ name old)
+        × TellsPart Is values_of row_of letter_of Takes Refuses IsWhole (sink old) (sink new) (why new)
+    told_part h =
+        let (last, row, later, is, rows, (named', refused)) = h.ends in
+        let (named, (facts, are, taken, counted)) = took h.done old last rows in (
+          named' ∙ named,
+          record {
+            done = facts;
+            rest = h.rest;
+            whole = subst (λ l. IsWhole (l ++ h.rest)) (sym are) h.whole;
+            ends = ends_by (why new) (sink old) facts h.rest (sink last) row later (sink new) is taken refused;
+          },
+        )

@@ -1,0 +1,7 @@
+pub mod Telling
+pub mod Finding
+pub mod Deletions
+pub mod Last
+pub mod OfApp
+pub mod Listing
+pub mod ListedRows

@@ -1,0 +1,20 @@
+//! Facts that are fetched from the tables of a plan: kept jobs, rows of history and deletions, by a number, by a
+//! moment, or all of a table.
+//! Listings of the tables of a plan: history and the deletions, each row yielded before the next is read.
+#![tactic(auto)]
+
+mod collecting;
+mod faults;
+mod finding;
+mod listed_rows;
+mod listing;
+mod listing_faults;
+mod telling;
+
+pub use faults::LookupFault;
+pub use finding::{
+    completed_of, completed_row, completed_rows, deleted_row, deleted_rows, deletions_from,
+    kept_job, last_completed,
+};
+pub use listing::{list_deletions, list_history};
+pub use listing_faults::ListedFault;
