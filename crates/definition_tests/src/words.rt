@@ -1,5 +1,5 @@
 //! Values that no statement takes, and a byte that no line has: a stream can't show them.
-use statement_words::{Form, is_line_text};
+use planner_cli_stream::{Form, is_line_text};
 
 static REQUIRED: [&str; 2] = ["app", "from"];
 

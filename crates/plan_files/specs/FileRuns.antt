@@ -3,7 +3,7 @@ use Rattle.std.specs.Prelude.{◌≡◌, ℕ, zero, suc, List, IfOk, Option, Som
 use Rattle.planner_machine.specs.Content.{Content, nothing_known}
 use Rattle.planner_machine.specs.Sound.{IsSound}
 use Rattle.planner_machine.specs.Statement.{Statement}
-use Rattle.stream_items.specs.Items.{items_of}
+use Rattle.planner_cli_stream.specs.Items.{items_of}
 use Rattle.planner_cli.specs.Plans.{CrashedPlan, RanPlan}
 use Rattle.planner_cli.specs.Reruns.{EndsAsOneRun}
 use Rattle.planner_cli.specs.Runs.{Ends, Ran, ends_of}

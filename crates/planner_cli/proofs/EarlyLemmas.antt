@@ -1,8 +1,8 @@
 -- A change of the long-term plan that a job asks for by what the definitions name.
 use Rattle.std.proofs.Common.{◌≡◌, Some, ap}
-use Rattle.statements.specs.declared.statements.ChangeStatement.{ChangeStatement}
-use Rattle.statements.specs.declared.statements.ChangeStatement.TheVariants as statement
-use Rattle.statements.specs.declared.statements.PlanFunction.{PlanFunction}
+use Rattle.planner_cli_stream.specs.declared.statements.ChangeStatement.{ChangeStatement}
+use Rattle.planner_cli_stream.specs.declared.statements.ChangeStatement.TheVariants as statement
+use Rattle.planner_cli_stream.specs.declared.statements.PlanFunction.{PlanFunction}
 use Rattle.planner_cli.specs.Changes.{change_of, plan_change}
 use Rattle.planner_cli.specs.Verdicts.{job_change, plan_in, plan_of}
 use Rattle.planner_cli.specs.declared.decisions.JobChange.{JobChange}

@@ -16,7 +16,7 @@ use Rattle.planner_machine.specs.Statement.{Act, Add, AddCurrent, Answer, Change
 use Rattle.planner_machine.specs.Statement.{Define, Delete, Extend, Job, ModifyAll, ModifyOne, Replan, Statement}
 use Rattle.planner_machine.specs.Statement.{Undefine, decision_of}
 use Rattle.planner_machine.specs.Stream.{IsStatement, RunsSound}
-use Rattle.stream_items.specs.Items.{Item}
+use Rattle.planner_cli_stream.specs.Items.{Item}
 use Rattle.planner_cli.specs.Asked.{Asks}
 use Rattle.planner_cli.specs.Faults.{cause_of, fault_line}
 use Rattle.planner_cli.specs.FreshRuns.{CrashLeavesFresh, FaultLeavesFresh, ItemsLeaveFresh, KeepsDefinitions}

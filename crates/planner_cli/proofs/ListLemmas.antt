@@ -21,7 +21,7 @@ use Rattle.plan_store.specs.declared.stores.StoreFault.TheVariants as Stores
 use Rattle.planner_machine.specs.Content.{Content}
 use Rattle.planner_machine.specs.Shown.{CurrentPlan, InDeletions, InHistory, Listed, LongTermPlan}
 use Rattle.planner_machine.specs.Statement.{ListLinks, ListPairs, ListRows}
-use Rattle.stream_items.specs.Items.{Item}
+use Rattle.planner_cli_stream.specs.Items.{Item}
 use Rattle.planner_cli.specs.Asked.{Asks, list_asked}
 use Rattle.planner_cli.specs.Faults.{store_cause}
 use Rattle.planner_cli.specs.Lists.{BeginsInHand, BeginsList}

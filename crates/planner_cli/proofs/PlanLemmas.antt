@@ -8,7 +8,7 @@ use Rattle.planner_machine.specs.Rerun.{job_number}
 use Rattle.planner_machine.specs.Statement.{Answer, Days, DefineJob, Job, ListLinks, ListPairs, ListRows, Statement}
 use Rattle.planner_machine.specs.Statement.{Trial}
 use Rattle.planner_machine.specs.Stream.{IsStatement, Runs, RunsByFate, RunsSound}
-use Rattle.stream_items.specs.Items.{Item}
+use Rattle.planner_cli_stream.specs.Items.{Item}
 use Rattle.planner_cli.specs.Asked.{AreAsked, Asks}
 use Rattle.planner_cli.specs.Faults.{cause_of, fault_line}
 use Rattle.planner_cli.specs.Meaning.{Answers}

@@ -7,8 +7,8 @@ use Rattle.std.specs.Io.Iter.{u64_saturate}
 use Rattle.std.proofs.lemmas.List.Sums.{sum_by-append}
 use Rattle.std.proofs.KnownBytes.{Appends-nil, Appends-trans, Appends-kept}
 use Rattle.planner_machine.specs.Content.{Content}
-use Rattle.stream_items.specs.Items.{Item, items_of}
-use Rattle.stream_items.specs.Pages.{ItemRead}
+use Rattle.planner_cli_stream.specs.Items.{Item, items_of}
+use Rattle.planner_cli_stream.specs.Pages.{ItemRead}
 use Rattle.planner_cli.specs.Replies.{Answered, AnswerLines, printed, prints, is_accepted, is_refused}
 use Rattle.planner_cli.specs.Meaning.{Answers, StepOf, tally_after, tally_of}
 use Rattle.plan_store.specs.declared.stores.StoreFault.{StoreFault}
@@ -18,13 +18,13 @@ use Rattle.planner_cli.specs.Lists.{BeginsInHand}
 use Rattle.planner_cli.specs.Runs.{Crashed, EndsBy, IsFrontOf, ItemBreaks, LeavesInHand, Stopped, WritesFault}
 use Rattle.planner_cli.specs.Runs.{ends_of, with_hand}
 use Rattle.planner_cli.specs.declared.tally.Tally.{Tally}
-use Rattle.stream_items.specs.declared.lines.ReadFault.{ReadFault}
-use Rattle.stream_items.specs.declared.lines.ReadFault.TheVariants as Reads
+use Rattle.planner_cli_stream.specs.declared.lines.ReadFault.{ReadFault}
+use Rattle.planner_cli_stream.specs.declared.lines.ReadFault.TheVariants as Reads
 use Rattle.planner_cli.specs.declared.faults.Part.TheVariants.{Store, Reader, Writer}
 use Rattle.planner_cli.specs.declared.faults.Cause.{Cause}
 use Rattle.planner_cli.specs.declared.faults.Cause.TheVariants.{Memory, Device}
 use Rattle.planner_cli.specs.declared.faults.RunFault.{RunFault}
-use Rattle.stream_items.proofs.Kept.{take_short}
+use Rattle.planner_cli_stream.proofs.Kept.{take_short}
 
 -- more items are answered after the first ones
 pub answers_more : {S : Type 0} (Step : StepOf S) (s m t : S) (xs : List Item) (rs : List AnswerLines) (y : Item) (r : AnswerLines)

@@ -7,9 +7,9 @@ use Rattle.planner_machine.specs.Rerun.{AnswersAgree, RerunEndsAsEachRun, job_nu
 use Rattle.planner_machine.specs.Sound.{IsSound}
 use Rattle.planner_machine.specs.Statement.{Answer, Statement}
 use Rattle.planner_machine.specs.Stream.{IsStatement, Runs, RunsSound}
-use Rattle.statements.specs.Statement.{IsLineOf, Reads}
-use Rattle.statements.specs.declared.statements.Statement.{Statement as LineStatement}
-use Rattle.stream_items.specs.Items.{Alone, Item, NoStatement, WithBlock, items_of}
+use Rattle.planner_cli_stream.specs.Statement.{IsLineOf, Reads}
+use Rattle.planner_cli_stream.specs.declared.statements.Statement.{Statement as LineStatement}
+use Rattle.planner_cli_stream.specs.Items.{Alone, Item, NoStatement, WithBlock, items_of}
 use Rattle.planner_cli.specs.Asked.{AreAsked, Asks, asked_alone, asked_with, if_asked}
 use Rattle.planner_cli.specs.Faults.{fault_line}
 use Rattle.planner_cli.specs.Meaning.{Answers}

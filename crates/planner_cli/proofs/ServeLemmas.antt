@@ -26,8 +26,8 @@ use Rattle.plan_store.specs.Verdicts.{VerdictIs}
 use Rattle.plan_store.specs.declared.changes.Change.{Change}
 use Rattle.plan_store.specs.declared.changes.Verdict.{Verdict}
 use Rattle.plan_store.specs.declared.changes.Verdict.TheVariants.{Done, Refused}
-use Rattle.statements.specs.JobNumber.{IsJobNumber}
-use Rattle.stream_items.specs.Items.{longest_block}
+use Rattle.planner_cli_stream.specs.JobNumber.{IsJobNumber}
+use Rattle.planner_cli_stream.specs.Items.{longest_block}
 use Rattle.planner_cli.specs.Outcomes.{answer_text, answering}
 use Rattle.planner_cli.specs.Replies.{AnswerLines}
 use Rattle.planner_cli.specs.Rows.{AreDaysLines}

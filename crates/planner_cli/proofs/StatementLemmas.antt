@@ -6,9 +6,9 @@ use Rattle.planner_machine.specs.Statement.{Statement}
 use Rattle.plan_store.specs.declared.stores.PlanStore.{Ghosts}
 use Rattle.plan_store.specs.declared.stores.StoreFault.{StoreFault}
 use Rattle.plan_store.specs.declared.stores.StoreFault.TheVariants.{Memory}
-use Rattle.statements.specs.Statement.{Reads}
-use Rattle.statements.specs.declared.statements.Statement.{Statement as LineStatement}
-use Rattle.stream_items.specs.Items.{Alone, Block, Item, WithBlock}
+use Rattle.planner_cli_stream.specs.Statement.{Reads}
+use Rattle.planner_cli_stream.specs.declared.statements.Statement.{Statement as LineStatement}
+use Rattle.planner_cli_stream.specs.Items.{Alone, Block, Item, WithBlock}
 use Rattle.planner_cli.specs.Asked.{Asks, asked_alone, asked_with}
 use Rattle.planner_cli.specs.Outcomes.{refusing}
 use Rattle.planner_cli.specs.Replies.{Prints}

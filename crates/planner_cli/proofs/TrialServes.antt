@@ -46,10 +46,10 @@ use Rattle.planner_cli.specs.Trials.{carried_part, completed, daily_changes, del
 use Rattle.planner_cli.specs.Trials.{plan_changes}
 use Rattle.planner_cli.specs.Trials.{uncompleted, would_be_carried, would_be_deleted, would_be_history, would_be_made}
 use Rattle.planner_cli.specs.Trials.{would_be_moved, would_be_withdrawn}
-use Rattle.statements.specs.declared.statements.DailyFunction.{DailyFunction}
-use Rattle.statements.specs.declared.statements.DailyFunction.TheVariants as daily
-use Rattle.statements.specs.declared.statements.PlanFunction.{PlanFunction}
-use Rattle.statements.specs.declared.statements.PlanFunction.TheVariants as plan
+use Rattle.planner_cli_stream.specs.declared.statements.DailyFunction.{DailyFunction}
+use Rattle.planner_cli_stream.specs.declared.statements.DailyFunction.TheVariants as daily
+use Rattle.planner_cli_stream.specs.declared.statements.PlanFunction.{PlanFunction}
+use Rattle.planner_cli_stream.specs.declared.statements.PlanFunction.TheVariants as plan
 use Rattle.planner_cli.proofs.MovedLemmas.{gone_is, gone_was, is_gone, is_put, put_is, put_was}
 use Rattle.planner_cli.proofs.ShownLists.{shown_by}
 use Rattle.planner_cli.proofs.TrialLemmas.{AreCurrent, AreRowsOf, ComesIn, GoesOut, IsPlanFate, daily_apart}

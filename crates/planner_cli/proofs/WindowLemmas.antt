@@ -11,8 +11,8 @@ use Rattle.plan_store.specs.declared.changes.Verdict.TheVariants.{Done, Refused}
 use Rattle.plan_store.specs.declared.views.View.{View}
 use Rattle.daily_planning.specs.DailyPlans.{daily_need, plan_end_of}
 use Rattle.daily_planning.proofs.DailyWindowLemmas.{daily_cp}
-use Rattle.statements.specs.declared.statements.DailyFunction.{DailyFunction}
-use Rattle.statements.specs.declared.statements.DailyFunction.TheVariants.{Extend, ExtendBy, Replan}
+use Rattle.planner_cli_stream.specs.declared.statements.DailyFunction.{DailyFunction}
+use Rattle.planner_cli_stream.specs.declared.statements.DailyFunction.TheVariants.{Extend, ExtendBy, Replan}
 use Rattle.planner_cli.specs.Changes.{daily_change}
 use Rattle.planner_cli.specs.Verdicts.{IsDone, IsEnd}
 

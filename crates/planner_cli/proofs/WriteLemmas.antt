@@ -5,7 +5,7 @@ use Rattle.std.specs.Io.KnownBytes.{Appends}
 use Rattle.plan_store.specs.declared.stores.PlanStore.{Ghosts}
 use Rattle.plan_store.specs.declared.stores.StoreFault.{StoreFault}
 use Rattle.plan_store.specs.declared.stores.StoreFault.TheVariants as Stores
-use Rattle.stream_items.specs.Items.{Item}
+use Rattle.planner_cli_stream.specs.Items.{Item}
 use Rattle.planner_cli.specs.Faults.{store_cause}
 use Rattle.planner_cli.specs.Replies.{Answered, printed}
 use Rattle.planner_cli.specs.Runs.{IsFrontOf, ItemBreaks}

@@ -5,10 +5,10 @@ use Rattle.plan_store.specs.declared.listings.What.{What}
 use Rattle.plan_store.specs.declared.listings.What.TheVariants as what
 use Rattle.planner_machine.specs.Shown.{CurrentPlan, InDeletions, InHistory, LongTermPlan}
 use Rattle.planner_machine.specs.Statement.{Days, DefineJob, Job, ListLinks, ListPairs, ListRows, Statement, Trial}
-use Rattle.statements.specs.Statement.{Reads}
-use Rattle.statements.specs.declared.statements.Statement.{Statement as LineStatement}
-use Rattle.statements.specs.declared.statements.Statement.TheVariants as statement
-use Rattle.stream_items.specs.Items.{Alone, Block, Item, NoStatement, TooLong, Unended, Whole, WithBlock}
+use Rattle.planner_cli_stream.specs.Statement.{Reads}
+use Rattle.planner_cli_stream.specs.declared.statements.Statement.{Statement as LineStatement}
+use Rattle.planner_cli_stream.specs.declared.statements.Statement.TheVariants as statement
+use Rattle.planner_cli_stream.specs.Items.{Alone, Block, Item, NoStatement, TooLong, Unended, Whole, WithBlock}
 use Rattle.planner_cli.specs.Changes.{change_of, daily_change, plan_change}
 use Rattle.planner_cli.specs.Kinds.{definitions_kind, what_of}
 use Rattle.planner_cli.specs.Texts.{data_text, line_text}

@@ -1,12 +1,12 @@
 -- The change of the planner's machine that a statement requests.
 use Rattle.planner_machine.specs.Statement.{Act, Add, AddCurrent, Change, Create, DailyExtend, DailyExtendBy, Delete}
 use Rattle.planner_machine.specs.Statement.{Extend, ModifyAll, ModifyOne, Replan, Undefine}
-use Rattle.statements.specs.declared.statements.ChangeStatement.{ChangeStatement}
-use Rattle.statements.specs.declared.statements.ChangeStatement.TheVariants as change
-use Rattle.statements.specs.declared.statements.DailyFunction.{DailyFunction}
-use Rattle.statements.specs.declared.statements.DailyFunction.TheVariants as daily
-use Rattle.statements.specs.declared.statements.PlanFunction.{PlanFunction}
-use Rattle.statements.specs.declared.statements.PlanFunction.TheVariants as plan
+use Rattle.planner_cli_stream.specs.declared.statements.ChangeStatement.{ChangeStatement}
+use Rattle.planner_cli_stream.specs.declared.statements.ChangeStatement.TheVariants as change
+use Rattle.planner_cli_stream.specs.declared.statements.DailyFunction.{DailyFunction}
+use Rattle.planner_cli_stream.specs.declared.statements.DailyFunction.TheVariants as daily
+use Rattle.planner_cli_stream.specs.declared.statements.PlanFunction.{PlanFunction}
+use Rattle.planner_cli_stream.specs.declared.statements.PlanFunction.TheVariants as plan
 use Rattle.planner_cli.specs.Kinds.{count_of, definitions_kind}
 
 abbrev pub plan_change : PlanFunction → Change

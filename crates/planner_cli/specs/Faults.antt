@@ -2,8 +2,8 @@
 use Rattle.std.specs.Prelude.{◌≡◌, ◌≢◌, ℕ, List, [], Result, Ok, Err, ◌==◌, if◌then◌else◌, codes}
 use Rattle.planner_cli.specs.Replies.{ended}
 use Rattle.planner_cli.specs.declared.tally.Tally.{Tally}
-use Rattle.stream_items.specs.declared.lines.ReadFault.{ReadFault}
-use Rattle.stream_items.specs.declared.lines.ReadFault.TheVariants as Reads
+use Rattle.planner_cli_stream.specs.declared.lines.ReadFault.{ReadFault}
+use Rattle.planner_cli_stream.specs.declared.lines.ReadFault.TheVariants as Reads
 use Rattle.plan_store.specs.declared.stores.StoreFault.{StoreFault}
 use Rattle.plan_store.specs.declared.stores.StoreFault.TheVariants as Stores
 use Rattle.planner_cli.specs.declared.faults.Part.TheVariants.{Store, Reader, Writer}

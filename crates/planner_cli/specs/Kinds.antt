@@ -1,10 +1,10 @@
 -- The kind of definitions, the listing, and the days of an extension, that a statement names.
-use Rattle.statements.specs.declared.words.KindWord.{KindWord}
-use Rattle.statements.specs.declared.words.KindWord.TheVariants as word
-use Rattle.statements.specs.declared.words.CountWord.{CountWord}
-use Rattle.statements.specs.declared.words.CountWord.TheVariants as counts
-use Rattle.statements.specs.declared.words.WhatWord.{WhatWord}
-use Rattle.statements.specs.declared.words.WhatWord.TheVariants as words
+use Rattle.planner_cli_stream.specs.declared.words.KindWord.{KindWord}
+use Rattle.planner_cli_stream.specs.declared.words.KindWord.TheVariants as word
+use Rattle.planner_cli_stream.specs.declared.words.CountWord.{CountWord}
+use Rattle.planner_cli_stream.specs.declared.words.CountWord.TheVariants as counts
+use Rattle.planner_cli_stream.specs.declared.words.WhatWord.{WhatWord}
+use Rattle.planner_cli_stream.specs.declared.words.WhatWord.TheVariants as words
 use Rattle.plan_store.specs.declared.listings.What.{What}
 use Rattle.plan_store.specs.declared.listings.What.TheVariants as what
 use Rattle.app_definitions.specs.declared.kinds.Kind.{Kind}

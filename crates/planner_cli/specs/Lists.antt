@@ -4,7 +4,7 @@ use Rattle.plan_listings.specs.Line.{AreLinesOf}
 use Rattle.plan_store.specs.Listings.{IsListing, Shown}
 use Rattle.plan_store.specs.declared.listings.What.{What}
 use Rattle.planner_machine.specs.Content.{Content}
-use Rattle.stream_items.specs.Items.{Item}
+use Rattle.planner_cli_stream.specs.Items.{Item}
 use Rattle.planner_cli.specs.Asked.{Asks, list_asked}
 use Rattle.planner_cli.specs.Replies.{ended}
 use Rattle.planner_cli.specs.Rows.{IsShownText}

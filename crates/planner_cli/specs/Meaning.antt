@@ -1,7 +1,7 @@
 -- The meaning of a text: the replies to its items, in order, and what is known after them.
 use Rattle.std.specs.Prelude.{◌≡◌, List, [], ◌∷◌, ◌+◌, count_by}
 use Rattle.std.specs.Io.Iter.{u64_saturate}
-use Rattle.stream_items.specs.Items.{Item}
+use Rattle.planner_cli_stream.specs.Items.{Item}
 use Rattle.planner_cli.specs.Replies.{AnswerLines, is_accepted, is_refused}
 use Rattle.planner_cli.specs.declared.tally.Tally.{Tally}
 

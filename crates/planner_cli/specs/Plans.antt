@@ -5,7 +5,7 @@ use Rattle.planner_machine.specs.Content.{Content, StandsAt}
 use Rattle.planner_machine.specs.Sound.{IsSound}
 use Rattle.planner_machine.specs.Statement.{Answer, Statement}
 use Rattle.planner_machine.specs.Stream.{Goes, IsStatement, Lives, Runs}
-use Rattle.stream_items.specs.Items.{Item}
+use Rattle.planner_cli_stream.specs.Items.{Item}
 use Rattle.planner_cli.specs.Asked.{AreAsked}
 use Rattle.planner_cli.specs.Faults.{IsMildCause, cause_of, fault_line}
 use Rattle.planner_cli.specs.Runs.{Crashed, Ends, Ran, Stopped, with_last}

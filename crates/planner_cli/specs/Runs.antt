@@ -2,7 +2,7 @@
 use Rattle.std.specs.Prelude.{◌≡◌, ◌⊎◌, ℕ, ◌≤◌, List, ◌∷◌, ◌++◌, IfSome, Option, None, Some, flat_map, length, take}
 use Rattle.std.specs.Io.KnownBytes.{Appends}
 use Rattle.planner_machine.specs.Content.{Content}
-use Rattle.stream_items.specs.Items.{Item, items_of}
+use Rattle.planner_cli_stream.specs.Items.{Item, items_of}
 use Rattle.planner_cli.specs.Lists.{BeginsInHand, ListsInHand}
 use Rattle.planner_cli.specs.Replies.{AnswerLines, ended, printed, prints}
 use Rattle.planner_cli.specs.Meaning.{Answers, StepOf, tally_of}

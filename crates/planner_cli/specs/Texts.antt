@@ -1,6 +1,6 @@
 -- The texts of jobs, which show whether a job is repeated.
 use Rattle.std.specs.Prelude.{ℕ, List, ◌∷◌, ◌++◌}
-use Rattle.statement_words.specs.Line.{joined, words_of}
+use Rattle.planner_cli_stream.specs.Line.{joined, words_of}
 
 -- the words of the line, joined by one blank
 abbrev pub line_text : List ℕ → List ℕ

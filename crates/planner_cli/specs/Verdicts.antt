@@ -10,11 +10,11 @@ use Rattle.plan_store.specs.declared.changes.Verdict.{Verdict}
 use Rattle.plan_store.specs.declared.changes.Verdict.TheVariants.{Done, Refused}
 use Rattle.plan_store.specs.declared.stores.Need.{Need}
 use Rattle.plan_store.specs.declared.stores.Need.TheVariants as need
-use Rattle.statements.specs.declared.statements.ChangeStatement.{ChangeStatement}
-use Rattle.statements.specs.declared.statements.ChangeStatement.TheVariants as statement
-use Rattle.statements.specs.declared.statements.DailyFunction.{DailyFunction}
-use Rattle.statements.specs.declared.statements.DailyFunction.TheVariants as daily
-use Rattle.statements.specs.declared.statements.PlanFunction.{PlanFunction}
+use Rattle.planner_cli_stream.specs.declared.statements.ChangeStatement.{ChangeStatement}
+use Rattle.planner_cli_stream.specs.declared.statements.ChangeStatement.TheVariants as statement
+use Rattle.planner_cli_stream.specs.declared.statements.DailyFunction.{DailyFunction}
+use Rattle.planner_cli_stream.specs.declared.statements.DailyFunction.TheVariants as daily
+use Rattle.planner_cli_stream.specs.declared.statements.PlanFunction.{PlanFunction}
 use Rattle.daily_planning.specs.DailyPlans.{IsEndBy, daily_need, plan_end_of}
 use Rattle.planner_cli.specs.Changes.{change_of}
 use Rattle.planner_cli.specs.Kinds.{count_of}

@@ -4,7 +4,7 @@ use Rattle.std.specs.Io.KnownBytes.{Appends, Keeps}
 use Rattle.plan_store.specs.declared.stores.PlanStore.{Ghosts}
 use Rattle.plan_store.specs.declared.stores.StoreFault.{StoreFault}
 use Rattle.planner_machine.specs.Content.{Content}
-use Rattle.stream_items.specs.Items.{Item}
+use Rattle.planner_cli_stream.specs.Items.{Item}
 use Rattle.planner_cli.specs.Faults.{IsMildCause, store_cause}
 use Rattle.planner_cli.specs.Replies.{Answered, AnswerLines}
 use Rattle.planner_cli.specs.Runs.{IsFrontOf, ItemBreaks}

@@ -17,7 +17,7 @@ use crate::kinds::definitions_kind;
 use app_definitions::Block;
 use occurrences::Refusal;
 use plan_store::{Need, Verdict, View};
-use statements::{ChangeStatement, DailyFunction, PlanFunction};
+use planner_cli_stream::{ChangeStatement, DailyFunction, PlanFunction};
 use std::alloc::{AllocError, Global};
 use work_calendars::Moment;
 

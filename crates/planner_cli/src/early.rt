@@ -7,7 +7,7 @@ ghost use Rattle.planner_cli.specs.Stores.{ReadsBy};
 use crate::decisions::plan_refusal;
 use occurrences::Refusal;
 use plan_store::{Need, PlanStore, StoreFault};
-use statements::PlanFunction;
+use planner_cli_stream::PlanFunction;
 
 /// Asks a store why a change of the long-term plan is refused by the bounds and its days. It reads no row, and nothing of
 /// history or of the deletions.

@@ -10,7 +10,7 @@ ghost use Rattle.planner_cli.specs.Verdicts.{IsEnd};
 use crate::kinds::count_of;
 use plan_store::{Need, PlanStore, StoreFault, View};
 use planner_machine::Bounds;
-use statements::DailyFunction;
+use planner_cli_stream::DailyFunction;
 use std::alloc::{AllocError, Global};
 use work_calendars::Moment;
 

@@ -7,7 +7,7 @@ ghost use Rattle.planner_machine.specs.Laws.{IsWellFormed};
 ghost use Rattle.planner_machine.specs.Sound.{IsSound};
 ghost use Rattle.planner_machine.specs.Statement.{Answer as AnswerValue, decision_of};
 ghost use Rattle.plan_store.specs.Changes.{Fits, after};
-ghost use Rattle.statements.specs.JobNumber.{IsJobNumber};
+ghost use Rattle.planner_cli_stream.specs.JobNumber.{IsJobNumber};
 ghost use Rattle.planner_cli.specs.Changes.{plan_change};
 ghost use Rattle.planner_cli.specs.Outcomes.{answering};
 ghost use Rattle.planner_cli.specs.Stores.{AnswersBy, ReadsBy};
@@ -21,7 +21,7 @@ use crate::ends::find_end;
 use occurrences::{Refusal, Reply};
 use plan_store::{Change, PlanStore, StoreFault, Verdict};
 use planner_machine::{Answer, Job, JobText, streams};
-use statements::{ChangeStatement, PlanFunction};
+use planner_cli_stream::{ChangeStatement, PlanFunction};
 use std::alloc::Global;
 use work_calendars::Moment;
 

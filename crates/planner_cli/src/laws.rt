@@ -7,7 +7,7 @@ use planner_machine::{
     fresh_plans as machine_fresh_plans, reruns as machine_reruns, sound_content_stays_sound,
     streams,
 };
-use statements::one_statement_per_line;
+use planner_cli_stream::one_statement_per_line;
 
 /// Law: a stream that is run again from its start, on what its first statements left, ends as one uninterrupted run.
 /// There is such a run from the first content; it leaves the same content, and each statement with a job number gets

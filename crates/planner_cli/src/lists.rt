@@ -6,7 +6,7 @@ ghost use Rattle.planner_machine.specs.Sound.{IsSound};
 ghost use Rattle.plan_store.specs.Faults.{IsMildListing};
 ghost use Rattle.plan_store.specs.Listings.{IsListing, item_shown};
 ghost use Rattle.plan_store.specs.declared.listings.ListFault.TheVariants as list_fault;
-ghost use Rattle.stream_items.specs.Items.{Alone};
+ghost use Rattle.planner_cli_stream.specs.Items.{Alone};
 ghost use Rattle.planner_cli.specs.Asked.{Asks, list_asked};
 ghost use Rattle.planner_cli.specs.Replies.{ended};
 ghost use Rattle.planner_cli.specs.Runs.{IsFrontOf};

@@ -2,10 +2,10 @@
 ghost use Rattle.std.specs.Prelude.{◌≡◌, ◌≤◌, Some, length};
 ghost use Rattle.planner_machine.specs.Sound.{IsSound};
 ghost use Rattle.planner_machine.specs.Statement.{DefineJob, Job as JobStatement};
-ghost use Rattle.statements.specs.JobNumber.{IsJobNumber};
-ghost use Rattle.statements.specs.Statement.{Reads};
-ghost use Rattle.stream_items.specs.Items.{WithBlock, longest_block};
-ghost use Rattle.stream_items.specs.Pages.{block_shown, BlockFits};
+ghost use Rattle.planner_cli_stream.specs.JobNumber.{IsJobNumber};
+ghost use Rattle.planner_cli_stream.specs.Statement.{Reads};
+ghost use Rattle.planner_cli_stream.specs.Items.{WithBlock, longest_block};
+ghost use Rattle.planner_cli_stream.specs.Pages.{block_shown, BlockFits};
 ghost use Rattle.planner_cli.specs.Asked.{define_asked};
 ghost use Rattle.planner_cli.specs.Changes.{change_of};
 ghost use Rattle.planner_cli.specs.Steps.{Serves, Step};
@@ -22,10 +22,10 @@ use app_definitions::{BlockFault, Kind, read_block};
 use occurrences::Refusal;
 use plan_store::{PlanStore, StoreFault};
 use planner_machine::JobText;
-use statement_words::joined_words;
-use statements::{ChangeStatement, Statement, read_statement};
+use planner_cli_stream::joined_words;
+use planner_cli_stream::{ChangeStatement, Statement, read_statement};
 use std::alloc::Global;
-use stream_items::Block;
+use planner_cli_stream::Block;
 
 /// Replies to a change without data. The reply is made before anything is changed; if memory for it is refused,
 /// nothing changes.

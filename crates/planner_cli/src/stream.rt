@@ -3,9 +3,9 @@ ghost use Rattle.std.specs.Prelude.{◌≡◌, ◌<◌, ◌≤◌, ℕ, [], fals
 ghost use Rattle.std.specs.Io.KnownBytes.{Appends};
 ghost use Rattle.planner_machine.specs.Content.{Content};
 ghost use Rattle.planner_machine.specs.Sound.{IsSound};
-ghost use Rattle.statements.specs.Statement.{Reads};
-ghost use Rattle.stream_items.specs.Items.{Alone};
-ghost use Rattle.stream_items.specs.Pages.{item_of, FitsBlock};
+ghost use Rattle.planner_cli_stream.specs.Statement.{Reads};
+ghost use Rattle.planner_cli_stream.specs.Items.{Alone};
+ghost use Rattle.planner_cli_stream.specs.Pages.{item_of, FitsBlock};
 ghost use Rattle.planner_cli.specs.Faults.{IsMildCause, cause_of, fault_line, status_of};
 ghost use Rattle.planner_cli.specs.Plans.{RunsPlan};
 ghost use Rattle.planner_cli.specs.Runs.{Crashed, Ran, Stopped, StoppedSomehow, ends_of};
@@ -27,10 +27,10 @@ use crate::writing::{write_answer, write_bytes};
 use app_occurrences::CalendarIndexes;
 use plan_store::PlanStore;
 use planner_machine::streams;
-use statements::{Statement, read_statement};
+use planner_cli_stream::{Statement, read_statement};
 use std::alloc::Global;
 use std::io::{BufRead, Write};
-use stream_items::{Block, Item, Page};
+use planner_cli_stream::{Block, Item, Page};
 
 /// Processes the items of a stream in order: each is a step of the planner on the content of the store, and its reply
 /// is printed. It ends with the stream or at the first fault. A fault of memory, of the store or of the reader writes

@@ -2,7 +2,7 @@
 ghost use Rattle.std.specs.Prelude.{◌≡◌, IfOk};
 ghost use Rattle.planner_cli.specs.Texts.{data_text};
 
-use statement_words::joined_words;
+use planner_cli_stream::joined_words;
 use std::alloc::{AllocError, Global};
 
 /// The text of a `define`: the words of its line joined by one blank, a line feed, and the bytes of its block.

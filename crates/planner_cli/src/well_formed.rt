@@ -2,7 +2,7 @@
 ghost use Rattle.planner_machine.specs.Laws.{IsWellFormed};
 ghost use Rattle.planner_cli.specs.Changes.{change_of, plan_change};
 
-use statements::{ChangeStatement, DailyFunction, PlanFunction};
+use planner_cli_stream::{ChangeStatement, DailyFunction, PlanFunction};
 
 /// Law: the same of a change of the long-term plan: a first day is a day.
 pub(crate) fn plan_is_well_formed(function: &PlanFunction)

@@ -1,6 +1,6 @@
 use Rattle.std.proofs.Common.{inl, inr, subst, sym}
 use Rattle.planner_machine.specs.Statement.{decision_of}
-use Rattle.statements.specs.declared.statements.PlanFunction.{PlanFunction}
+use Rattle.planner_cli_stream.specs.declared.statements.PlanFunction.{PlanFunction}
 use Rattle.long_term_plan.specs.Early.{IsRefusedEarly}
 use Rattle.planner_cli.specs.Changes.{plan_change}
 use Rattle.planner_cli.proofs.decisions.plan_refusal.Goals as goal

@@ -1,7 +1,7 @@
 use Rattle.std.proofs.Common.{refl, rules, None}
-use Rattle.statements.specs.Statement.{Reads}
-use Rattle.stream_items.specs.Items.{WithBlock}
-use Rattle.stream_items.specs.Pages.{block_shown}
+use Rattle.planner_cli_stream.specs.Statement.{Reads}
+use Rattle.planner_cli_stream.specs.Items.{WithBlock}
+use Rattle.planner_cli_stream.specs.Pages.{block_shown}
 use Rattle.planner_cli.proofs.StatementLemmas.{item_refused}
 use Rattle.planner_cli.proofs.StoreLemmas.{refused_so}
 use Rattle.planner_cli.proofs.steps.answer_with_data.Goals as goal

@@ -1,7 +1,7 @@
 use Rattle.std.proofs.Common.{sym, ap, ◌∙◌, arith}
 use Rattle.std.specs.Option.{option_map}
-use Rattle.stream_items.specs.Pages.{item_of}
-use Rattle.stream_items.specs.declared.lines.ReadFault.TheVariants as Reads
+use Rattle.planner_cli_stream.specs.Pages.{item_of}
+use Rattle.planner_cli_stream.specs.declared.lines.ReadFault.TheVariants as Reads
 use Rattle.planner_cli.proofs.PlanLemmas.{step_sound}
 use Rattle.planner_cli.proofs.Progress.{crashes_between, crashes_within, halts_between, halts_within}
 use Rattle.planner_cli.proofs.Progress.{progress_answers, progress_starts}

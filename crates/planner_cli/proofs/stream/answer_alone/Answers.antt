@@ -1,6 +1,6 @@
 use Rattle.std.proofs.Common.{refl, rules, None}
-use Rattle.statements.specs.Statement.{Reads}
-use Rattle.stream_items.specs.Items.{Alone}
+use Rattle.planner_cli_stream.specs.Statement.{Reads}
+use Rattle.planner_cli_stream.specs.Items.{Alone}
 use Rattle.planner_cli.proofs.StatementLemmas.{item_refused}
 use Rattle.planner_cli.proofs.WriteLemmas.{wrote, wrote_nothing}
 use Rattle.planner_cli.proofs.stream.answer_alone.Goals as goal

@@ -1,0 +1,15 @@
+pub mod Uses
+pub mod Looks
+pub mod Rules
+pub mod Rows
+pub mod Turns
+pub mod Ends
+pub mod Steps
+pub mod WordReading
+pub mod Written
+pub mod LineLemmas
+pub mod Kept
+pub mod Text
+pub mod Parts
+pub mod JobNumberLemmas
+pub mod OneStatement

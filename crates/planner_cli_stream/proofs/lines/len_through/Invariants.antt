@@ -1,0 +1,9 @@
+-- so far no line feed was met
+use Rattle.std.proofs.Common.{◌≢◌, ◌-◌, ◌≤◌, All, length, take}
+use Rattle.planner_cli_stream.proofs.lines.len_through.Given as goal
+
+abbrev pub invariant-loop-i : goal.invariant-loop-i
+invariant-loop-i l = (l.i ≤ length l.bytes) × All (λ x. x ≢ 10) (take l.i l.bytes)
+
+abbrev pub decreases-loop-i : goal.decreases-loop-i
+decreases-loop-i l = length l.bytes - l.i

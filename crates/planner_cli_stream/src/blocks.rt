@@ -1,0 +1,70 @@
+//! The data after a line.
+ghost use Rattle.std.specs.Prelude.{◌≡◌, ◌≤◌, length, max, IfOk, IfSome};
+ghost use Rattle.planner_cli_stream.specs.Blocks.{BlockRead, ending_of};
+ghost use Rattle.planner_cli_stream.specs.Items.{block_room, end_room, longest_block};
+
+use crate::line_kinds::ends_data;
+use crate::lines::{ReadFault, read_line, trim_line_end};
+use std::io::BufRead;
+
+/// The most bytes that a block of data may have.
+pub const LONGEST_BLOCK: usize = 262_144;
+
+/// How many bytes of a line of data are held apart from its block: those of `/*` and of its end.
+const END_ROOM: usize = 4;
+
+/// How many bytes of a block are held: one more than it may have.
+const BLOCK_ROOM: usize = LONGEST_BLOCK + 1;
+
+/// How data ended.
+#[derive(Clone, Copy, Debug, PartialEq, Eq)]
+pub enum Ending {
+    /// By a line that is `/*`.
+    Whole,
+    /// By such a line, after more bytes than a block may have.
+    TooLong,
+    /// With the stream.
+    Unended,
+}
+
+/// Reads data up to the line that ends them, and that line. `block` then holds all bytes before it, as far as there is
+/// room; `line` is overwritten.
+pub fn read_block<R: BufRead>(
+    reader: &mut R,
+    line: &mut Vec<u8>,
+    block: &mut Vec<u8>,
+) -> Result<Ending, ReadFault>
+    ensures read { IfOk result (λ ending. IfSome (R.remaining reader.old) (λ text.
+        BlockRead text ending block.new.items (R.remaining reader.new))) }
+    // At any reader, and also after a fault.
+    ensures line_bound { length line.new.items ≤ max end_room (length line.old.items) }
+    ensures block_bound { length block.new.items ≤ block_room }
+    ensures fits { result ≡ Ok Ending.Whole → length block.new.items ≤ longest_block }
+{
+    block.clear();
+    for _ in 0..u64::MAX {
+        let held = block.len();
+        line.clear();
+        if !read_line(reader, line, END_ROOM, block, BLOCK_ROOM)? {
+            return Ok(Ending::Unended);
+        }
+        trim_line_end(line);
+        if ends_data(line) {
+            block.truncate(held);
+            return Ok(ending_of(held));
+        }
+    }
+    Err(ReadFault::Reader)
+}
+
+/// How data ended of which so many bytes were held.
+fn ending_of(held: usize) -> Ending
+    ensures value { result ≡ ending_of held }
+    ensures fits { result ≡ Ending.Whole → held ≤ longest_block }
+{
+    if held > LONGEST_BLOCK {
+        Ending::TooLong
+    } else {
+        Ending::Whole
+    }
+}

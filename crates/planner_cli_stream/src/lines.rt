@@ -1,0 +1,134 @@
+//! Lines of a reader, of which only the first bytes are kept.
+ghost use Rattle.std.specs.Prelude.{◌≡◌, ◌≢◌, ◌↔◌, ◌-◌, ◌<◌, ◌≤◌, length, max, take};
+ghost use Rattle.std.specs.Prelude.{All, IfOk, OnOk, OnErr, IfSome, IsTrue};
+ghost use Rattle.std.specs.Io.BufRead.{take_through, strip_last, DropsThrough};
+ghost use Rattle.planner_cli_stream.specs.Buffers.{kept, TakesPart};
+ghost use Rattle.planner_cli_stream.specs.Lines.{line_of};
+
+use std::io::BufRead;
+
+/// Why a line could not be read.
+#[derive(Clone, Copy, Debug, PartialEq, Eq)]
+pub enum ReadFault {
+    /// Memory was refused.
+    Memory,
+    /// The reader failed.
+    Reader,
+}
+
+/// The length up to and including the first line feed, or the whole length.
+fn len_through(bytes: &[u8]) -> usize
+    ensures bound { result ≤ length bytes.now }
+    ensures some { 0 < length bytes.now → 0 < result }
+    ensures before { All (λ x. x ≢ 10) (take (result - 1) bytes.now) }
+{
+    let mut i = 0;
+    while i < bytes.len() {
+        if bytes[i] == b'\n' {
+            return i + 1;
+        }
+        i += 1;
+    }
+    i
+}
+
+/// Appends `bytes` as far as there is room for them below `limit`.
+#[tactic(auto, using(crate::proofs::Kept::kept_bound))]
+fn keep(held: &mut Vec<u8>, limit: usize, bytes: &[u8]) -> Result<(), ReadFault>
+    ensures ok { OnOk result (held.new.items ≡ kept limit held.old.items bytes.now) }
+    ensures err { OnErr result (held.new.items ≡ held.old.items) }
+    ensures bound { length held.new.items ≤ max limit (length held.old.items) }
+{
+    // A buffer past its limit keeps what it has. No buffer here is past it, and no caller has to prove that.
+    let room = limit.saturating_sub(held.len()).min(bytes.len());
+    match held.extend_from_slice(&bytes[..room]) {
+        Ok(()) => Ok(()),
+        Err(_) => Err(ReadFault::Memory),
+    }
+}
+
+/// What was consumed of a line at once.
+struct Taken {
+    /// How many bytes.
+    len: usize,
+    /// Whether they end with the line's end, or the reader has no more.
+    is_done: bool,
+}
+
+/// Consumes what the reader shows of a line, and puts its first bytes into both buffers.
+fn take_part<R: BufRead>(
+    reader: &mut R,
+    head: &mut Vec<u8>,
+    head_limit: usize,
+    all: &mut Vec<u8>,
+    all_limit: usize,
+) -> Result<Taken, ReadFault>
+    ensures part { IfOk result (λ taken. TakesPart (R.remaining reader.old) (R.remaining reader.new)
+        head_limit head.old.items head.new.items all_limit all.old.items all.new.items taken) }
+    ensures head_bound { length head.new.items ≤ max head_limit (length head.old.items) }
+    ensures all_bound { length all.new.items ≤ max all_limit (length all.old.items) }
+{
+    let available = match reader.fill_buf() {
+        Ok(available) => available,
+        Err(_) => return Err(ReadFault::Reader),
+    };
+    let end = len_through(available);
+    let is_done = end == 0 || available[end - 1] == b'\n';
+    keep(head, head_limit, &available[..end])?;
+    keep(all, all_limit, &available[..end])?;
+    reader.consume(end);
+    Ok(Taken { len: end, is_done })
+}
+
+/// Consumes one line of a reader, with its line feed. `head` and `all` each get its bytes as far as they have room.
+/// Returns whether there was a line. Every error of the reader is a fault.
+pub fn read_line<R: BufRead>(
+    reader: &mut R,
+    head: &mut Vec<u8>,
+    head_limit: usize,
+    all: &mut Vec<u8>,
+    all_limit: usize,
+) -> Result<bool, ReadFault>
+    ensures some { IfOk result (λ any. IfSome (R.remaining reader.old) (λ xs. IsTrue any
+        ↔ (0 < length xs))) }
+    ensures rest { OnOk result (DropsThrough (R.remaining reader.old) (R.remaining reader.new) 10) }
+    ensures head { OnOk result (IfSome (R.remaining reader.old)
+        (λ xs. head.new.items ≡ kept head_limit head.old.items (take_through 10 xs))) }
+    ensures all { OnOk result (IfSome (R.remaining reader.old)
+        (λ xs. all.new.items ≡ kept all_limit all.old.items (take_through 10 xs))) }
+    // At any reader, and also after a fault.
+    ensures head_bound { length head.new.items ≤ max head_limit (length head.old.items) }
+    ensures all_bound { length all.new.items ≤ max all_limit (length all.old.items) }
+{
+    let mut total = 0usize;
+    for _ in 0..u64::MAX {
+        let Taken { len, is_done } = take_part(reader, head, head_limit, all, all_limit)?;
+        total = total.saturating_add(len);
+        if is_done {
+            return Ok(total > 0);
+        }
+    }
+    Err(ReadFault::Reader)
+}
+
+/// Removes the last byte if it is `byte`.
+#[tactic(auto, using(crate::proofs::Kept::strip_last_shorter))]
+fn pop_if_last(bytes: &mut Vec<u8>, byte: u8)
+    ensures items { bytes.new.items ≡ strip_last byte bytes.old.items }
+    ensures shorter { length bytes.new.items ≤ length bytes.old.items }
+{
+    let n = bytes.len();
+    if n > 0 && bytes[n - 1] == byte {
+        bytes.truncate(n - 1);
+    }
+}
+
+/// Cuts off the line feed that ends a line, and then one carriage return.
+#[tactic(auto, unfolding(crate::specs::Lines::line_of))]
+pub fn trim_line_end(line: &mut Vec<u8>)
+    ensures line { line.new.items ≡ line_of line.old.items }
+    ensures shorter { length line.new.items ≤ length line.old.items }
+{
+    pop_if_last(line, b'\n');
+    pop_if_last(line, b'\r');
+}

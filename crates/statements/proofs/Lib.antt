@@ -1,2 +1,0 @@
-pub mod JobNumberLemmas
-pub mod OneStatement
