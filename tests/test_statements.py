@@ -73,7 +73,7 @@ class Statements(unittest.TestCase):
         ways = {"W": [], "S": ["start"], "E": ["start", "fail"], "C": ["start", "complete"]}
         for before, way in ways.items():
             for word, act in statements.ACTS.items():
-                stream = (TOP / "crates" / "worked_streams" / "data" / "monday.in").read_text().split("cp-start")[0]
+                stream = (TOP / "crates" / "test_streams" / "data" / "monday.in").read_text().split("cp-start")[0]
                 acts = [*way, word]
                 stream += "".join(f"cp-{one} --app LEDGER --ia 2024-01-01/18.00 --job {900 + at}\n"
                                   for at, one in enumerate(acts))
@@ -83,7 +83,7 @@ class Statements(unittest.TestCase):
 
     def test_an_act_may_change_pairs_as_the_table_says(self):
         """Acts where a nearer predecessor was added meanwhile: those that change pairs are those that may."""
-        stream = (TOP / "crates" / "worked_streams" / "data" / "monday.in").read_text().split("cp-start")[0]
+        stream = (TOP / "crates" / "test_streams" / "data" / "monday.in").read_text().split("cp-start")[0]
         steps = ("start LEDGER 18", "complete LEDGER 18", "start REPORT 20", "fail REPORT 20", "add LEDGER 19",
                  "reset REPORT 20", "delete LEDGER 19")
         for job, (word, app, hour) in enumerate(map(str.split, steps), 900):

@@ -28,8 +28,8 @@ import plain_planner as plain
 import plan_rows
 
 PROGRAM = Path(os.environ.get("OPCPLAN") or TOP / "crates" / "opcplan" / "out" / "opcplan")
-DATA = TOP / "crates" / "worked_streams" / "data"
-SCHEMA = TOP / "crates" / "table_schema" / "src" / "texts.rt"
+DATA = TOP / "crates" / "test_streams" / "data"
+SCHEMA = TOP / "crates" / "plan_tables_schema" / "src" / "texts.rt"
 
 
 def as_bytes(text):

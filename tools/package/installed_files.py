@@ -11,7 +11,7 @@ import completions
 import man_pages
 
 TOP = Path(__file__).resolve().parents[2]
-DATA = TOP / "crates" / "worked_streams" / "data"
+DATA = TOP / "crates" / "test_streams" / "data"
 EXAMPLES = ["first-days", "monday", "tuesday"]
 # all pages but those for one who has the sources
 FOR_SOURCES = {"ARCHITECTURE.md", "CLAIMS.md", "CONTRIBUTING.md", "DECISIONS.md", "DEFINITIONS.md", "KIT.md"}
@@ -40,7 +40,7 @@ OF_TOP = {
     "Type the first line in the top folder of this repository: it makes the new folder, puts both commands there, and":
     "The first line makes the new folder, and",
 }
-STREAM = re.compile(rf"(?<![\w./-])crates/worked_streams/data/(?=(?:{'|'.join(EXAMPLES)})\.in\b)")
+STREAM = re.compile(rf"(?<![\w./-])crates/test_streams/data/(?=(?:{'|'.join(EXAMPLES)})\.in\b)")
 
 
 @dataclass

@@ -30,7 +30,7 @@ fn main(rt: HostRuntime) -> ExitCode {
 }
 """
 # the program that is compiled for streams over lists, the crate that it uses, and the two that run over files
-PROGRAM, PLANNER, STREAMS, OPCPLAN = "over_lists", "planner_cli", "worked_streams", "opcplan"
+PROGRAM, PLANNER, STREAMS, OPCPLAN = "over_lists", "planner_cli", "test_streams", "opcplan"
 # what is asked of a plan file of the worked streams, and the stream that an earlier program made it of
 LISTS = b"list ltp\nlist cp\nlist history\nlist deletions\nlist dependencies\nlist links\n"
 MADE_OF = {"schema-1.db": "two-hundred-statements"}
@@ -182,7 +182,7 @@ def over_lists(rt: str, room: Path, data: Path, names: list[str]) -> dict[str, O
 
 
 def over_files(rt: str, room: Path, data: Path, names: list[str]) -> dict[str, Outcome]:
-    """Runs worked streams by the program `worked_streams`, as streams.txt says."""
+    """Runs worked streams by the program `test_streams`, as streams.txt says."""
     streams, listed = listed_streams(data), room / "streams.txt"
     listed.write_text("".join(f"{streams[name]}\n" for name in names))
     words = [rt, "try", "--steps", "1", "--seconds", LONGEST, "--data", f"streams.txt={listed}"]

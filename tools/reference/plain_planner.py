@@ -3,7 +3,7 @@
 
 It reads a job stream on standard input and prints what the planner has to answer. It shares nothing with the product,
 proves nothing, and is slow; `tools/soak/compare` holds the product against it, and the expected values of long streams
-in crates/worked_streams/data come from it. """
+in crates/test_streams/data come from it. """
 import bisect
 import csv
 import datetime

@@ -14,7 +14,7 @@ sys.dont_write_bytecode = True
 import plain_planner as plain  # noqa: E402
 
 PROGRAM = Path(os.environ.get("OPCPLAN") or TOP / "crates" / "opcplan" / "out" / "opcplan")
-DATA = TOP / "crates" / "worked_streams" / "data"
+DATA = TOP / "crates" / "test_streams" / "data"
 # of the tables that the program makes
 VERSION = 2
 # a stream that leaves rows in each table

@@ -5,24 +5,24 @@ use Rattle.std.specs.Prelude.{◌-◌, None, Option, Some, cond}
 use Rattle.std.specs.Cmp.Lexicographic.{pointwise, slice_cmp, nat_list_cmp_total}
 use Rattle.std.specs.FinMap as finite
 use Rattle.std.specs.FinMap.{get-empty, len-empty, len-remove}
-use Rattle.definition_records.proofs.ByNameLemmas.{get-removed, same_by_name}
+use Rattle.app_definition_records.proofs.ByNameLemmas.{get-removed, same_by_name}
 use Rattle.std.specs.Ordering.{nat_cmp}
-use Rattle.definition_records.specs.Applications.{FitsApplication, IsApplicationOf}
+use Rattle.app_definition_records.specs.Applications.{FitsApplication, IsApplicationOf}
 use Rattle.app_definitions.specs.Blocks.{Gives, ReadsAs}
-use Rattle.definition_records.specs.ByName.{AreGivenBy, IsDefinedBy, records_of}
-use Rattle.definition_records.specs.Calendars.{FitsCalendar, IsCalendarOf}
-use Rattle.definition_records.specs.CycleRecords.{FitsRunCycle, AreRunCyclesOf}
-use Rattle.definition_records.specs.Periods.{FitsPeriod, IsPeriodOf}
-use Rattle.definition_records.specs.Predecessors.{FitsPredecessors, ArePredecessorsOf}
+use Rattle.app_definition_records.specs.ByName.{AreGivenBy, IsDefinedBy, records_of}
+use Rattle.app_definition_records.specs.Calendars.{FitsCalendar, IsCalendarOf}
+use Rattle.app_definition_records.specs.CycleRecords.{FitsRunCycle, AreRunCyclesOf}
+use Rattle.app_definition_records.specs.Periods.{FitsPeriod, IsPeriodOf}
+use Rattle.app_definition_records.specs.Predecessors.{FitsPredecessors, ArePredecessorsOf}
 use Rattle.app_definitions.specs.Definitions.{names_given}
-use Rattle.definition_records.specs.Fields.{field}
-use Rattle.definition_records.specs.Records.{block_records}
+use Rattle.app_definition_records.specs.Fields.{field}
+use Rattle.app_definition_records.specs.Records.{block_records}
 use Rattle.app_definitions.specs.declared.kinds.Block.{Block}
 use Rattle.app_definitions.specs.declared.kinds.Block.TheVariants as block
 use Rattle.app_definitions.specs.declared.kinds.Kind.{Kind}
 use Rattle.app_definitions.specs.declared.kinds.Kind.TheVariants as kind
-use Rattle.definition_records.specs.FieldCounts.{HasApplicationFields, HasCalendarFields, HasCycleFields}
-use Rattle.definition_records.specs.FieldCounts.{HasPeriodFields, HasPredecessorFields}
+use Rattle.app_definition_records.specs.FieldCounts.{HasApplicationFields, HasCalendarFields, HasCycleFields}
+use Rattle.app_definition_records.specs.FieldCounts.{HasPeriodFields, HasPredecessorFields}
 use Rattle.csv.specs.Machine.{Read, next_record}
 use Rattle.csv.specs.Reading.{default_config, is_bom, records_from, records_next, strip_bom}
 use Rattle.csv.specs.declared.parser.Config.{Config}

@@ -28,35 +28,35 @@ use Rattle.work_calendars.specs.Calendar.{CalendarEntries}
 use Rattle.work_calendars.specs.declared.statuses.DayStatus.{DayStatus}
 use Rattle.work_calendars.specs.Spelling.{SpellsDay}
 use Rattle.work_calendars.proofs.SpellingFacts.{SpellsDay-one_day, SpellsDay-one_text, SpellsMinute-one_minute}
-use Rattle.definition_records.specs.Applications.{FitsApplication, IsApplicationOf}
+use Rattle.app_definition_records.specs.Applications.{FitsApplication, IsApplicationOf}
 use Rattle.app_definitions.specs.Blocks.{Gives, ReadsAs, IsFaultyAt}
-use Rattle.definition_records.specs.ByName.{records_of, FitsKind, IsDefinedBy, AreGivenBy}
-use Rattle.definition_records.specs.Calendars.{FitsCalendar, IsCalendarOf, IsListedBy, IsWeekdayText, status_of}
-use Rattle.definition_records.specs.CycleRecords.{FitsRunCycle, SpellsDeadline, SpellsType, SpellsRunCycle}
-use Rattle.definition_records.specs.CycleRecords.{AreRunCyclesOf, rule_text}
-use Rattle.definition_records.specs.Fields.{field, IsNumberUpTo}
+use Rattle.app_definition_records.specs.ByName.{records_of, FitsKind, IsDefinedBy, AreGivenBy}
+use Rattle.app_definition_records.specs.Calendars.{FitsCalendar, IsCalendarOf, IsListedBy, IsWeekdayText, status_of}
+use Rattle.app_definition_records.specs.CycleRecords.{FitsRunCycle, SpellsDeadline, SpellsType, SpellsRunCycle}
+use Rattle.app_definition_records.specs.CycleRecords.{AreRunCyclesOf, rule_text}
+use Rattle.app_definition_records.specs.Fields.{field, IsNumberUpTo}
 use Rattle.app_definitions.specs.Options.{AreOptionsOf, GivesCalendar, GivesHours}
-use Rattle.definition_records.specs.Periods.{FitsPeriod, IsPeriodOf, GivesEntry, GiveEntries}
-use Rattle.definition_records.specs.declared.predecessors.Predecessor.{Predecessor}
-use Rattle.definition_records.specs.Predecessors.{FitsPredecessors, ArePredecessorsOf}
-use Rattle.definition_records.specs.Records.{Record, Records, AllGood, FirstFaulty, block_records}
-use Rattle.definition_records.specs.declared.applications.Application.{Application}
+use Rattle.app_definition_records.specs.Periods.{FitsPeriod, IsPeriodOf, GivesEntry, GiveEntries}
+use Rattle.app_definition_records.specs.declared.predecessors.Predecessor.{Predecessor}
+use Rattle.app_definition_records.specs.Predecessors.{FitsPredecessors, ArePredecessorsOf}
+use Rattle.app_definition_records.specs.Records.{Record, Records, AllGood, FirstFaulty, block_records}
+use Rattle.app_definition_records.specs.declared.applications.Application.{Application}
 use Rattle.app_definitions.specs.declared.kinds.Block.{Block}
 use Rattle.app_definitions.specs.declared.kinds.Block.TheVariants as block
 use Rattle.app_definitions.specs.declared.kinds.Kind.{Kind}
 use Rattle.app_definitions.specs.declared.kinds.Kind.TheVariants as kind
 use Rattle.app_definitions.specs.declared.options.Options.{Options}
 use Rattle.app_definitions.specs.declared.options.TheConstants.{MAX_EXTENSION_HOURS}
-use Rattle.definition_records.proofs.ByNameLemmas.{Definitions, same_by_name, same_name, name_itself}
-use Rattle.definition_records.proofs.CalendarLemmas.{weekday-one_text}
-use Rattle.definition_records.proofs.PeriodLemmas.{one_end}
-use Rattle.definition_records.proofs.RisingLemmas.{behind, first_of_list, later_of_list, same_rising, three}
-use Rattle.definition_records.specs.declared.columns.TheConstants.{NAME, CALENDAR_ENTRY, CALENDAR_STATUS, PERIOD_ORIGIN}
-use Rattle.definition_records.specs.declared.columns.TheConstants.{PERIOD_LENGTH, CYCLE_TYPE, CYCLE_RULE}
-use Rattle.definition_records.specs.declared.columns.TheConstants.{CYCLE_IN_EFFECT, CYCLE_OUT_EFFECT, CYCLE_IA}
-use Rattle.definition_records.specs.declared.columns.TheConstants.{CYCLE_DEADLINE_DAY, CYCLE_DEADLINE_TIME}
-use Rattle.definition_records.specs.FieldCounts.{HasApplicationFields, HasCalendarFields, HasCycleFields}
-use Rattle.definition_records.specs.FieldCounts.{HasPeriodFields, HasPredecessorFields}
+use Rattle.app_definition_records.proofs.ByNameLemmas.{Definitions, same_by_name, same_name, name_itself}
+use Rattle.app_definition_records.proofs.CalendarLemmas.{weekday-one_text}
+use Rattle.app_definition_records.proofs.PeriodLemmas.{one_end}
+use Rattle.app_definition_records.proofs.RisingLemmas.{behind, first_of_list, later_of_list, same_rising, three}
+use Rattle.app_definition_records.specs.declared.columns.TheConstants.{NAME, CALENDAR_ENTRY, CALENDAR_STATUS, PERIOD_ORIGIN}
+use Rattle.app_definition_records.specs.declared.columns.TheConstants.{PERIOD_LENGTH, CYCLE_TYPE, CYCLE_RULE}
+use Rattle.app_definition_records.specs.declared.columns.TheConstants.{CYCLE_IN_EFFECT, CYCLE_OUT_EFFECT, CYCLE_IA}
+use Rattle.app_definition_records.specs.declared.columns.TheConstants.{CYCLE_DEADLINE_DAY, CYCLE_DEADLINE_TIME}
+use Rattle.app_definition_records.specs.FieldCounts.{HasApplicationFields, HasCalendarFields, HasCycleFields}
+use Rattle.app_definition_records.specs.FieldCounts.{HasPeriodFields, HasPredecessorFields}
 
 -- ---- first faulty records
 

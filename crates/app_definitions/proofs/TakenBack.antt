@@ -1,6 +1,6 @@
 -- A block that was merged is taken back.
 use Rattle.std.proofs.Common.{refl}
-use Rattle.definition_records.proofs.ReplacedLemmas.{all_stand, taken_back}
+use Rattle.app_definition_records.proofs.ReplacedLemmas.{all_stand, taken_back}
 use Rattle.app_definitions.specs.Laws.{MergeIsTakenBack}
 use Rattle.app_definitions.specs.declared.kinds.Block.TheVariants as block
 

@@ -3,23 +3,23 @@ use Rattle.std.specs.Prelude.{◌≡◌, ℕ, List}
 use Rattle.std.specs.Ordering.{nat_cmp}
 use Rattle.std.specs.Cmp.Lexicographic.{slice_cmp}
 use Rattle.std.specs.FinMap as map
-use Rattle.definition_records.specs.Applications.{FitsApplication, IsApplicationOf}
-use Rattle.definition_records.specs.ByName.{FitsKind, AreGivenBy}
-use Rattle.definition_records.specs.Calendars.{FitsCalendar, IsCalendarOf}
-use Rattle.definition_records.specs.CycleRecords.{FitsRunCycle, AreRunCyclesOf}
+use Rattle.app_definition_records.specs.Applications.{FitsApplication, IsApplicationOf}
+use Rattle.app_definition_records.specs.ByName.{FitsKind, AreGivenBy}
+use Rattle.app_definition_records.specs.Calendars.{FitsCalendar, IsCalendarOf}
+use Rattle.app_definition_records.specs.CycleRecords.{FitsRunCycle, AreRunCyclesOf}
 use Rattle.app_definitions.specs.Options.{AreOptionsOf, IsFaultyOptions}
-use Rattle.definition_records.specs.Periods.{FitsPeriod, IsPeriodOf}
-use Rattle.definition_records.specs.Predecessors.{FitsPredecessors, ArePredecessorsOf}
-use Rattle.definition_records.specs.Records.{Record, Records, block_records, AllGood, FirstFaulty}
+use Rattle.app_definition_records.specs.Periods.{FitsPeriod, IsPeriodOf}
+use Rattle.app_definition_records.specs.Predecessors.{FitsPredecessors, ArePredecessorsOf}
+use Rattle.app_definition_records.specs.Records.{Record, Records, block_records, AllGood, FirstFaulty}
 use Rattle.app_definitions.specs.declared.kinds.Block.{Block}
 use Rattle.app_definitions.specs.declared.kinds.Block.TheVariants as block
 use Rattle.app_definitions.specs.declared.kinds.Kind.{Kind}
 use Rattle.app_definitions.specs.declared.kinds.Kind.TheVariants as kind
 use Rattle.app_definitions.specs.declared.options.Options.{Options}
-use Rattle.definition_records.specs.declared.records.BlockFault.{BlockFault}
-use Rattle.definition_records.specs.declared.records.BlockFault.TheVariants.{Faulty, Memory}
-use Rattle.definition_records.specs.FieldCounts.{HasApplicationFields, HasCalendarFields, HasCycleFields}
-use Rattle.definition_records.specs.FieldCounts.{HasPeriodFields, HasPredecessorFields}
+use Rattle.app_definition_records.specs.declared.records.BlockFault.{BlockFault}
+use Rattle.app_definition_records.specs.declared.records.BlockFault.TheVariants.{Faulty, Memory}
+use Rattle.app_definition_records.specs.FieldCounts.{HasApplicationFields, HasCalendarFields, HasCycleFields}
+use Rattle.app_definition_records.specs.FieldCounts.{HasPeriodFields, HasPredecessorFields}
 
 -- every record is good after those before it, and the block has the definitions that they give
 pub record Gives {D : Type 0} (of : map.FinMap (slice_cmp nat_cmp) D → Block) (HasFields : ℕ → Type 0)

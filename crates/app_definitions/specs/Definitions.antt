@@ -1,7 +1,7 @@
 -- All definitions: what a block makes of them, and what they are without a name.
 use Rattle.std.specs.Prelude.{ℕ, List, IsSome}
 use Rattle.std.specs.FinMap as map
-use Rattle.definition_records.specs.ByName.{overlaid}
+use Rattle.app_definition_records.specs.ByName.{overlaid}
 use Rattle.app_definitions.specs.Options.{default_options}
 use Rattle.app_definitions.specs.declared.kinds.Block.{Block}
 use Rattle.app_definitions.specs.declared.kinds.Block.TheVariants as block

@@ -6,8 +6,8 @@ use Rattle.toml.specs.Parse.{parse_document}
 use Rattle.work_calendars.specs.Name.{IsName}
 use Rattle.app_definitions.specs.declared.options.Options.{Options}
 use Rattle.app_definitions.specs.declared.options.TheConstants.{MAX_EXTENSION_HOURS}
-use Rattle.definition_records.specs.declared.records.BlockFault.{BlockFault}
-use Rattle.definition_records.specs.declared.records.BlockFault.TheVariants.{Faulty, Memory}
+use Rattle.app_definition_records.specs.declared.records.BlockFault.{BlockFault}
+use Rattle.app_definition_records.specs.declared.records.BlockFault.TheVariants.{Faulty, Memory}
 
 -- the options where none are given
 abbrev pub default_options : Options

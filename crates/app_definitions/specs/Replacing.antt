@@ -1,6 +1,6 @@
 -- What the names of a block have, and the definitions with that restored.
 use Rattle.std.specs.Prelude.{⊤}
-use Rattle.definition_records.specs.ByName.{AllStand, replaced, restored}
+use Rattle.app_definition_records.specs.ByName.{AllStand, replaced, restored}
 use Rattle.app_definitions.specs.declared.definitions.Definitions.{Definitions}
 use Rattle.app_definitions.specs.declared.kinds.Block.{Block}
 use Rattle.app_definitions.specs.declared.kinds.Block.TheVariants as block

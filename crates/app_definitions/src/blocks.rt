@@ -2,13 +2,13 @@
 
 ghost use Rattle.std.specs.Prelude.{◌≡◌, ◌≤◌, length, OnOk, IfOk, IfErr};
 ghost use Rattle.app_definitions.specs.Blocks.{ReadsAs, IsFaultOf};
-ghost use Rattle.definition_records.specs.ByName.{FitsKind, AreGivenBy};
+ghost use Rattle.app_definition_records.specs.ByName.{FitsKind, AreGivenBy};
 ghost use Rattle.app_definitions.specs.Definitions.{names_given};
-ghost use Rattle.definition_records.specs.Records.{block_records, AllGood, IsFirstFaulty};
+ghost use Rattle.app_definition_records.specs.Records.{block_records, AllGood, IsFirstFaulty};
 
 use crate::kinds::{Block, Kind};
 use crate::option_blocks::read_options;
-use definition_records::{BlockFault, ByName, Definition, LONGEST_BLOCK, gather_all};
+use app_definition_records::{BlockFault, ByName, Definition, LONGEST_BLOCK, gather_all};
 use std::alloc::Global;
 
 impl Block {

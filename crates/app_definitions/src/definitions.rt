@@ -5,7 +5,7 @@ ghost use Rattle.app_definitions.specs.Definitions.{merged, names_given, without
 
 use crate::kinds::{Block, Kind};
 use crate::options::Options;
-use definition_records::{Application, ByName, DefinedPeriod, Predecessors, RunCycles};
+use app_definition_records::{Application, ByName, DefinedPeriod, Predecessors, RunCycles};
 use std::alloc::{AllocError, Global};
 use work_calendars::{Calendar, Name};
 

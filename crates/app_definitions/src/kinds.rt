@@ -1,7 +1,7 @@
 // Kinds of definitions, and what a block of each holds.
 
 use crate::options::Options;
-use definition_records::{Application, ByName, DefinedPeriod, Predecessors, RunCycles};
+use app_definition_records::{Application, ByName, DefinedPeriod, Predecessors, RunCycles};
 use work_calendars::Calendar;
 
 /// A kind of definitions.

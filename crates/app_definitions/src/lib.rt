@@ -20,12 +20,12 @@ mod option_blocks;
 mod options;
 mod replacing;
 
-pub use blocks::{
-    read_applications, read_block, read_calendars, read_periods, read_predecessors, read_run_cycles,
-};
-pub use definition_records::{
+pub use app_definition_records::{
     Application, BlockFault, ByName, DefinedPeriod, LONGEST_BLOCK, Predecessor, Predecessors,
     RunCycles,
+};
+pub use blocks::{
+    read_applications, read_block, read_calendars, read_periods, read_predecessors, read_run_cycles,
 };
 pub use definitions::Definitions;
 pub use kinds::{Block, Kind};

@@ -10,7 +10,7 @@ ghost use Rattle.app_definitions.specs.declared.options.Options.{Options};
 
 use crate::kinds::{Block, Kind};
 use crate::options::{MAX_EXTENSION_HOURS, Options};
-use definition_records::BlockFault;
+use app_definition_records::BlockFault;
 use std::alloc::Global;
 use toml::{Table, Value};
 use work_calendars::Name;

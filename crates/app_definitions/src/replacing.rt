@@ -6,7 +6,7 @@ ghost use Rattle.app_definitions.specs.Replacing.{CanPutBack, put_back, replaced
 use crate::definitions::Definitions;
 use crate::kinds::Block;
 use crate::options::Options;
-use definition_records::{Application, ByName, DefinedPeriod, Predecessors, RunCycles};
+use app_definition_records::{Application, ByName, DefinedPeriod, Predecessors, RunCycles};
 use std::alloc::AllocError;
 use work_calendars::Calendar;
 

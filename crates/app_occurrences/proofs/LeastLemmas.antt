@@ -11,9 +11,9 @@ use Rattle.std.proofs.lemmas.Bool.{false≢true}
 use Rattle.std.proofs.lemmas.List.{append-nil}
 use Rattle.std.proofs.lemmas.List.Elements.{Contains-append_cases, Contains-append_left, Contains-append_right}
 use Rattle.app_occurrences.specs.Active.{IsLeastName}
-use Rattle.definition_records.specs.ByName.{AreEntriesOf}
-use Rattle.definition_records.proofs.ByNameLemmas.{entry_is, entry_there}
-use Rattle.definition_records.proofs.RisingLemmas.{only, first_of_list}
+use Rattle.app_definition_records.specs.ByName.{AreEntriesOf}
+use Rattle.app_definition_records.proofs.ByNameLemmas.{entry_is, entry_there}
+use Rattle.app_definition_records.proofs.RisingLemmas.{only, first_of_list}
 
 -- a name is not after another
 abbrev pub IsAtMost : List ℕ → List ℕ → Type 0

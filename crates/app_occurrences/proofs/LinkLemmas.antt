@@ -5,14 +5,14 @@ use Rattle.std.specs.Prelude.{Contains, ◌↔◌}
 use Rattle.std.proofs.lemmas.List.{append-nil, get_or_default}
 use Rattle.std.proofs.lemmas.List.Elements.{Contains-append_cases, Contains-append_left, Contains-append_right}
 use Rattle.std.proofs.lemmas.List.Elements.{Contains-push_cases}
-use Rattle.definition_records.specs.ByName.{AreEntriesOf}
-use Rattle.definition_records.specs.Rising.{AreRising}
+use Rattle.app_definition_records.specs.ByName.{AreEntriesOf}
+use Rattle.app_definition_records.specs.Rising.{AreRising}
 use Rattle.app_occurrences.specs.Links.{HaveOwnNames, IsDefinedLink}
-use Rattle.definition_records.specs.declared.predecessors.Predecessor.{Predecessor}
+use Rattle.app_definition_records.specs.declared.predecessors.Predecessor.{Predecessor}
 use Rattle.app_definitions.specs.declared.definitions.Definitions.{Definitions}
-use Rattle.definition_records.proofs.ByNameLemmas.{entry_is, entry_there}
-use Rattle.definition_records.proofs.RisingLemmas.{Contains-map, Contains-map_back, behind, first_of_list, own_names}
-use Rattle.definition_records.proofs.RisingLemmas.{later_of_list, three}
+use Rattle.app_definition_records.proofs.ByNameLemmas.{entry_is, entry_there}
+use Rattle.app_definition_records.proofs.RisingLemmas.{Contains-map, Contains-map_back, behind, first_of_list, own_names}
+use Rattle.app_definition_records.proofs.RisingLemmas.{later_of_list, three}
 
 abbrev Entry : Type 0
 Entry = List ℕ × List Predecessor

@@ -19,9 +19,9 @@ use Rattle.run_cycles.specs.declared.named.Named.{Named}
 use Rattle.app_occurrences.specs.Active.{cycles_of}
 use Rattle.app_occurrences.specs.NamedOccurrences.{AgreeOn, AreIndexesOf, HoldsAlso, IndexMap, ListsNamed, work_in}
 use Rattle.app_occurrences.specs.NamedOccurrences.{work_of}
-use Rattle.definition_records.specs.declared.applications.Application.{Application}
+use Rattle.app_definition_records.specs.declared.applications.Application.{Application}
 use Rattle.app_definitions.specs.declared.definitions.Definitions.{Definitions}
-use Rattle.definition_records.proofs.ByNameLemmas.{get-inserted, name_itself, same_name}
+use Rattle.app_definition_records.proofs.ByNameLemmas.{get-inserted, name_itself, same_name}
 
 -- ---- facts about run cycles of a list
 

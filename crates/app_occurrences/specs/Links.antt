@@ -2,7 +2,7 @@
 use Rattle.std.specs.Prelude.{◌≡◌, ℕ, List, Contains, Some}
 use Rattle.std.specs.FinMap as map
 use Rattle.app_definitions.specs.declared.definitions.Definitions.{Definitions}
-use Rattle.definition_records.specs.declared.predecessors.Predecessor.{Predecessor}
+use Rattle.app_definition_records.specs.declared.predecessors.Predecessor.{Predecessor}
 
 -- the predecessor is in the list that is defined for the application, with its limit
 abbrev pub IsDefinedLink : Definitions → List ℕ → Predecessor → Type 0

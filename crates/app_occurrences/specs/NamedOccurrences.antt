@@ -9,7 +9,7 @@ use Rattle.run_cycles.specs.Occurrence.{ListsOccurrences, PeriodMap}
 use Rattle.run_cycles.specs.declared.cycles.RunCycle.{RunCycle}
 use Rattle.run_cycles.specs.declared.named.Named.{Named}
 use Rattle.app_occurrences.specs.Active.{calendar_name, cycles_of}
-use Rattle.definition_records.specs.declared.applications.Application.{Application}
+use Rattle.app_definition_records.specs.declared.applications.Application.{Application}
 use Rattle.app_definitions.specs.declared.definitions.Definitions.{Definitions}
 
 -- the work days of the calendar of that name, and every day where it isn't defined

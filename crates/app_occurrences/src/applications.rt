@@ -3,7 +3,7 @@
 ghost use Rattle.std.specs.Prelude.{◌≡◌, ◌↔◌, IsTrue, IfNone, IfSome, None};
 ghost use Rattle.std.specs.FinMap as map;
 ghost use Rattle.run_cycles.specs.Occurrence.{HaveOwnNames};
-ghost use Rattle.definition_records.specs.declared.applications.Application.{Application as ApplicationValue};
+ghost use Rattle.app_definition_records.specs.declared.applications.Application.{Application as ApplicationValue};
 ghost use Rattle.app_occurrences.specs.Active.{IsActive, LacksCalendar, LacksPeriod, calendar_name, cycles_of};
 
 use app_definitions::{Application, Definitions};

@@ -2,7 +2,7 @@
 
 ghost use Rattle.std.specs.Prelude.{◌≡◌, ◌↔◌, ◌++◌, ℕ, List, Contains, IfOk, OnOk, map};
 ghost use Rattle.app_occurrences.specs.Links.{HaveOwnNames, IsDefinedLink};
-ghost use Rattle.definition_records.specs.declared.predecessors.Predecessor.{Predecessor as PredecessorValue};
+ghost use Rattle.app_definition_records.specs.declared.predecessors.Predecessor.{Predecessor as PredecessorValue};
 
 use app_definitions::{Definitions, Predecessor};
 use std::alloc::{AllocError, Global};

@@ -34,7 +34,7 @@ use Rattle.planner_machine.specs.Sound.{IsSound}
 use Rattle.planner_machine.proofs.ActionLemmas.{one_current, stands_in_cp}
 use Rattle.planner_machine.specs.RowsSound.{RowsSound}
 use Rattle.planner_machine.proofs.SoundLemmas.{rows_sound}
-use Rattle.keyed_lists.specs.Rows.{look_up, of_current, of_deletion, of_row}
+use Rattle.plan_store_lists.specs.Rows.{look_up, of_current, of_deletion, of_row}
 use Rattle.plan_store.specs.Changes.{Fits, FitsSet, MovesNothing, after, moved_set, pairs_after, sets_after}
 use Rattle.plan_store.specs.Verdicts.{VerdictIs}
 use Rattle.plan_store.specs.Views.{IsCurrentRow}
@@ -42,7 +42,7 @@ use Rattle.plan_store.specs.declared.changes.Change.{Change}
 use Rattle.plan_store.specs.declared.changes.Moves.{Moves}
 use Rattle.plan_store.specs.declared.changes.Verdict.TheVariants.{Done, Refused}
 use Rattle.daily_planning.specs.Actions.{ChangesStatus, IsActedOn, WaitsFor}
-use Rattle.plan_pairs.specs.Withdrawals.{LosesRow}
+use Rattle.plan_store_pairs.specs.Withdrawals.{LosesRow}
 use Rattle.daily_planning.proofs.ChangeLemmas.{after_moves, fits_moves, moved_is}
 use Rattle.daily_planning.proofs.SetLemmas.{nothing, once_nothing, once_one}
 
@@ -194,11 +194,11 @@ module _ (c : Content) (sound : IsSound c) (action : Action) (changed : CurrentR
 
     fits_cp : FitsSet of_current change.cp c.sets.cp
     fits_cp = record {
-      gone_once = subst (λ xs. Rattle.keyed_lists.specs.Rows.HasEachOnce of_current xs) (sym d.gone)
+      gone_once = subst (λ xs. Rattle.plan_store_lists.specs.Rows.HasEachOnce of_current xs) (sym d.gone)
           (once_nothing of_current);
-      changed_once = subst (λ xs. Rattle.keyed_lists.specs.Rows.HasEachOnce of_current xs) (sym d.one_changed)
+      changed_once = subst (λ xs. Rattle.plan_store_lists.specs.Rows.HasEachOnce of_current xs) (sym d.one_changed)
           (once_one of_current changed);
-      put_once = subst (λ xs. Rattle.keyed_lists.specs.Rows.HasEachOnce of_current xs) (sym d.put)
+      put_once = subst (λ xs. Rattle.plan_store_lists.specs.Rows.HasEachOnce of_current xs) (sym d.put)
           (once_nothing of_current);
       goes = λ x has. absurd (nothing x (subst (λ l. Contains l x) d.gone has));
       changes = λ x has.

@@ -9,9 +9,9 @@ use Rattle.plan_store.specs.Asked.{AsksKey}
 use Rattle.plan_store.specs.Views.{Hidden, Sees, asks_pairs, with_hidden}
 use Rattle.plan_store.specs.declared.views.View.{View}
 use Rattle.plan_store.proofs.PlaceLemmas.{stands_cp}
-use Rattle.plan_pairs.specs.Gathering.{ShowsList}
-use Rattle.plan_pairs.proofs.AskedLemmas.{live_not_past, shows_list}
-use Rattle.plan_pairs.proofs.PartLemmas.{asked_current}
+use Rattle.plan_store_pairs.specs.Gathering.{ShowsList}
+use Rattle.plan_store_pairs.proofs.AskedLemmas.{live_not_past, shows_list}
+use Rattle.plan_store_pairs.proofs.PartLemmas.{asked_current}
 use Rattle.daily_planning.specs.Actions.{IsLiveCurrent}
 
 -- its pairs are asked for

@@ -12,7 +12,7 @@ use Rattle.planner_machine.proofs.ActionLemmas.{stands_in_cp}
 use Rattle.planner_machine.proofs.DeleteLemmas.{stands_in_ltp}
 use Rattle.planner_machine.specs.RowsSound.{RowsSound}
 use Rattle.planner_machine.proofs.SeatLemmas.{cases_issued, not_empty}
-use Rattle.keyed_lists.specs.Rows.{HasEachOnce, look_up}
+use Rattle.plan_store_lists.specs.Rows.{HasEachOnce, look_up}
 use Rattle.plan_store.specs.Changes.{FitsSet, after, jobs_after, moved_set, pairs_after, redefined, sets_after}
 use Rattle.plan_store.specs.declared.changes.Change.{Change}
 use Rattle.plan_store.specs.declared.changes.DefinitionChange.TheVariants.{AsBefore}

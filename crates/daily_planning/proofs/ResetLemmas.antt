@@ -32,12 +32,12 @@ use Rattle.planner_machine.specs.RowsSound.{RowsSound}
 use Rattle.planner_machine.proofs.SeatLemmas.{going, one_place, stands_after, stood_before}
 use Rattle.planner_machine.proofs.SoundLemmas.{rows_sound}
 use Rattle.plan_store.specs.Changes.{LeadsOn, pairs_after}
-use Rattle.plan_pairs.specs.LiveRows.{HasPairsAfter}
-use Rattle.plan_pairs.specs.RowPairs.{IsRowPair}
+use Rattle.plan_store_pairs.specs.LiveRows.{HasPairsAfter}
+use Rattle.plan_store_pairs.specs.RowPairs.{IsRowPair}
 use Rattle.plan_store.proofs.PairLemmas.{leads_on, pairs_after_rising}
-use Rattle.plan_pairs.proofs.ChangeLemmas.{pairs_after_are, pairs_same}
-use Rattle.plan_pairs.proofs.ListLemmas.{filter_has, filter_keeps}
-use Rattle.plan_pairs.proofs.ScratchLemmas.{same_nearest}
+use Rattle.plan_store_pairs.proofs.ChangeLemmas.{pairs_after_are, pairs_same}
+use Rattle.plan_store_pairs.proofs.ListLemmas.{filter_has, filter_keeps}
+use Rattle.plan_store_pairs.proofs.ScratchLemmas.{same_nearest}
 use Rattle.daily_planning.specs.Actions.{IsActedOn, LeadsToRowPairs}
 use Rattle.daily_planning.proofs.ActLemmas.{own_status, place_stays}
 

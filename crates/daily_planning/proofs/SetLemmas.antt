@@ -10,9 +10,9 @@ use Rattle.occurrences.specs.declared.row.Row.{Row}
 use Rattle.external_dependencies.specs.Arrival.{arrival_cmp}
 use Rattle.external_dependencies.specs.Nearest.{arrival_of}
 use Rattle.planner_machine.specs.Moves.{keep, size}
-use Rattle.keyed_lists.specs.Rows.{HasEachOnce, look_up}
+use Rattle.plan_store_lists.specs.Rows.{HasEachOnce, look_up}
 use Rattle.plan_store.specs.Views.{IsAny, ListsSet}
-use Rattle.keyed_lists.proofs.LookLemmas.{look_some, look_none}
+use Rattle.plan_store_lists.proofs.LookLemmas.{look_some, look_none}
 use Rattle.plan_store.proofs.ViewLemmas.{once_from_rows, size_listed, size_same}
 
 module _ {X : Type 0} where

@@ -17,7 +17,7 @@ use Rattle.planner_machine.specs.Content.{Content, Sets, StandsAt}
 use Rattle.planner_machine.specs.Moves.{each}
 use Rattle.planner_machine.specs.Pairs.{ArePairs}
 use Rattle.plan_store.specs.Changes.{LeadsOn, MovesNothing, pairs_after}
-use Rattle.plan_pairs.specs.RowPairs.{IsRowPair}
+use Rattle.plan_store_pairs.specs.RowPairs.{IsRowPair}
 use Rattle.plan_store.specs.declared.changes.Change.{Change}
 use Rattle.plan_store.specs.declared.changes.DefinitionChange.TheVariants.{AsBefore}
 

@@ -11,8 +11,8 @@ ghost use Rattle.daily_planning.specs.Actions.{LivesAt, WaitsFor};
 
 use external_dependencies::{Pair, PairChange, Pairs};
 use occurrences::{Action, CurrentRow, Key, Refusal, Reply, Row, Serial, Status, next_status};
-use plan_pairs::{pairs_without, row_pairs_of, single};
 use plan_store::{Change, Need, Verdict, View};
+use plan_store_pairs::{pairs_without, row_pairs_of, single};
 use std::alloc::{AllocError, Global};
 
 /// `cp-start`, `cp-complete`, `cp-fail`, `cp-reset`, `cp-delete`: the occurrence of the current plan that has the key

@@ -6,8 +6,8 @@ ghost use Rattle.plan_store.specs.Verdicts.{VerdictIs};
 ghost use Rattle.plan_store.specs.Views.{Shows};
 
 use occurrences::Key;
-use plan_pairs::Plan;
 use plan_store::{Need, Verdict, View};
+use plan_store_pairs::Plan;
 use std::alloc::{AllocError, Global};
 
 /// `cp-add`: an occurrence of the key is added to the current plan, where it waits, due a day after it arrives. Refused
@@ -19,5 +19,5 @@ pub fn cp_add(alloc: Global, view: &View<'_>, key: &Key) -> Result<Verdict, Allo
         → IsSound c
         → VerdictIs (decided key.now) c verdict) }
 {
-    plan_pairs::add(alloc, view, Plan::Current, key)
+    plan_store_pairs::add(alloc, view, Plan::Current, key)
 }

@@ -5,7 +5,7 @@ use Rattle.std.specs.Prelude.{is_some, option_map, unwrap_or, if◌then◌else�
 use Rattle.std.specs.List.{Contains}
 use Rattle.std.proofs.lemmas.List.Elements.{Contains-append_cases, Contains-append_left, Contains-append_right}
 use Rattle.app_definitions.specs.declared.definitions.Definitions.{Definitions}
-use Rattle.definition_records.proofs.RisingLemmas.{Contains-map_back}
+use Rattle.app_definition_records.proofs.RisingLemmas.{Contains-map_back}
 use Rattle.occurrences.specs.declared.place.CurrentRow.{CurrentRow}
 use Rattle.occurrences.specs.declared.place.Deletion.{Deletion}
 use Rattle.occurrences.specs.declared.place.Place.TheVariants.{LongTerm}
@@ -22,14 +22,14 @@ use Rattle.planner_machine.proofs.DeleteLemmas.{stands_in_ltp}
 use Rattle.planner_machine.proofs.ModifyLemmas.{between, between_sound, any_tests, that_tests, Tests}
 use Rattle.planner_machine.specs.RowsSound.{RowsSound}
 use Rattle.planner_machine.proofs.SoundLemmas.{rows_sound}
-use Rattle.keyed_lists.specs.Rows.{HasEachOnce, look_up, of_current, of_deletion, of_row}
+use Rattle.plan_store_lists.specs.Rows.{HasEachOnce, look_up, of_current, of_deletion, of_row}
 use Rattle.plan_store.specs.Changes.{Fits, LeadsOn, MovesNothing, pairs_after, sets_after}
 use Rattle.plan_store.specs.Views.{IsAny, ListsSet}
 use Rattle.plan_store.specs.declared.changes.Change.{Change}
 use Rattle.plan_store.specs.declared.changes.DefinitionChange.TheVariants.{AsBefore}
-use Rattle.plan_pairs.specs.LiveRows.{AreCompleted, HasLists}
-use Rattle.plan_pairs.proofs.RowLemmas.{of_set}
-use Rattle.plan_pairs.proofs.SetLemmas.{fits_nothing, fits_put, moves_nothing, moves_put}
+use Rattle.plan_store_pairs.specs.LiveRows.{AreCompleted, HasLists}
+use Rattle.plan_store_pairs.proofs.RowLemmas.{of_set}
+use Rattle.plan_store_pairs.proofs.SetLemmas.{fits_nothing, fits_put, moves_nothing, moves_put}
 use Rattle.long_term_plan.specs.Making.{MakesSets, numbered}
 use Rattle.long_term_plan.specs.Modifying.{AreParted, Looks, looks, modified_sets, outcome}
 use Rattle.long_term_plan.proofs.DeleteLemmas.{serial_is}

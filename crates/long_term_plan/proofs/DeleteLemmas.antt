@@ -24,7 +24,7 @@ use Rattle.planner_machine.specs.Sound.{IsSound}
 use Rattle.planner_machine.proofs.DeleteLemmas.{stands_in_ltp}
 use Rattle.planner_machine.specs.RowsSound.{RowsSound}
 use Rattle.planner_machine.proofs.SoundLemmas.{rows_sound}
-use Rattle.keyed_lists.specs.Rows.{of_current, of_deletion, of_row}
+use Rattle.plan_store_lists.specs.Rows.{of_current, of_deletion, of_row}
 use Rattle.planner_machine.specs.Pairs.{ArePairs}
 use Rattle.plan_store.specs.Changes.{Fits, after, jobs_after, pairs_after, redefined, sets_after}
 use Rattle.plan_store.specs.Verdicts.{VerdictIs}
@@ -33,9 +33,9 @@ use Rattle.plan_store.specs.declared.changes.Change.{Change}
 use Rattle.plan_store.specs.declared.changes.Verdict.{Verdict}
 use Rattle.plan_store.specs.declared.changes.Verdict.TheVariants.{Done, Refused}
 use Rattle.long_term_plan.specs.Deletes.{DeletesRow, IsDeletionOf}
-use Rattle.plan_pairs.specs.Withdrawals.{LosesRow}
-use Rattle.plan_pairs.proofs.SetLemmas.{fits_nothing, fits_one, fits_taken, keep_some, moves_nothing, moves_one}
-use Rattle.plan_pairs.proofs.SetLemmas.{moves_taken, some_keep}
+use Rattle.plan_store_pairs.specs.Withdrawals.{LosesRow}
+use Rattle.plan_store_pairs.proofs.SetLemmas.{fits_nothing, fits_one, fits_taken, keep_some, moves_nothing, moves_one}
+use Rattle.plan_store_pairs.proofs.SetLemmas.{moves_taken, some_keep}
 
 -- two rows of the long-term plan with one key have one serial
 one_key : (c : Sets) → RowsSound c → (m n : ℕ) (x y : Row) → c.ltp m ≡ Some x → c.ltp n ≡ Some y → x.key ≡ y.key → m ≡ n

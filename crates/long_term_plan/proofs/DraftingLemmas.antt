@@ -18,11 +18,11 @@ use Rattle.work_calendars.specs.Moment.{day_of_moment, moment_of}
 use Rattle.run_cycles.specs.Occurrence.{IsEarlier, IsOccurrence}
 use Rattle.run_cycles.specs.declared.named.Named.{Named}
 use Rattle.app_occurrences.specs.Active.{IsActive, cycles_of}
-use Rattle.definition_records.specs.ByName.{AreNamesOf}
+use Rattle.app_definition_records.specs.ByName.{AreNamesOf}
 use Rattle.app_occurrences.specs.NamedOccurrences.{ListsNamed, work_of}
-use Rattle.definition_records.specs.declared.applications.Application.{Application}
+use Rattle.app_definition_records.specs.declared.applications.Application.{Application}
 use Rattle.app_definitions.specs.declared.definitions.Definitions.{Definitions}
-use Rattle.definition_records.proofs.RisingLemmas.{Contains-map, Contains-map_back}
+use Rattle.app_definition_records.proofs.RisingLemmas.{Contains-map, Contains-map_back}
 use Rattle.occurrences.specs.Key.{KeyBefore}
 use Rattle.occurrences.specs.declared.key.Key.{Key}
 use Rattle.occurrences.specs.declared.row.Row.{Row}
@@ -32,7 +32,7 @@ use Rattle.planner_machine.specs.Drafts.{AreDrafts, IsMade, IsNamed, NamesWithin
 use Rattle.planner_machine.specs.Sound.{AreDefinitions, IsSound}
 use Rattle.planner_machine.proofs.RangeLemmas.{cycle_ranges}
 use Rattle.plan_store.specs.Views.{IsDeletedKey, IsPlannedRow}
-use Rattle.plan_pairs.proofs.ListLemmas.{filter_has, filter_keeps, none}
+use Rattle.plan_store_pairs.proofs.ListLemmas.{filter_has, filter_keeps, none}
 use Rattle.long_term_plan.specs.Drafting.{AddsDrafts, AreCollected, AreDraftsOf, DraftsRise, AreNew, HaveOwnKeys}
 use Rattle.long_term_plan.specs.Drafting.{IsNamedFrom, IsNewKey, NamesFor, drafts_from, is_from}
 use Rattle.long_term_plan.proofs.PairwiseLemmas.{append_pairs, front_pairs, last_pairs, map_pairs}

@@ -13,22 +13,22 @@ use Rattle.external_dependencies.specs.declared.links.Link.{Link}
 use Rattle.external_dependencies.specs.declared.pairs.Pair.{Pair}
 use Rattle.external_dependencies.specs.declared.rows.PlacedRow.{PlacedRow}
 use Rattle.external_dependencies.specs.declared.touch.Touch.{Touch}
-use Rattle.keyed_lists.specs.Rows.{of_current, of_row}
+use Rattle.plan_store_lists.specs.Rows.{of_current, of_row}
 use Rattle.planner_machine.specs.Content.{Content, Sets}
 use Rattle.planner_machine.specs.InForce.{PutsAll, PutsOne}
 use Rattle.planner_machine.specs.Sound.{IsSound}
 use Rattle.plan_store.specs.Asked.{AsksPlan}
 use Rattle.plan_store.specs.Views.{Hidden, IsAny, ListsSet, Sees, shown, with_hidden}
 use Rattle.plan_store.specs.declared.views.View.{View}
-use Rattle.plan_pairs.specs.ByApplications.{HasReached, HasWithList}
-use Rattle.plan_pairs.specs.LiveRows.{AreCompleted, HasLists}
-use Rattle.plan_pairs.specs.Planned.{IsOpenRow}
-use Rattle.plan_pairs.specs.Turns.{AreKnownLinks, ArePlanned, IsBeside, IsInLists, IsTouchOf}
-use Rattle.plan_pairs.proofs.GatheredLemmas.{gone_app, of_reached}
-use Rattle.plan_pairs.proofs.PartLemmas.{shown_stood}
-use Rattle.plan_pairs.proofs.SeenLemmas.{completed_rows, pair_shown, seen_hold, was_open}
-use Rattle.plan_pairs.proofs.TouchLemmas.{live_once}
-use Rattle.plan_pairs.proofs.TurnLemmas.{IsTurnTo}
+use Rattle.plan_store_pairs.specs.ByApplications.{HasReached, HasWithList}
+use Rattle.plan_store_pairs.specs.LiveRows.{AreCompleted, HasLists}
+use Rattle.plan_store_pairs.specs.Planned.{IsOpenRow}
+use Rattle.plan_store_pairs.specs.Turns.{AreKnownLinks, ArePlanned, IsBeside, IsInLists, IsTouchOf}
+use Rattle.plan_store_pairs.proofs.GatheredLemmas.{gone_app, of_reached}
+use Rattle.plan_store_pairs.proofs.PartLemmas.{shown_stood}
+use Rattle.plan_store_pairs.proofs.SeenLemmas.{completed_rows, pair_shown, seen_hold, was_open}
+use Rattle.plan_store_pairs.proofs.TouchLemmas.{live_once}
+use Rattle.plan_store_pairs.proofs.TurnLemmas.{IsTurnTo}
 use Rattle.long_term_plan.specs.Modifying.{AreOf, HavePlanned}
 use Rattle.long_term_plan.proofs.TurnedLemmas.{turned}
 

@@ -19,10 +19,10 @@ use Rattle.external_dependencies.proofs.RisingLemmas.{rising_unique}
 use Rattle.planner_machine.specs.declared.content.Draft.{Draft}
 use Rattle.planner_machine.specs.Content.{Sets}
 use Rattle.planner_machine.specs.Modify.{draft_with, is_generated, looks_at, stamped}
-use Rattle.keyed_lists.specs.Rows.{of_row}
+use Rattle.plan_store_lists.specs.Rows.{of_row}
 use Rattle.plan_store.specs.Views.{IsAny, ListsSet}
 use Rattle.plan_store.proofs.ViewLemmas.{once_from_rows}
-use Rattle.plan_pairs.proofs.ListLemmas.{filter_has, filter_keeps, none}
+use Rattle.plan_store_pairs.proofs.ListLemmas.{filter_has, filter_keeps, none}
 use Rattle.long_term_plan.specs.Modifying.{AreChanged, AreOf, Looks, looks, outcome}
 use Rattle.long_term_plan.proofs.ChangedLemmas.{looks_tests}
 use Rattle.long_term_plan.proofs.ModifyingLemmas.{stays_self}

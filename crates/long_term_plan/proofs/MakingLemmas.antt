@@ -4,7 +4,7 @@ use Rattle.std.proofs.Common.{arith, Option, None, Some}
 use Rattle.std.specs.Prelude.{unwrap_or}
 use Rattle.std.specs.List.{Contains}
 use Rattle.std.proofs.lemmas.List.Elements.{Contains-append_cases, Contains-append_left, Contains-append_right}
-use Rattle.definition_records.specs.ByName.{AreNamesOf}
+use Rattle.app_definition_records.specs.ByName.{AreNamesOf}
 use Rattle.app_definitions.specs.declared.definitions.Definitions.{Definitions}
 use Rattle.occurrences.specs.declared.place.CurrentRow.{CurrentRow}
 use Rattle.occurrences.specs.declared.place.Place.TheVariants.{LongTerm}
@@ -22,21 +22,21 @@ use Rattle.planner_machine.specs.Plans.{ChangesPlans, MakesOfRows, planned}
 use Rattle.planner_machine.specs.Sound.{AreDefinitions, IsSound}
 use Rattle.planner_machine.specs.RowsSound.{RowsSound}
 use Rattle.planner_machine.proofs.SoundLemmas.{rows_sound}
-use Rattle.keyed_lists.specs.Rows.{HasEachOnce, look_up, of_current, of_deletion, of_row}
+use Rattle.plan_store_lists.specs.Rows.{HasEachOnce, look_up, of_current, of_deletion, of_row}
 use Rattle.plan_store.specs.Changes.{Fits, LeadsOn, MovesNothing, after, jobs_after, pairs_after, redefined}
 use Rattle.plan_store.specs.Changes.{sets_after}
 use Rattle.plan_store.specs.Views.{IsAny, ListsSet}
 use Rattle.plan_store.specs.declared.changes.Change.{Change}
 use Rattle.plan_store.specs.declared.changes.DefinitionChange.TheVariants.{AsBefore}
-use Rattle.plan_pairs.specs.LiveRows.{AreCompleted, HasLists}
-use Rattle.plan_pairs.proofs.RowLemmas.{of_set}
+use Rattle.plan_store_pairs.specs.LiveRows.{AreCompleted, HasLists}
+use Rattle.plan_store_pairs.proofs.RowLemmas.{of_set}
 use Rattle.long_term_plan.specs.Drafting.{AreNew, NamesFor}
 use Rattle.long_term_plan.specs.Making.{AreDaysAdded, MakesSets, numbered, planned_sets}
 use Rattle.long_term_plan.proofs.DeleteLemmas.{serial_is}
 use Rattle.long_term_plan.proofs.DraftingLemmas.{named_for_all, new_are, same_drafts}
 use Rattle.long_term_plan.proofs.NumberLemmas.{made_listed, numbered_high, numbered_look, numbered_made, numbered_once}
 use Rattle.long_term_plan.proofs.NumberLemmas.{planned_after}
-use Rattle.plan_pairs.proofs.SetLemmas.{fits_nothing, fits_put, moves_nothing, moves_put}
+use Rattle.plan_store_pairs.proofs.SetLemmas.{fits_nothing, fits_put, moves_nothing, moves_put}
 
 -- what a change is that makes the drafts
 pub record IsMaking (c : Content) (b : Bounds) (links : List Link) (new : List Draft) (change : Change) : Type

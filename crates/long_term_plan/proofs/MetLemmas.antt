@@ -12,7 +12,7 @@ use Rattle.occurrences.specs.Key.{KeyBefore}
 use Rattle.occurrences.specs.declared.key.Key.{Key}
 use Rattle.occurrences.specs.declared.row.Row.{Row}
 use Rattle.occurrences.specs.declared.place.Place.TheVariants.{LongTerm}
-use Rattle.keyed_lists.specs.Rows.{of_row}
+use Rattle.plan_store_lists.specs.Rows.{of_row}
 use Rattle.planner_machine.specs.Content.{Content, Sets}
 use Rattle.planner_machine.specs.Drafts.{AreDrafts}
 use Rattle.planner_machine.specs.Modify.{NamesAhead}
@@ -21,7 +21,7 @@ use Rattle.planner_machine.specs.declared.content.Bounds.{Bounds}
 use Rattle.planner_machine.specs.declared.content.Draft.{Draft}
 use Rattle.plan_store.specs.Views.{IsDeletedKey, ListsSet}
 use Rattle.plan_store.proofs.PlaceLemmas.{stands_ltp}
-use Rattle.plan_pairs.proofs.ListLemmas.{none}
+use Rattle.plan_store_pairs.proofs.ListLemmas.{none}
 use Rattle.long_term_plan.specs.Drafting.{ArePlannedKeys, DraftsRise, IsNewKey, IsPlannedKey}
 use Rattle.long_term_plan.specs.Modifying.{AreMet, HasKey, Looks, NamesThen}
 

@@ -5,10 +5,10 @@ use Rattle.std.specs.Prelude.{IsSome, filter, is_none}
 use Rattle.std.specs.List.{filter_map}
 use Rattle.work_calendars.specs.Day.{last_kept_day}
 use Rattle.app_occurrences.specs.Active.{IsActive}
-use Rattle.definition_records.specs.ByName.{AreNamesOf}
-use Rattle.definition_records.specs.declared.applications.Application.{Application}
+use Rattle.app_definition_records.specs.ByName.{AreNamesOf}
+use Rattle.app_definition_records.specs.declared.applications.Application.{Application}
 use Rattle.app_definitions.specs.declared.definitions.Definitions.{Definitions}
-use Rattle.definition_records.proofs.RisingLemmas.{own_names}
+use Rattle.app_definition_records.proofs.RisingLemmas.{own_names}
 use Rattle.occurrences.specs.declared.row.Row.{Row}
 use Rattle.planner_machine.specs.declared.content.Bounds.{Bounds}
 use Rattle.planner_machine.specs.declared.content.Draft.{Draft}
@@ -20,7 +20,7 @@ use Rattle.planner_machine.specs.Sound.{AreDefinitions, IsSound}
 use Rattle.planner_machine.proofs.ModifyLemmas.{between, modify_keeps}
 use Rattle.planner_machine.specs.RowsSound.{RowsSound}
 use Rattle.planner_machine.proofs.SoundLemmas.{rows_sound}
-use Rattle.keyed_lists.specs.Rows.{of_row}
+use Rattle.plan_store_lists.specs.Rows.{of_row}
 use Rattle.plan_store.specs.Views.{IsAny, ListsSet}
 use Rattle.long_term_plan.specs.Drafting.{NamesFor}
 use Rattle.long_term_plan.specs.Modifying.{AreAsked, AreParted, AreTooMany, Looks, NamesThen, looks, modified_reply}

@@ -13,13 +13,13 @@ use Rattle.planner_machine.specs.Modify.{draft_with, looks_at, stamped, withdraw
 use Rattle.planner_machine.specs.Moves.{keep, or_else, size}
 use Rattle.planner_machine.specs.RowsSound.{RowsSound}
 use Rattle.planner_machine.proofs.SeatLemmas.{cases_issued}
-use Rattle.keyed_lists.specs.Rows.{HasEachOnce, look_up, of_deletion, of_row}
+use Rattle.plan_store_lists.specs.Rows.{HasEachOnce, look_up, of_deletion, of_row}
 use Rattle.plan_store.specs.Changes.{FitsSet}
 use Rattle.plan_store.specs.Views.{IsAny, ListsSet}
 use Rattle.plan_store.specs.declared.changes.Moves.{Moves}
-use Rattle.keyed_lists.proofs.LookLemmas.{look_none, look_some}
+use Rattle.plan_store_lists.proofs.LookLemmas.{look_none, look_some}
 use Rattle.plan_store.proofs.ViewLemmas.{once_from_rows, size_listed, size_same}
-use Rattle.plan_pairs.proofs.ListLemmas.{filter_has, filter_keeps}
+use Rattle.plan_store_pairs.proofs.ListLemmas.{filter_has, filter_keeps}
 use Rattle.long_term_plan.specs.Making.{numbered}
 use Rattle.long_term_plan.specs.Modifying.{AreParted, looks, outcome}
 use Rattle.long_term_plan.proofs.DeleteLemmas.{serial_is}

@@ -12,9 +12,9 @@ use Rattle.planner_machine.specs.declared.content.Draft.{Draft}
 use Rattle.planner_machine.specs.Content.{Sets, empty_seat, seat}
 use Rattle.planner_machine.specs.Moves.{bit, made, numbered_row, seat_made, size, with_made}
 use Rattle.planner_machine.specs.Plans.{planned}
-use Rattle.keyed_lists.specs.Rows.{HasEachOnce, look_up, of_row}
-use Rattle.plan_pairs.proofs.ListLemmas.{first_or_later, none}
-use Rattle.keyed_lists.proofs.LookLemmas.{look_some}
+use Rattle.plan_store_lists.specs.Rows.{HasEachOnce, look_up, of_row}
+use Rattle.plan_store_pairs.proofs.ListLemmas.{first_or_later, none}
+use Rattle.plan_store_lists.proofs.LookLemmas.{look_some}
 use Rattle.long_term_plan.specs.Making.{numbered}
 
 abbrev serial_of : Row → ℕ

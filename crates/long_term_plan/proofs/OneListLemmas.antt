@@ -12,7 +12,7 @@ use Rattle.external_dependencies.proofs.OrderLemmas.{named_once}
 use Rattle.planner_machine.specs.InForce.{IsDefinedLink}
 use Rattle.planner_machine.specs.ModifyOne.{is_that_app}
 use Rattle.planner_machine.proofs.ModifyLemmas.{that_tests}
-use Rattle.plan_pairs.proofs.ListLemmas.{filter_has, filter_keeps}
+use Rattle.plan_store_pairs.proofs.ListLemmas.{filter_has, filter_keeps}
 use Rattle.long_term_plan.specs.Lists.{is_of_other}
 
 abbrev pub IsOwn : Definitions → List ℕ → Link → Type 0

@@ -6,7 +6,7 @@ use Rattle.std.proofs.lemmas.List.{get_or-take, length-take-le}
 use Rattle.std.proofs.lemmas.List.Elements.{All-append, All-contains, All-map, Contains-append_left, Contains-get_or}
 use Rattle.std.proofs.lemmas.List.Elements.{Contains-push}
 use Rattle.std.proofs.lemmas.List.Kept.{AllPairs-cons}
-use Rattle.plan_pairs.proofs.ListLemmas.{first_or_later, none}
+use Rattle.plan_store_pairs.proofs.ListLemmas.{first_or_later, none}
 
 module _ {X : Type 0} (R : X → X → Type 0) where
   pub append_pairs : (xs ys : List X) → AllPairs R xs → AllPairs R ys

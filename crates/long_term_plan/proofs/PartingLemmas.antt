@@ -15,8 +15,8 @@ use Rattle.occurrences.specs.declared.key.Key.{Key}
 use Rattle.occurrences.specs.declared.row.Row.{Row}
 use Rattle.planner_machine.specs.declared.content.Draft.{Draft}
 use Rattle.planner_machine.specs.Modify.{draft_with}
-use Rattle.keyed_lists.specs.Rows.{HasEachOnce, of_row}
-use Rattle.plan_pairs.proofs.ListLemmas.{first_or_later, further, here, none}
+use Rattle.plan_store_lists.specs.Rows.{HasEachOnce, of_row}
+use Rattle.plan_store_pairs.proofs.ListLemmas.{first_or_later, further, here, none}
 use Rattle.long_term_plan.specs.Drafting.{DraftsRise}
 use Rattle.long_term_plan.specs.Modifying.{AreChanged}
 use Rattle.long_term_plan.proofs.PairwiseLemmas.{front_pairs, last_pairs}

@@ -12,18 +12,18 @@ use Rattle.planner_machine.specs.Content.{Content, Sets}
 use Rattle.planner_machine.specs.Sound.{IsSound}
 use Rattle.planner_machine.specs.RowsSound.{RowsSound}
 use Rattle.planner_machine.proofs.SoundLemmas.{rows_sound}
-use Rattle.keyed_lists.specs.Rows.{of_current, of_row}
+use Rattle.plan_store_lists.specs.Rows.{of_current, of_row}
 use Rattle.plan_store.specs.Views.{IsAny, ListsSet}
-use Rattle.plan_pairs.specs.LiveRows.{AreCompleted, HasLists}
-use Rattle.plan_pairs.specs.Turns.{ArePlanned, HasItself, IsTouchOf}
-use Rattle.plan_pairs.proofs.RowLemmas.{of_set}
-use Rattle.plan_pairs.proofs.TurnLemmas.{IsTurnTo, all_stay, turn_to}
+use Rattle.plan_store_pairs.specs.LiveRows.{AreCompleted, HasLists}
+use Rattle.plan_store_pairs.specs.Turns.{ArePlanned, HasItself, IsTouchOf}
+use Rattle.plan_store_pairs.proofs.RowLemmas.{of_set}
+use Rattle.plan_store_pairs.proofs.TurnLemmas.{IsTurnTo, all_stay, turn_to}
 use Rattle.long_term_plan.specs.Making.{numbered}
 use Rattle.long_term_plan.specs.Modifying.{AreParted, outcome}
 use Rattle.long_term_plan.proofs.ModifyingLemmas.{gone_in, stays_self, within}
 use Rattle.long_term_plan.proofs.NumberLemmas.{numbered_high}
 use Rattle.long_term_plan.proofs.PartingLemmas.{mapped_all, mapped_has}
-use Rattle.plan_pairs.proofs.ListLemmas.{filter_keeps}
+use Rattle.plan_store_pairs.proofs.ListLemmas.{filter_keeps}
 
 -- what is made has new serials
 module _ (c : Sets) (sound : RowsSound c) (rows : List Row) (lists : ListsSet of_row c.ltp IsAny rows) where

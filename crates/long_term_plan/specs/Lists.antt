@@ -1,6 +1,6 @@
 -- Predecessor lists as links.
 use Rattle.std.specs.Prelude.{ℕ, Bool, List, not}
-use Rattle.definition_records.specs.declared.predecessors.Predecessor.{Predecessor}
+use Rattle.app_definition_records.specs.declared.predecessors.Predecessor.{Predecessor}
 use Rattle.external_dependencies.specs.declared.links.Link.{Link}
 use Rattle.planner_machine.specs.ModifyOne.{is_that_app}
 

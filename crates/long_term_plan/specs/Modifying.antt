@@ -3,7 +3,7 @@ use Rattle.std.specs.Prelude.{◌≡◌, ◌≢◌, ◌⊎◌, ◌↔◌, ℕ, �
 use Rattle.std.specs.Prelude.{filter, is_none, length, option_map, slice_index_or, if◌then◌else◌}
 use Rattle.std.specs.List.{AllPairs, filter_map}
 use Rattle.app_occurrences.specs.Active.{IsActive}
-use Rattle.definition_records.specs.declared.applications.Application.{Application}
+use Rattle.app_definition_records.specs.declared.applications.Application.{Application}
 use Rattle.app_definitions.specs.declared.definitions.Definitions.{Definitions}
 use Rattle.occurrences.specs.declared.key.Key.{Key}
 use Rattle.occurrences.specs.declared.place.CurrentRow.{CurrentRow}
@@ -23,8 +23,8 @@ use Rattle.planner_machine.specs.ModifyAll.{IsAnyApp, is_any_app}
 use Rattle.planner_machine.specs.ModifyOne.{IsThatApp, is_that_app}
 use Rattle.planner_machine.specs.Moves.{each, size, with_made}
 use Rattle.planner_machine.specs.Plans.{HoldTooMany}
-use Rattle.keyed_lists.specs.Rows.{HasEachOnce, of_current, of_row}
-use Rattle.plan_pairs.specs.LiveRows.{AreCompleted, HasLists}
+use Rattle.plan_store_lists.specs.Rows.{HasEachOnce, of_current, of_row}
+use Rattle.plan_store_pairs.specs.LiveRows.{AreCompleted, HasLists}
 use Rattle.plan_store.specs.Views.{IsAny, ListsSet}
 use Rattle.plan_store.specs.declared.changes.Verdict.{Verdict}
 use Rattle.plan_store.specs.declared.changes.Verdict.TheVariants.{Done, Refused}

@@ -6,8 +6,8 @@ ghost use Rattle.plan_store.specs.Verdicts.{VerdictIs};
 ghost use Rattle.plan_store.specs.Views.{Shows};
 
 use occurrences::Key;
-use plan_pairs::Plan;
 use plan_store::{Need, Verdict, View};
+use plan_store_pairs::Plan;
 use std::alloc::{AllocError, Global};
 
 /// `ltp-add`: an occurrence of the key is added to the long-term plan, due a day after it arrives. Refused where there
@@ -19,5 +19,5 @@ pub fn add(alloc: Global, view: &View<'_>, key: &Key) -> Result<Verdict, AllocEr
         → IsSound c
         → VerdictIs (ltp_add key.now) c verdict) }
 {
-    plan_pairs::add(alloc, view, Plan::LongTerm, key)
+    plan_store_pairs::add(alloc, view, Plan::LongTerm, key)
 }

@@ -7,8 +7,8 @@ ghost use Rattle.plan_store.specs.Views.{Behind, Shows};
 ghost use Rattle.long_term_plan.specs.Deletes.{DeletesRow};
 
 use occurrences::{Deletion, Key, Reason, Refusal, Reply, Row};
-use plan_pairs::{pairs_without, single};
 use plan_store::{Change, DefinitionChange, Moves, Need, Verdict, View};
+use plan_store_pairs::{pairs_without, single};
 use std::alloc::{AllocError, Global};
 
 /// `ltp-delete`: the occurrence of the key leaves the long-term plan for the deletions. Refused where there is no plan

@@ -12,12 +12,12 @@ ghost use Rattle.planner_machine.specs.ModifyOne.{modify_one};
 ghost use Rattle.planner_machine.specs.Moves.{size};
 ghost use Rattle.planner_machine.specs.Pairs.{ArePairs};
 ghost use Rattle.planner_machine.specs.Sound.{IsSound};
-ghost use Rattle.keyed_lists.specs.Rows.{of_row};
+ghost use Rattle.plan_store_lists.specs.Rows.{of_row};
 ghost use Rattle.plan_store.specs.Changes.{LeadsOn, pairs_after};
 ghost use Rattle.plan_store.specs.Verdicts.{VerdictIs};
 ghost use Rattle.plan_store.specs.Views.{Behind, BehindAny, IsAny, ListsSet, Shows, ShowsDeleted, shown};
 ghost use Rattle.occurrences.specs.declared.key.Key.{Key as KeyValue};
-ghost use Rattle.plan_pairs.specs.Turns.{AreKnownLinks, ArePlanned};
+ghost use Rattle.plan_store_pairs.specs.Turns.{AreKnownLinks, ArePlanned};
 ghost use Rattle.long_term_plan.specs.Early.{IsRefusedEarly};
 ghost use Rattle.long_term_plan.specs.Drafting.{DraftsRise};
 ghost use Rattle.long_term_plan.specs.Modifying.{AreAsked, AreModifying, AreOf, AreTooMany, HavePlanned, Looks};
@@ -32,11 +32,11 @@ use app_definitions::Definitions;
 use app_occurrences::active;
 use external_dependencies::{Links, PairChange, find_loop};
 use occurrences::{Deletion, GREATEST_SERIAL, Reason, Refusal, Reply, Row};
-use plan_pairs::{
+use plan_store::{Change, DefinitionChange, Moves, Need, Verdict, View};
+use plan_store_pairs::{
     are_few, live_rows_of, live_rows_with, pair_change, pairs_of_apps, pairs_of_plans,
     reached_apps, single, touch_of,
 };
-use plan_store::{Change, DefinitionChange, Moves, Need, Verdict, View};
 use planner_machine::{Bounds, Draft, MOST_PLANNED_ROWS};
 use std::alloc::{AllocError, Global};
 use work_calendars::{App, Day};

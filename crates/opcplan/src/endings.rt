@@ -1,13 +1,13 @@
 //! How the files of a run were left, as it is reported.
 
 ghost use Rattle.std.specs.Prelude.{◌≡◌, ◌↔◌, false, true};
-ghost use Rattle.file_closing.specs.declared.copying.CopyFault.TheVariants.{Device, Memory};
+ghost use Rattle.plan_files_closing.specs.declared.copying.CopyFault.TheVariants.{Device, Memory};
 ghost use Rattle.opcplan.specs.Endings.{ending_of, has_all, keeps_answers};
 ghost use Rattle.opcplan.specs.declared.endings.Closed.TheVariants.{Failed, LogCut, NoMemory};
 ghost use Rattle.opcplan.specs.declared.looks.Fate.TheVariants.{Same};
 
 use crate::looks::Fate;
-use file_closing::CopyFault;
+use plan_files_closing::CopyFault;
 
 /// How files were closed.
 #[derive(Clone, Copy, Debug, PartialEq, Eq)]

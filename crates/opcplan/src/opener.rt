@@ -4,8 +4,8 @@
 ghost use Rattle.std.specs.Prelude.{⊤};
 
 use plan_files::FileOpener;
+use plan_tables_opening::{OpenFault, open_connection_with};
 use sqlite::{Connection, Error, FileFrom, FileStore, Leftover, Unknown};
-use table_opening::{OpenFault, open_connection_with};
 
 /// Opens the file at a path, as the kit does.
 #[derive(Drop)]

@@ -4,8 +4,8 @@ use crate::faults::{report_on, report_reason};
 use crate::words::NamedFile;
 use plan_files::Unrun;
 use plan_migrations::MigrateFault;
+use plan_tables_opening::OpenFault;
 use sqlite::{Error, ErrorCode, File, Leftover};
-use table_opening::OpenFault;
 
 /// Reports why no stream is run over the file: the line of the fault on standard output, its reason on standard error.
 /// Returns the exit status.

@@ -7,12 +7,12 @@ use Rattle.sqlite.specs.Start.{FindsIn}
 use Rattle.sqlite.specs.State.{IsLive, Opens, State}
 use Rattle.sqlite_wal.specs.Recovery.{Image}
 use Rattle.planner_machine.specs.Content.{Content}
-use Rattle.table_schema.specs.Rows.{tables_of}
-use Rattle.table_schema.specs.Free.{IsFree}
-use Rattle.table_schema.specs.Schema.{HasTables}
-use Rattle.table_facts.specs.Content.{IsContentOf}
-use Rattle.table_reading.specs.Reading.{HasPlan}
-use Rattle.table_opening.specs.Opened.{HasRoom, IsToldBy}
+use Rattle.plan_tables_schema.specs.Rows.{tables_of}
+use Rattle.plan_tables_schema.specs.Free.{IsFree}
+use Rattle.plan_tables_schema.specs.Schema.{HasTables}
+use Rattle.plan_tables_content.specs.Content.{IsContentOf}
+use Rattle.plan_tables_loading.specs.Reading.{HasPlan}
+use Rattle.plan_tables_opening.specs.Opened.{HasRoom, IsToldBy}
 use Rattle.plan_migrations.specs.Older.{IsFoundAs}
 use Rattle.plan_migrations.specs.declared.versions.TheConstants.{FIRST_VERSION}
 use Rattle.plan_files.specs.Begun.{IsBegunIn, IsBegunOn, begun_of}

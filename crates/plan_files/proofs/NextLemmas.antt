@@ -9,12 +9,12 @@ use Rattle.sqlite.specs.Tree.{Trees}
 use Rattle.sqlite_disk.specs.declared.Disk as disk
 use Rattle.sqlite_wal.specs.Recovery.{Image}
 use Rattle.planner_machine.specs.Content.{Content}
-use Rattle.table_schema.specs.Rows.{tables_of}
-use Rattle.table_reading.specs.Reading.{HasPlan}
-use Rattle.table_opening.specs.Stored.{AllHaveRowids}
-use Rattle.table_opening.proofs.OpeningLemmas.{room_has_none}
-use Rattle.table_facts.specs.Content.{HaveOneContent}
-use Rattle.table_remaking.specs.FirstSchema.{HasFirstTables}
+use Rattle.plan_tables_schema.specs.Rows.{tables_of}
+use Rattle.plan_tables_loading.specs.Reading.{HasPlan}
+use Rattle.plan_tables_opening.specs.Stored.{AllHaveRowids}
+use Rattle.plan_tables_opening.proofs.OpeningLemmas.{room_has_none}
+use Rattle.plan_tables_content.specs.Content.{HaveOneContent}
+use Rattle.plan_migrations_remaking.specs.FirstSchema.{HasFirstTables}
 use Rattle.plan_tables.specs.Found.{Tells}
 use Rattle.plan_tables.proofs.AgainLemmas.{holds_plan, moved_tables, same_tables}
 use Rattle.plan_tables.proofs.FoundLemmas.{told_again}

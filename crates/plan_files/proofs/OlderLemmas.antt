@@ -10,15 +10,15 @@ use Rattle.sqlite.specs.Table.{Table as Described}
 use Rattle.sqlite.specs.Tree.{Trees}
 use Rattle.sqlite_wal.specs.Recovery.{Image}
 use Rattle.planner_machine.specs.Content.{Content}
-use Rattle.table_schema.specs.Free.{IsFree}
-use Rattle.table_schema.specs.Rows.{tables_of}
-use Rattle.table_schema.specs.Schema.{HasTables, table_at}
-use Rattle.table_schema.specs.declared.tables.Table.TheVariants.{Predecessor}
-use Rattle.table_remaking.specs.FirstSchema.{HasFirstTables, first_table_at}
-use Rattle.table_reading.specs.Reading.{HasPlan}
-use Rattle.table_opening.specs.Held.{HoldSound, HoldsPlan}
-use Rattle.table_opening.specs.Opened.{IsToldBy, MakesFirst}
-use Rattle.table_opening.proofs.OpeningLemmas.{room_has_none}
+use Rattle.plan_tables_schema.specs.Free.{IsFree}
+use Rattle.plan_tables_schema.specs.Rows.{tables_of}
+use Rattle.plan_tables_schema.specs.Schema.{HasTables, table_at}
+use Rattle.plan_tables_schema.specs.declared.tables.Table.TheVariants.{Predecessor}
+use Rattle.plan_migrations_remaking.specs.FirstSchema.{HasFirstTables, first_table_at}
+use Rattle.plan_tables_loading.specs.Reading.{HasPlan}
+use Rattle.plan_tables_opening.specs.Held.{HoldSound, HoldsPlan}
+use Rattle.plan_tables_opening.specs.Opened.{IsToldBy, MakesFirst}
+use Rattle.plan_tables_opening.proofs.OpeningLemmas.{room_has_none}
 use Rattle.plan_migrations.specs.Migrating.{IsRenewed, MayRenew}
 use Rattle.plan_tables.specs.Found.{IsFoundIn}
 use Rattle.plan_tables.proofs.FoundLemmas.{found_in}

@@ -23,11 +23,11 @@ use Rattle.planner_cli.specs.Runs.{Ends, with_last}
 use Rattle.planner_cli.specs.Stores.{LeavesOnly}
 use Rattle.planner_cli.specs.declared.faults.RunFault.{RunFault}
 use Rattle.planner_cli.specs.declared.tally.Tally.{Tally}
-use Rattle.file_closing.specs.Closing.{HoldsLeft, HoldsLeftAlone}
-use Rattle.file_closing.specs.declared.closing.LetGo.{LetGo}
-use Rattle.table_schema.specs.Rows.{tables_of}
-use Rattle.table_facts.specs.Content.{HaveOneContent}
-use Rattle.table_opening.specs.Opened.{IsStored}
+use Rattle.plan_files_closing.specs.Closing.{HoldsLeft, HoldsLeftAlone}
+use Rattle.plan_files_closing.specs.declared.closing.LetGo.{LetGo}
+use Rattle.plan_tables_schema.specs.Rows.{tables_of}
+use Rattle.plan_tables_content.specs.Content.{HaveOneContent}
+use Rattle.plan_tables_opening.specs.Opened.{IsStored}
 use Rattle.plan_tables.specs.Found.{Tells, TellsLeft}
 use Rattle.plan_tables.proofs.FoundLemmas.{tells_kept}
 use Rattle.plan_tables.specs.Stored.{LeavesSound, MayLeave, TellsSound}

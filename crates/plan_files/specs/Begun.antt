@@ -5,10 +5,10 @@ use Rattle.sqlite.specs.Files.{AreFoundIn, HoldsDatabase}
 use Rattle.sqlite.specs.Tree.{Trees}
 use Rattle.sqlite_wal.specs.Recovery.{Image}
 use Rattle.planner_machine.specs.Content.{Content, nothing_known}
-use Rattle.table_schema.specs.Free.{IsFree}
-use Rattle.table_schema.specs.Rows.{tables_of}
-use Rattle.table_schema.specs.Schema.{HasTables}
-use Rattle.table_facts.specs.Content.{IsContentOf}
+use Rattle.plan_tables_schema.specs.Free.{IsFree}
+use Rattle.plan_tables_schema.specs.Rows.{tables_of}
+use Rattle.plan_tables_schema.specs.Schema.{HasTables}
+use Rattle.plan_tables_content.specs.Content.{IsContentOf}
 use Rattle.plan_files.specs.Found.{IsFirstToldBy}
 use Rattle.plan_files.specs.declared.openings.Begun.{Begun}
 use Rattle.plan_files.specs.declared.openings.Begun.TheVariants.{AsItWas, New, Migrated}

@@ -6,9 +6,9 @@ use Rattle.sqlite.specs.State.{State}
 use Rattle.sqlite.specs.Tree.{Trees}
 use Rattle.sqlite_wal.specs.Recovery.{Image}
 use Rattle.planner_machine.specs.Content.{Content}
-use Rattle.table_schema.specs.Rows.{tables_of}
-use Rattle.table_remaking.specs.FirstSchema.{CanRemake}
-use Rattle.table_opening.specs.Opened.{IsToldBy}
+use Rattle.plan_tables_schema.specs.Rows.{tables_of}
+use Rattle.plan_migrations_remaking.specs.FirstSchema.{CanRemake}
+use Rattle.plan_tables_opening.specs.Opened.{IsToldBy}
 use Rattle.plan_migrations.specs.FirstContent.{IsFirstContentOf}
 
 -- the database has tables of schema 1, which have the content

@@ -7,7 +7,7 @@ use Rattle.sqlite_store.specs.declared.store.FileStore.{FileStore}
 use Rattle.sqlite_trees.specs.View.{IsClean}
 use Rattle.sqlite_wal.specs.Files.{outcomes}
 use Rattle.sqlite_wal.specs.Recovery.{Image}
-use Rattle.file_closing.specs.declared.closing.LetGo.{LetGo}
+use Rattle.plan_files_closing.specs.declared.closing.LetGo.{LetGo}
 use Rattle.planner_machine.specs.Content.{Content, nothing_known}
 use Rattle.planner_machine.specs.Statement.{Statement}
 use Rattle.planner_cli.specs.Plans.{RanPlan}

@@ -1,7 +1,7 @@
 -- The number of a fault for which no stream is run.
 use Rattle.std.specs.Prelude.{ℕ}
 use Rattle.plan_migrations.specs.Faults as migrating
-use Rattle.table_opening.specs.Faults as opening
+use Rattle.plan_tables_opening.specs.Faults as opening
 use Rattle.plan_files.specs.declared.refusals.Unrun.{Unrun}
 use Rattle.plan_files.specs.declared.refusals.Unrun.TheVariants.{Unadopted, Unmigrated, Unopened}
 

@@ -9,12 +9,12 @@ use Rattle.sqlite_store.specs.declared.store.FileStore.{FileStore}
 use Rattle.sqlite_wal.specs.Files.{outcomes}
 use Rattle.sqlite_wal.specs.Reads.{AreClean}
 use Rattle.sqlite_wal.specs.Recovery.{Image}
-use Rattle.file_closing.specs.declared.closing.LetGo.{LetGo}
+use Rattle.plan_files_closing.specs.declared.closing.LetGo.{LetGo}
 use Rattle.planner_cli.specs.Plans.{RanPlan, StoppedPlan}
 use Rattle.planner_cli.specs.Runs.{Ends}
 use Rattle.planner_cli.specs.declared.faults.RunFault.{RunFault}
 use Rattle.planner_cli.specs.declared.tally.Tally.{Tally}
-use Rattle.table_opening.specs.Opened.{IsToldBy}
+use Rattle.plan_tables_opening.specs.Opened.{IsToldBy}
 use Rattle.plan_tables.specs.Found.{IsFoundIn}
 use Rattle.plan_files.specs.FileRuns.{Leaves}
 use Rattle.plan_files.specs.Found.{IsFirstFoundIn, IsToldNow}

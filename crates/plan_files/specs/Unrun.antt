@@ -17,14 +17,14 @@ use Rattle.sqlite_wal.specs.Recovery.{Image}
 use Rattle.sqlite_store.specs.Report.{named}
 use Rattle.sqlite_wal.specs.Reads.{tally_of_files}
 use Rattle.sqlite.specs.declared.error.Error.{Error}
-use Rattle.table_opening.specs.Faults.{unopened_for}
-use Rattle.table_opening.specs.Files.{IsRefused, Refuses}
-use Rattle.table_opening.specs.Foreign.{version_sql}
-use Rattle.table_opening.specs.Held.{HoldsPlan}
-use Rattle.table_opening.specs.Opened.{IsCommon, MakesFirst}
-use Rattle.table_opening.specs.Opening.{IsUnopened}
-use Rattle.table_opening.specs.declared.faults.OpenFault.{OpenFault}
-use Rattle.table_opening.specs.declared.faults.OpenFault.TheVariants as open_fault
+use Rattle.plan_tables_opening.specs.Faults.{unopened_for}
+use Rattle.plan_tables_opening.specs.Files.{IsRefused, Refuses}
+use Rattle.plan_tables_opening.specs.Foreign.{version_sql}
+use Rattle.plan_tables_opening.specs.Held.{HoldsPlan}
+use Rattle.plan_tables_opening.specs.Opened.{IsCommon, MakesFirst}
+use Rattle.plan_tables_opening.specs.Opening.{IsUnopened}
+use Rattle.plan_tables_opening.specs.declared.faults.OpenFault.{OpenFault}
+use Rattle.plan_tables_opening.specs.declared.faults.OpenFault.TheVariants as open_fault
 use Rattle.plan_migrations.specs.Asking.{IsFailure}
 use Rattle.plan_migrations.specs.Migrating.{IsUnmigrated, MayRenew}
 use Rattle.plan_migrations.specs.Older.{IsCurrent}

@@ -3,8 +3,8 @@
 ghost use Rattle.plan_files.specs.Next.{BytesLive, FindsNext, GoesOn, HandsOn, HoldsNext, PassesOn, WholeLife};
 
 use crate::life::file_life;
+use plan_tables_content::tables_have_one_content;
 use sqlite_disk::Disk;
-use table_facts::tables_have_one_content;
 
 /// Law: however a run over files ended, and whatever a crash left of them since, it is a run from their bytes to those. And
 /// one that was refused over a plan that is opened left what was there.

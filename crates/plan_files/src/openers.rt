@@ -9,12 +9,12 @@ ghost use Rattle.sqlite.specs.declared.error.Error.{Error as ErrorValue};
 ghost use Rattle.sqlite_std_file.specs.File.{IsFresh};
 ghost use Rattle.sqlite_store.specs.FileStore.{view};
 ghost use Rattle.sqlite_wal.specs.Files.{image_at};
-ghost use Rattle.table_opening.specs.Faults.{unopened_for};
-ghost use Rattle.table_opening.specs.Files.{IsRefused, IsUnreached};
-ghost use Rattle.table_opening.specs.declared.faults.OpenFault.TheVariants.{Memory, Unopened};
+ghost use Rattle.plan_tables_opening.specs.Faults.{unopened_for};
+ghost use Rattle.plan_tables_opening.specs.Files.{IsRefused, IsUnreached};
+ghost use Rattle.plan_tables_opening.specs.declared.faults.OpenFault.TheVariants.{Memory, Unopened};
 
+use plan_tables_opening::OpenFault;
 use sqlite::{Connection, Error, FileFrom, FileStore, Leftover, Start};
-use table_opening::OpenFault;
 
 /// Opens the files of a run, once. A run can do nothing else to them before they are open.
 pub trait FileOpener<S: Start> {

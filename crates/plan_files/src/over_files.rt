@@ -16,11 +16,11 @@ use crate::refusals::Unrun;
 use crate::running::{Ended, run_and_close};
 use plan_migrations::migrate_older;
 use plan_tables::TableStore;
+use plan_tables_opening::has_meta;
 use sqlite::{Connection, Error, FileFrom, FileStore, Leftover, Start};
 use sqlite_disk::Disk;
 use std::alloc::Global;
 use std::io::{BufRead, Write};
-use table_opening::has_meta;
 
 // Adopts a database, runs a stream over it, and closes its files.
 fn run_adopted<D: Disk + Drop, O: Opening, R: BufRead, W: Write>(

@@ -4,7 +4,7 @@ ghost use Rattle.std.specs.Prelude.{◌≡◌};
 ghost use Rattle.plan_files.specs.Numbers.{number_of};
 
 use plan_migrations::{MigrateFault, migrate_fault_number};
-use table_opening::{OpenFault, open_fault_number};
+use plan_tables_opening::{OpenFault, open_fault_number};
 
 /// Why a stream is not run over files.
 #[derive(Clone, Copy, Debug, PartialEq, Eq)]

@@ -10,16 +10,16 @@ ghost use Rattle.plan_tables.specs.Kept.{IsKept, kept_in};
 ghost use Rattle.plan_tables.specs.Stored.{LeavesOne};
 ghost use Rattle.plan_files.specs.Over.{AreHonest, RunsFiles};
 
-use file_closing::{LetGo, let_go};
+use plan_files_closing::{LetGo, let_go};
 use plan_store::PlanStore;
 use plan_tables::TableStore;
+use plan_tables_content::tables_have_one_content;
 use planner_cli::{RunFault, Tally, run};
 use planner_machine::streams;
 use sqlite::{Alter, FileStore};
 use sqlite_disk::Disk;
 use std::alloc::Global;
 use std::io::{BufRead, Write};
-use table_facts::tables_have_one_content;
 
 /// How a run over files ended.
 #[derive(Drop)]

@@ -6,12 +6,12 @@ use Rattle.sqlite_trees.specs.declared.error.StoreError.{StoreError}
 use Rattle.sqlite_trees.specs.declared.error.StoreError.TheVariants as store
 use Rattle.sqlite.specs.declared.error.Error.{Error}
 use Rattle.std.specs.Prelude.{IsTrue}
-use Rattle.table_opening.specs.Queries.{IsReading}
-use Rattle.table_opening.specs.declared.faults.OpenFault.{OpenFault}
-use Rattle.table_opening.specs.declared.faults.OpenFault.TheVariants.{Device, Memory, Unopened}
-use Rattle.table_opening.specs.Kept.{IsKept}
-use Rattle.table_opening.proofs.KeptLemmas.{kept_if_left}
-use Rattle.table_opening.proofs.QueryLemmas as query
+use Rattle.plan_tables_opening.specs.Queries.{IsReading}
+use Rattle.plan_tables_opening.specs.declared.faults.OpenFault.{OpenFault}
+use Rattle.plan_tables_opening.specs.declared.faults.OpenFault.TheVariants.{Device, Memory, Unopened}
+use Rattle.plan_tables_opening.specs.Kept.{IsKept}
+use Rattle.plan_tables_opening.proofs.KeptLemmas.{kept_if_left}
+use Rattle.plan_tables_opening.proofs.QueryLemmas as query
 use Rattle.plan_migrations.specs.Asking.{FailsByDevice, HasAnswer}
 
 pub kept_by : (sql : List ℕ) → IsReading sql → (old new : State) (e : Error)

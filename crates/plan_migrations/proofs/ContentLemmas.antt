@@ -6,21 +6,21 @@ use Rattle.std.proofs.lemmas.List.Sorted.{Contains-permutation, IsPermutation-sy
 use Rattle.sqlite.specs.Order.{Row as Values, column}
 use Rattle.sqlite.specs.declared.types.Value.{Value}
 use Rattle.sqlite.specs.declared.types.Value.TheVariants.{Null, Text}
-use Rattle.keyed_lists.proofs.KeyLemmas.{contains_cases, contains_first, contains_later, nothing}
-use Rattle.definition_records.specs.declared.predecessors.Predecessor.{Predecessor}
+use Rattle.plan_store_lists.proofs.KeyLemmas.{contains_cases, contains_first, contains_later, nothing}
+use Rattle.app_definition_records.specs.declared.predecessors.Predecessor.{Predecessor}
 use Rattle.external_dependencies.specs.declared.links.Link.{Link}
 use Rattle.planner_machine.specs.Content.{Content}
-use Rattle.table_schema.specs.Rows.{Tables, shown}
-use Rattle.table_schema.specs.declared.tables.Table.{Table}
-use Rattle.table_schema.specs.declared.tables.Table.TheVariants as table
-use Rattle.table_schema.specs.declared.tables.Table.TheVariants.{Meta, CalendarEntry, Period, Application, RunCycle}
-use Rattle.table_schema.specs.declared.tables.Table.TheVariants.{Offset, LinkInForce, LongTerm, Current}
-use Rattle.table_schema.specs.declared.tables.Table.TheVariants.{History, Deletion, Dependency, Job}
-use Rattle.table_schema.specs.declared.tables.TheConstants.{SCHEMA_VERSION}
-use Rattle.table_facts.specs.Content.{IsContentOf, IsFact}
-use Rattle.table_facts.specs.Facts.{link_values, natural, or_null, predecessor_values}
-use Rattle.table_remaking.specs.FirstSchema.{first_shown}
-use Rattle.table_remaking.specs.Remaking.{remade_row, with_version}
+use Rattle.plan_tables_schema.specs.Rows.{Tables, shown}
+use Rattle.plan_tables_schema.specs.declared.tables.Table.{Table}
+use Rattle.plan_tables_schema.specs.declared.tables.Table.TheVariants as table
+use Rattle.plan_tables_schema.specs.declared.tables.Table.TheVariants.{Meta, CalendarEntry, Period, Application, RunCycle}
+use Rattle.plan_tables_schema.specs.declared.tables.Table.TheVariants.{Offset, LinkInForce, LongTerm, Current}
+use Rattle.plan_tables_schema.specs.declared.tables.Table.TheVariants.{History, Deletion, Dependency, Job}
+use Rattle.plan_tables_schema.specs.declared.tables.TheConstants.{SCHEMA_VERSION}
+use Rattle.plan_tables_content.specs.Content.{IsContentOf, IsFact}
+use Rattle.plan_tables_content.specs.Facts.{link_values, natural, or_null, predecessor_values}
+use Rattle.plan_migrations_remaking.specs.FirstSchema.{first_shown}
+use Rattle.plan_migrations_remaking.specs.Remaking.{remade_row, with_version}
 use Rattle.plan_migrations.specs.FirstContent.{AreOfFirst, HasNoLimits, IsFirstContentOf, IsFirstFact, first_link_values}
 use Rattle.plan_migrations.specs.FirstContent.{first_meta_values, first_predecessor_values}
 use Rattle.plan_migrations.specs.Migrating.{AreRenewed, KeepsContent}

@@ -2,13 +2,13 @@
 use Rattle.std.proofs.Common.{◌≡◌, ◌↔◌, List, refl, sym, ap, subst}
 use Rattle.sqlite_schema.specs.declared.schema.Schema.{Schema}
 use Rattle.sqlite_schema.specs.declared.schema.Table.{Table as Described}
-use Rattle.table_schema.specs.Free.{CanMake}
-use Rattle.table_schema.specs.Schema.{tree}
-use Rattle.table_opening.specs.Standing.{StandAmong}
-use Rattle.table_opening.proofs.AmongLemmas.{Forms, are_there, they_stand}
-use Rattle.table_remaking.specs.FirstSchema.{CanRemake, HasFirstTables, changed_schema, first_schema, first_table_at}
-use Rattle.table_remaking.specs.Leaving.{left_by}
-use Rattle.table_remaking.proofs.LeavingLemmas.{left_is}
+use Rattle.plan_tables_schema.specs.Free.{CanMake}
+use Rattle.plan_tables_schema.specs.Schema.{tree}
+use Rattle.plan_tables_opening.specs.Standing.{StandAmong}
+use Rattle.plan_tables_opening.proofs.AmongLemmas.{Forms, are_there, they_stand}
+use Rattle.plan_migrations_remaking.specs.FirstSchema.{CanRemake, HasFirstTables, changed_schema, first_schema, first_table_at}
+use Rattle.plan_migrations_remaking.specs.Leaving.{left_by}
+use Rattle.plan_migrations_remaking.proofs.LeavingLemmas.{left_is}
 
 abbrev forms : Forms
 forms = record { form = λ t. first_table_at (tree t) t; named = λ t. refl; offsets = refl }

@@ -8,16 +8,16 @@ use Rattle.sqlite.specs.Order.{Row as Values}
 use Rattle.sqlite.specs.State.{State}
 use Rattle.planner_machine.specs.Content.{Content}
 use Rattle.planner_machine.specs.Sound.{IsSound}
-use Rattle.table_schema.specs.Rows.{IsPlan, Tables, shown, tables_of}
-use Rattle.table_schema.specs.declared.tables.Table.{Table}
-use Rattle.table_facts.specs.Content.{IsContentOf, IsFact}
-use Rattle.table_reading.specs.Reading.{HasPlan}
-use Rattle.table_opening.specs.Opened.{IsToldBy}
-use Rattle.table_opening.specs.Opening.{IsUnopened}
-use Rattle.table_opening.specs.declared.faults.OpenFault.{OpenFault}
-use Rattle.table_opening.proofs.OpeningLemmas.{room_has_none}
-use Rattle.table_remaking.specs.Remaking.{AreRemade, AreWhole, remade_row}
-use Rattle.table_remaking.specs.declared.rows.FirstRows.{FirstRows}
+use Rattle.plan_tables_schema.specs.Rows.{IsPlan, Tables, shown, tables_of}
+use Rattle.plan_tables_schema.specs.declared.tables.Table.{Table}
+use Rattle.plan_tables_content.specs.Content.{IsContentOf, IsFact}
+use Rattle.plan_tables_loading.specs.Reading.{HasPlan}
+use Rattle.plan_tables_opening.specs.Opened.{IsToldBy}
+use Rattle.plan_tables_opening.specs.Opening.{IsUnopened}
+use Rattle.plan_tables_opening.specs.declared.faults.OpenFault.{OpenFault}
+use Rattle.plan_tables_opening.proofs.OpeningLemmas.{room_has_none}
+use Rattle.plan_migrations_remaking.specs.Remaking.{AreRemade, AreWhole, remade_row}
+use Rattle.plan_migrations_remaking.specs.declared.rows.FirstRows.{FirstRows}
 use Rattle.plan_migrations.specs.Faults.{fault_in_memory}
 use Rattle.plan_migrations.specs.Migrating.{FailToHold, HaveContent}
 use Rattle.plan_migrations.specs.declared.faults.MigrateFault.{MigrateFault}

@@ -4,11 +4,11 @@ use Rattle.std.specs.Prelude.{Option, Some, None, Ok}
 use Rattle.sqlite.specs.Effect.{Database}
 use Rattle.sqlite.specs.State.{HasCleanDisk, IsUnchanged, State, Survives}
 use Rattle.sqlite.proofs.StateLemmas.{survives_then}
-use Rattle.table_schema.specs.Texts.{select_sql}
-use Rattle.table_schema.specs.declared.tables.TheConstants.{SCHEMA_VERSION}
-use Rattle.table_opening.specs.Foreign.{RefusesVersion, version_sql}
-use Rattle.table_opening.proofs.ForeignLemmas.{version_reads}
-use Rattle.table_opening.proofs.QueryLemmas.{refused_same}
+use Rattle.plan_tables_schema.specs.Texts.{select_sql}
+use Rattle.plan_tables_schema.specs.declared.tables.TheConstants.{SCHEMA_VERSION}
+use Rattle.plan_tables_opening.specs.Foreign.{RefusesVersion, version_sql}
+use Rattle.plan_tables_opening.proofs.ForeignLemmas.{version_reads}
+use Rattle.plan_tables_opening.proofs.QueryLemmas.{refused_same}
 use Rattle.plan_migrations.specs.Migrating.{IsMigrated, IsUnmigrated, MayRenew, RenewsFrom}
 use Rattle.plan_migrations.specs.Older.{IsCurrent, IsFoundAs}
 use Rattle.plan_migrations.specs.Schemas.{IsKnownVersion, IsOfVersion, ShowsVersion, TellsVersion}

@@ -15,27 +15,27 @@ use Rattle.sqlite.specs.declared.error.ErrorCode.TheVariants as code
 use Rattle.sqlite.specs.Tree.{Trees}
 use Rattle.sqlite.proofs.Callers.{unchanged_then}
 use Rattle.planner_machine.specs.Content.{Content}
-use Rattle.table_schema.specs.Rows.{Tables, no_rows, shown, tables_of}
-use Rattle.table_schema.specs.Schema.{all_tables, plan_schema}
-use Rattle.table_schema.specs.declared.tables.Table.{Table}
-use Rattle.table_schema.specs.declared.tables.Table.TheVariants.{Meta, CalendarEntry, Period, Application, RunCycle}
-use Rattle.table_schema.specs.declared.tables.Table.TheVariants.{Offset, Predecessor, LinkInForce, LongTerm, Current}
-use Rattle.table_schema.specs.declared.tables.Table.TheVariants.{History, Deletion, Dependency, Job}
-use Rattle.table_remaking.specs.FirstSchema.{CanRemake, HasFirstTables, first_shown}
-use Rattle.table_remaking.specs.FirstTexts.{first_select_sql}
-use Rattle.table_remaking.specs.Refusals.{FailsFor}
-use Rattle.table_remaking.specs.Remaking.{AreAllFirst, AreRemade, AreRowsOf, AreWhole, CanRemakeOf, HaveStayingRowids, IsRemadeOf, RefusesToRemake, RemakesTo}
-use Rattle.table_remaking.specs.Remaking.{remade_row, tables_in, with_all_put}
-use Rattle.table_remaking.specs.Turns.{DeviceHasCause, is_of_device}
-use Rattle.table_remaking.specs.Types.{AreFirst}
-use Rattle.table_opening.specs.Faults.{fault_for}
-use Rattle.table_opening.specs.Rowids.{rowid_sql}
-use Rattle.table_opening.specs.declared.faults.OpenFault.TheVariants as OpenFault
-use Rattle.table_opening.specs.declared.faults.OpenFault.TheVariants.{Unopened}
-use Rattle.table_remaking.specs.declared.rows.FirstRows.{FirstRows}
-use Rattle.table_remaking.proofs.CauseLemmas.{calm_fill, fails_after}
-use Rattle.table_remaking.proofs.StepLemmas as step
-use Rattle.table_opening.specs.Kept.{IsKept}
+use Rattle.plan_tables_schema.specs.Rows.{Tables, no_rows, shown, tables_of}
+use Rattle.plan_tables_schema.specs.Schema.{all_tables, plan_schema}
+use Rattle.plan_tables_schema.specs.declared.tables.Table.{Table}
+use Rattle.plan_tables_schema.specs.declared.tables.Table.TheVariants.{Meta, CalendarEntry, Period, Application, RunCycle}
+use Rattle.plan_tables_schema.specs.declared.tables.Table.TheVariants.{Offset, Predecessor, LinkInForce, LongTerm, Current}
+use Rattle.plan_tables_schema.specs.declared.tables.Table.TheVariants.{History, Deletion, Dependency, Job}
+use Rattle.plan_migrations_remaking.specs.FirstSchema.{CanRemake, HasFirstTables, first_shown}
+use Rattle.plan_migrations_remaking.specs.FirstTexts.{first_select_sql}
+use Rattle.plan_migrations_remaking.specs.Refusals.{FailsFor}
+use Rattle.plan_migrations_remaking.specs.Remaking.{AreAllFirst, AreRemade, AreRowsOf, AreWhole, CanRemakeOf, HaveStayingRowids, IsRemadeOf, RefusesToRemake, RemakesTo}
+use Rattle.plan_migrations_remaking.specs.Remaking.{remade_row, tables_in, with_all_put}
+use Rattle.plan_migrations_remaking.specs.Turns.{DeviceHasCause, is_of_device}
+use Rattle.plan_migrations_remaking.specs.Types.{AreFirst}
+use Rattle.plan_tables_opening.specs.Faults.{fault_for}
+use Rattle.plan_tables_opening.specs.Rowids.{rowid_sql}
+use Rattle.plan_tables_opening.specs.declared.faults.OpenFault.TheVariants as OpenFault
+use Rattle.plan_tables_opening.specs.declared.faults.OpenFault.TheVariants.{Unopened}
+use Rattle.plan_migrations_remaking.specs.declared.rows.FirstRows.{FirstRows}
+use Rattle.plan_migrations_remaking.proofs.CauseLemmas.{calm_fill, fails_after}
+use Rattle.plan_migrations_remaking.proofs.StepLemmas as step
+use Rattle.plan_tables_opening.specs.Kept.{IsKept}
 use Rattle.plan_migrations.specs.FirstContent.{AreOfFirst, IsFirstContentOf}
 use Rattle.plan_migrations.specs.Migrating.{AreNotTaken, AreRead, AreRenewed, AreShown, ChecksTables, HaveOtherRowids}
 use Rattle.plan_migrations.specs.Migrating.{FailToHold, FailsToRead, FailsToReadAll, FailsToRemake, HaveContent, HaveSound}
@@ -43,10 +43,10 @@ use Rattle.plan_migrations.specs.Migrating.{IsMigrated, IsRemade, IsRenewed, IsU
 use Rattle.plan_migrations.specs.Migrating.{RenewsFrom, TellsOf}
 use Rattle.plan_migrations.specs.Schemas.{IsKnownVersion, IsOfSchema, IsOfVersion, IsOtherFirst, ShowsVersion, TellsVersion}
 use Rattle.plan_migrations.specs.declared.versions.TheConstants.{FIRST_VERSION}
-use Rattle.table_schema.specs.declared.tables.TheConstants.{SCHEMA_VERSION}
+use Rattle.plan_tables_schema.specs.declared.tables.TheConstants.{SCHEMA_VERSION}
 use Rattle.plan_migrations.specs.declared.faults.MigrateFault.{MigrateFault}
 use Rattle.plan_migrations.specs.declared.faults.MigrateFault.TheVariants.{UnknownVersion, OtherTable, Rows, Memory, Device}
-use Rattle.table_opening.proofs.KeptLemmas.{kept_if_same}
+use Rattle.plan_tables_opening.proofs.KeptLemmas.{kept_if_same}
 use Rattle.plan_migrations.proofs.AskLemmas.{device_since}
 use Rattle.plan_migrations.proofs.ContentLemmas.{content_kept, content_stays}
 use Rattle.plan_migrations.proofs.TextLemmas.{first_reads, rowid_reads}

@@ -10,21 +10,21 @@ use Rattle.sqlite.specs.State.{IsLive, IsUnchanged, Shown, State}
 use Rattle.sqlite_keyed.proofs.ListLemmas.{all_of, filter_all}
 use Rattle.sqlite_schema.specs.declared.schema.Schema.{Schema}
 use Rattle.sqlite_trees.specs.Objects.{catalog_tree}
-use Rattle.table_schema.proofs.NamedLemmas.{tree_is}
-use Rattle.table_schema.proofs.QueryMeanings.{ShowsRows}
-use Rattle.table_schema.proofs.ShownLemmas as shown
-use Rattle.table_schema.proofs.StopLemmas.{vain_since}
-use Rattle.table_schema.specs.Places.{TableStandsAt}
-use Rattle.table_schema.specs.Rows.{HaveRowids, tables_of}
-use Rattle.table_schema.specs.Schema.{all_tables, table_at}
-use Rattle.table_schema.specs.declared.tables.Table.{Table}
-use Rattle.table_schema.specs.declared.tables.Table.TheVariants.{LinkInForce, Predecessor}
-use Rattle.table_remaking.specs.FirstSchema.{HasFirstTables, first_table_at, is_changed}
-use Rattle.table_remaking.specs.Remaking.{HaveStayingRowids}
-use Rattle.table_remaking.specs.declared.rows.FirstRows.{FirstRows}
-use Rattle.table_opening.specs.Foreign.{RefusesToShow}
-use Rattle.table_opening.specs.Rowids.{rowid_shown, rowid_sql, rowid_terms}
-use Rattle.table_opening.proofs.RowidTexts.{rowid_name, rowids}
+use Rattle.plan_tables_schema.proofs.NamedLemmas.{tree_is}
+use Rattle.plan_tables_schema.proofs.QueryMeanings.{ShowsRows}
+use Rattle.plan_tables_schema.proofs.ShownLemmas as shown
+use Rattle.plan_tables_schema.proofs.StopLemmas.{vain_since}
+use Rattle.plan_tables_schema.specs.Places.{TableStandsAt}
+use Rattle.plan_tables_schema.specs.Rows.{HaveRowids, tables_of}
+use Rattle.plan_tables_schema.specs.Schema.{all_tables, table_at}
+use Rattle.plan_tables_schema.specs.declared.tables.Table.{Table}
+use Rattle.plan_tables_schema.specs.declared.tables.Table.TheVariants.{LinkInForce, Predecessor}
+use Rattle.plan_migrations_remaking.specs.FirstSchema.{HasFirstTables, first_table_at, is_changed}
+use Rattle.plan_migrations_remaking.specs.Remaking.{HaveStayingRowids}
+use Rattle.plan_migrations_remaking.specs.declared.rows.FirstRows.{FirstRows}
+use Rattle.plan_tables_opening.specs.Foreign.{RefusesToShow}
+use Rattle.plan_tables_opening.specs.Rowids.{rowid_shown, rowid_sql, rowid_terms}
+use Rattle.plan_tables_opening.proofs.RowidTexts.{rowid_name, rowids}
 use Rattle.plan_migrations.specs.Asking.{IsFailure}
 use Rattle.plan_migrations.specs.Migrating.{AreRead, ChecksAllRowids, ChecksRowids, HaveOtherRowids, IsUnrenewed}
 use Rattle.plan_migrations.specs.declared.faults.MigrateFault.{MigrateFault}

@@ -1,12 +1,12 @@
 -- The texts that show tables only read.
 use Rattle.sqlite_tied.specs.Compute.{everything}
 use Rattle.sqlite_resolve.specs.Compile.{first}
-use Rattle.table_opening.specs.Queries.{IsReading}
-use Rattle.table_opening.specs.Rowids.{rowid_sql}
-use Rattle.table_schema.specs.Texts.{select_sql}
-use Rattle.table_schema.specs.declared.tables.Table.{Table}
-use Rattle.table_schema.specs.declared.tables.Table.TheVariants.{Meta}
-use Rattle.table_remaking.specs.FirstTexts.{first_select_sql}
+use Rattle.plan_tables_opening.specs.Queries.{IsReading}
+use Rattle.plan_tables_opening.specs.Rowids.{rowid_sql}
+use Rattle.plan_tables_schema.specs.Texts.{select_sql}
+use Rattle.plan_tables_schema.specs.declared.tables.Table.{Table}
+use Rattle.plan_tables_schema.specs.declared.tables.Table.TheVariants.{Meta}
+use Rattle.plan_migrations_remaking.specs.FirstTexts.{first_select_sql}
 
 pub select_reads : (t : Table) → IsReading (select_sql t)
 unfolding first everything

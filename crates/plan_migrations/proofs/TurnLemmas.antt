@@ -11,20 +11,20 @@ use Rattle.sqlite.specs.State.{Shown, ShowsRows}
 use Rattle.sqlite.specs.declared.error.Error.{Error}
 use Rattle.sqlite_resolve.specs.declared.compiled.Compiled.{Compiled}
 use Rattle.sqlite.proofs.Callers.{unchanged_then}
-use Rattle.table_schema.specs.Texts.{select_sql}
-use Rattle.table_schema.specs.declared.tables.Table.{Table}
-use Rattle.table_opening.specs.Foreign.{LacksMemory, RefusesToShow, version_sql}
-use Rattle.table_opening.specs.Queries.{IsReading}
-use Rattle.table_reading.proofs.LookLemmas.{undone_since}
-use Rattle.table_opening.proofs.ForeignLemmas.{version_reads}
-use Rattle.table_opening.proofs.QueryLemmas.{refused_same, shown_same, shows_alone}
-use Rattle.table_opening.specs.Kept.{IsKept}
+use Rattle.plan_tables_schema.specs.Texts.{select_sql}
+use Rattle.plan_tables_schema.specs.declared.tables.Table.{Table}
+use Rattle.plan_tables_opening.specs.Foreign.{LacksMemory, RefusesToShow, version_sql}
+use Rattle.plan_tables_opening.specs.Queries.{IsReading}
+use Rattle.plan_tables_loading.proofs.LookLemmas.{undone_since}
+use Rattle.plan_tables_opening.proofs.ForeignLemmas.{version_reads}
+use Rattle.plan_tables_opening.proofs.QueryLemmas.{refused_same, shown_same, shows_alone}
+use Rattle.plan_tables_opening.specs.Kept.{IsKept}
 use Rattle.plan_migrations.specs.Asking.{HasAnswer, IsFailureOfOne}
 use Rattle.plan_migrations.specs.Migrating.{ChecksTable, ChecksTables, IsUnmigrated}
-use Rattle.table_schema.specs.declared.tables.TheConstants.{SCHEMA_VERSION}
+use Rattle.plan_tables_schema.specs.declared.tables.TheConstants.{SCHEMA_VERSION}
 use Rattle.plan_migrations.specs.Schemas.{IsKnownVersion, IsOfSchema, IsOfVersion, IsOther, ShowsOther, ShowsSuch}
 use Rattle.plan_migrations.specs.Schemas.{ShowsVersion, TellsVersion}
-use Rattle.table_remaking.specs.Types.{AreTyped}
+use Rattle.plan_migrations_remaking.specs.Types.{AreTyped}
 use Rattle.plan_migrations.specs.declared.faults.MigrateFault.{MigrateFault}
 use Rattle.plan_migrations.specs.declared.faults.MigrateFault.TheVariants.{UnknownVersion, OtherTable, Rows, Memory, Device}
 use Rattle.plan_migrations.proofs.AskLemmas.{cause_since, device_since, has_answer}

@@ -11,26 +11,26 @@ use Rattle.sqlite.specs.Term.{Term, col, eval_all}
 use Rattle.sqlite_schema.specs.declared.schema.Schema.{Schema}
 use Rattle.sqlite_trees.specs.Objects.{catalog_tree}
 use Rattle.sqlite_tied.specs.Compute.{everything}
-use Rattle.keyed_lists.proofs.KeyLemmas.{contains_cases, nothing}
-use Rattle.table_schema.specs.Places.{TableStandsAt}
-use Rattle.table_schema.specs.Rows.{shown, tables_of}
-use Rattle.table_schema.specs.Schema.{HasTables, name, table_at}
-use Rattle.table_schema.specs.declared.tables.Table.TheVariants as table
-use Rattle.table_schema.specs.declared.tables.TheConstants.{SCHEMA_VERSION}
-use Rattle.table_schema.proofs.ColumnQueries.{IsBareSelect, ShowsColumns, columns_show}
-use Rattle.table_schema.proofs.NamedLemmas.{tree_is}
-use Rattle.table_schema.proofs.QueryMeanings.{ShowsRows}
-use Rattle.table_schema.proofs.ShownLemmas.{shows_all, stays}
-use Rattle.table_schema.proofs.StatementLemmas.{text_fails, text_reads}
-use Rattle.table_facts.specs.Facts.{natural}
-use Rattle.table_opening.specs.Foreign.{RefusesVersion, version_sql}
-use Rattle.table_opening.specs.Held.{AreKnown, HoldsPlan}
-use Rattle.table_opening.proofs.ForeignLemmas.{version_reads}
-use Rattle.table_opening.proofs.QueryLemmas.{other_cause}
-use Rattle.table_opening.proofs.SoundLemmas.{sound_is_known}
-use Rattle.table_opening.proofs.StoredLemmas.{still_known}
-use Rattle.table_reading.specs.Reading.{HasPlan}
-use Rattle.table_remaking.specs.FirstSchema.{CanRemake, first_shown, first_table_at}
+use Rattle.plan_store_lists.proofs.KeyLemmas.{contains_cases, nothing}
+use Rattle.plan_tables_schema.specs.Places.{TableStandsAt}
+use Rattle.plan_tables_schema.specs.Rows.{shown, tables_of}
+use Rattle.plan_tables_schema.specs.Schema.{HasTables, name, table_at}
+use Rattle.plan_tables_schema.specs.declared.tables.Table.TheVariants as table
+use Rattle.plan_tables_schema.specs.declared.tables.TheConstants.{SCHEMA_VERSION}
+use Rattle.plan_tables_schema.proofs.ColumnQueries.{IsBareSelect, ShowsColumns, columns_show}
+use Rattle.plan_tables_schema.proofs.NamedLemmas.{tree_is}
+use Rattle.plan_tables_schema.proofs.QueryMeanings.{ShowsRows}
+use Rattle.plan_tables_schema.proofs.ShownLemmas.{shows_all, stays}
+use Rattle.plan_tables_schema.proofs.StatementLemmas.{text_fails, text_reads}
+use Rattle.plan_tables_content.specs.Facts.{natural}
+use Rattle.plan_tables_opening.specs.Foreign.{RefusesVersion, version_sql}
+use Rattle.plan_tables_opening.specs.Held.{AreKnown, HoldsPlan}
+use Rattle.plan_tables_opening.proofs.ForeignLemmas.{version_reads}
+use Rattle.plan_tables_opening.proofs.QueryLemmas.{other_cause}
+use Rattle.plan_tables_opening.proofs.SoundLemmas.{sound_is_known}
+use Rattle.plan_tables_opening.proofs.StoredLemmas.{still_known}
+use Rattle.plan_tables_loading.specs.Reading.{HasPlan}
+use Rattle.plan_migrations_remaking.specs.FirstSchema.{CanRemake, first_shown, first_table_at}
 use Rattle.plan_migrations.specs.Asking.{IsFailure}
 use Rattle.plan_migrations.specs.FirstContent.{AreOfFirst}
 use Rattle.plan_migrations.specs.Schemas.{AreOf, IsKnownVersion, ShowsVersion, TellsVersion}

@@ -7,8 +7,8 @@ use Rattle.sqlite.specs.Order.{Row as Values}
 use Rattle.sqlite.specs.State.{IsStatement, State}
 use Rattle.sqlite_disk.specs.Disk.{MoreFaults}
 use Rattle.sqlite_resolve.specs.declared.compiled.Compiled.{Compiled}
-use Rattle.table_schema.specs.declared.tables.Table.{Table}
-use Rattle.table_opening.specs.Foreign.{LacksMemory}
+use Rattle.plan_tables_schema.specs.declared.tables.Table.{Table}
+use Rattle.plan_tables_opening.specs.Foreign.{LacksMemory}
 use Rattle.plan_migrations.specs.declared.faults.MigrateFault.{MigrateFault}
 use Rattle.plan_migrations.specs.declared.faults.MigrateFault.TheVariants.{Memory, Device}
 

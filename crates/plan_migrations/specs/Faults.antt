@@ -1,6 +1,6 @@
 -- The number of a fault.
 use Rattle.std.specs.Prelude.{ℕ}
-use Rattle.table_opening.specs.declared.faults.OpenFault.{OpenFault}
+use Rattle.plan_tables_opening.specs.declared.faults.OpenFault.{OpenFault}
 use Rattle.plan_migrations.specs.declared.faults.MigrateFault.{MigrateFault}
 use Rattle.plan_migrations.specs.declared.faults.MigrateFault.TheVariants.{UnknownVersion, OtherTable, Rows, Memory, Device}
 

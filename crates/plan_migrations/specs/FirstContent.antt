@@ -3,16 +3,16 @@ use Rattle.std.specs.Prelude.{◌≡◌, ◌↔◌, ℕ, List, [], ◌∷◌, ma
 use Rattle.sqlite.specs.Order.{Row as Values, column}
 use Rattle.sqlite.specs.declared.types.Value.TheVariants.{Text}
 use Rattle.app_definitions.specs.declared.options.Options.{Options}
-use Rattle.definition_records.specs.declared.predecessors.Predecessor.{Predecessor}
+use Rattle.app_definition_records.specs.declared.predecessors.Predecessor.{Predecessor}
 use Rattle.external_dependencies.specs.declared.links.Link.{Link}
 use Rattle.planner_machine.specs.Content.{Content}
 use Rattle.planner_machine.specs.declared.content.Bounds.{Bounds}
-use Rattle.table_schema.specs.Rows.{Tables}
-use Rattle.table_schema.specs.declared.tables.Table.{Table}
-use Rattle.table_schema.specs.declared.tables.Table.TheVariants as table
-use Rattle.table_facts.specs.Content.{AreEach, IsFact, IsOfList, IsOfSome, IsTellable, bounds_values}
-use Rattle.table_facts.specs.Facts.{natural}
-use Rattle.table_remaking.specs.FirstSchema.{first_shown}
+use Rattle.plan_tables_schema.specs.Rows.{Tables}
+use Rattle.plan_tables_schema.specs.declared.tables.Table.{Table}
+use Rattle.plan_tables_schema.specs.declared.tables.Table.TheVariants as table
+use Rattle.plan_tables_content.specs.Content.{AreEach, IsFact, IsOfList, IsOfSome, IsTellable, bounds_values}
+use Rattle.plan_tables_content.specs.Facts.{natural}
+use Rattle.plan_migrations_remaking.specs.FirstSchema.{first_shown}
 use Rattle.plan_migrations.specs.declared.versions.TheConstants.{FIRST_VERSION}
 
 abbrev pub first_meta_values : Option Bounds → ℕ → Options → Values

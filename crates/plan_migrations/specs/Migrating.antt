@@ -10,25 +10,25 @@ use Rattle.sqlite.specs.Tree.{Trees}
 use Rattle.sqlite.specs.declared.error.Error.{Error}
 use Rattle.planner_machine.specs.Content.{Content}
 use Rattle.planner_machine.specs.Sound.{IsSound}
-use Rattle.table_schema.specs.Rows.{HaveRowids, IsPlan, MayFail, Tables, no_rows, shown, tables_of}
-use Rattle.table_schema.specs.Schema.{HasTables, all_tables, plan_schema}
-use Rattle.table_schema.specs.Texts.{select_sql}
-use Rattle.table_schema.specs.declared.tables.Table.{Table}
-use Rattle.table_schema.specs.declared.tables.TheConstants.{SCHEMA_VERSION}
-use Rattle.table_facts.specs.Content.{IsContentOf}
-use Rattle.table_opening.specs.Faults.{fault_for}
-use Rattle.table_opening.specs.Foreign.{LacksMemory, RefusesVersion, version_sql}
-use Rattle.table_opening.specs.Rowids.{rowid_sql}
-use Rattle.table_opening.specs.Stored.{AllHaveRowids}
-use Rattle.table_opening.specs.declared.faults.OpenFault.TheVariants as OpenFault
-use Rattle.table_opening.specs.declared.faults.OpenFault.TheVariants.{Unopened}
-use Rattle.table_remaking.specs.FirstSchema.{CanRemake, first_shown, is_changed, remade_schema, without}
-use Rattle.table_remaking.specs.FirstTexts.{first_select_sql}
-use Rattle.table_remaking.specs.Refusals.{FailsFor}
-use Rattle.table_remaking.specs.Remaking.{AreAllFirst, AreRemade, AreRowsOf, AreWhole, HaveStayingRowids, IsRemadeOf}
-use Rattle.table_remaking.specs.Remaking.{RefusesToFill, RefusesToRemake, RemakesTo, remade_row, with_all_put}
-use Rattle.table_remaking.specs.declared.rows.FirstRows.{FirstRows}
-use Rattle.table_opening.specs.Kept.{IsKept}
+use Rattle.plan_tables_schema.specs.Rows.{HaveRowids, IsPlan, MayFail, Tables, no_rows, shown, tables_of}
+use Rattle.plan_tables_schema.specs.Schema.{HasTables, all_tables, plan_schema}
+use Rattle.plan_tables_schema.specs.Texts.{select_sql}
+use Rattle.plan_tables_schema.specs.declared.tables.Table.{Table}
+use Rattle.plan_tables_schema.specs.declared.tables.TheConstants.{SCHEMA_VERSION}
+use Rattle.plan_tables_content.specs.Content.{IsContentOf}
+use Rattle.plan_tables_opening.specs.Faults.{fault_for}
+use Rattle.plan_tables_opening.specs.Foreign.{LacksMemory, RefusesVersion, version_sql}
+use Rattle.plan_tables_opening.specs.Rowids.{rowid_sql}
+use Rattle.plan_tables_opening.specs.Stored.{AllHaveRowids}
+use Rattle.plan_tables_opening.specs.declared.faults.OpenFault.TheVariants as OpenFault
+use Rattle.plan_tables_opening.specs.declared.faults.OpenFault.TheVariants.{Unopened}
+use Rattle.plan_migrations_remaking.specs.FirstSchema.{CanRemake, first_shown, is_changed, remade_schema, without}
+use Rattle.plan_migrations_remaking.specs.FirstTexts.{first_select_sql}
+use Rattle.plan_migrations_remaking.specs.Refusals.{FailsFor}
+use Rattle.plan_migrations_remaking.specs.Remaking.{AreAllFirst, AreRemade, AreRowsOf, AreWhole, HaveStayingRowids, IsRemadeOf}
+use Rattle.plan_migrations_remaking.specs.Remaking.{RefusesToFill, RefusesToRemake, RemakesTo, remade_row, with_all_put}
+use Rattle.plan_migrations_remaking.specs.declared.rows.FirstRows.{FirstRows}
+use Rattle.plan_tables_opening.specs.Kept.{IsKept}
 use Rattle.plan_migrations.specs.Asking.{FailsByDevice, IsFailure, IsFailureOfOne}
 use Rattle.plan_migrations.specs.FirstContent.{IsFirstContentOf}
 use Rattle.plan_migrations.specs.Schemas.{IsOfSchema, IsOfVersion, IsOther, IsOtherFirst, ShowsUnknown, ShowsVersion}

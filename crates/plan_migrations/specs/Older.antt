@@ -1,8 +1,8 @@
 -- A database whose plan is brought to the current schema before it is adopted.
 use Rattle.std.specs.Prelude.{◌≡◌, ◌⊎◌, ℕ, IsTrue, Option, Some}
 use Rattle.sqlite.specs.State.{State}
-use Rattle.table_opening.specs.Foreign.{RefusesVersion}
-use Rattle.table_schema.specs.declared.tables.TheConstants.{SCHEMA_VERSION}
+use Rattle.plan_tables_opening.specs.Foreign.{RefusesVersion}
+use Rattle.plan_tables_schema.specs.declared.tables.TheConstants.{SCHEMA_VERSION}
 use Rattle.plan_migrations.specs.Migrating.{IsRenewed}
 use Rattle.plan_migrations.specs.Schemas.{ShowsVersion}
 use Rattle.plan_migrations.specs.declared.versions.TheConstants.{FIRST_VERSION}

@@ -2,13 +2,13 @@
 use Rattle.std.specs.Prelude.{◌≡◌, ◌⊎◌, ℕ, List, [], ◌∷◌, Option, Some, None, Result, Ok, Err}
 use Rattle.sqlite.specs.Order.{Row as Values, column}
 use Rattle.sqlite.specs.State.{State, Shown}
-use Rattle.table_schema.specs.Texts.{select_sql}
-use Rattle.table_schema.specs.declared.tables.Table.{Table}
-use Rattle.table_schema.specs.declared.tables.TheConstants.{SCHEMA_VERSION}
-use Rattle.table_facts.specs.Facts.{natural}
-use Rattle.table_opening.specs.Foreign.{RefusesToShow, RefusesVersion, version_sql}
-use Rattle.table_remaking.specs.FirstTexts.{first_select_sql}
-use Rattle.table_remaking.specs.Types.{AreFirst, AreTyped}
+use Rattle.plan_tables_schema.specs.Texts.{select_sql}
+use Rattle.plan_tables_schema.specs.declared.tables.Table.{Table}
+use Rattle.plan_tables_schema.specs.declared.tables.TheConstants.{SCHEMA_VERSION}
+use Rattle.plan_tables_content.specs.Facts.{natural}
+use Rattle.plan_tables_opening.specs.Foreign.{RefusesToShow, RefusesVersion, version_sql}
+use Rattle.plan_migrations_remaking.specs.FirstTexts.{first_select_sql}
+use Rattle.plan_migrations_remaking.specs.Types.{AreFirst, AreTyped}
 use Rattle.plan_migrations.specs.Asking.{HasAnswer, IsFailure}
 use Rattle.plan_migrations.specs.declared.faults.MigrateFault.{MigrateFault}
 use Rattle.plan_migrations.specs.declared.faults.MigrateFault.TheVariants.{UnknownVersion}

@@ -3,14 +3,14 @@
 ghost use Rattle.std.specs.Prelude.{◌≡◌, false, [], None, IfErr, IfOk, IfSome, OnOk};
 ghost use Rattle.sqlite.specs.State.{HasCleanDisk, IsUnchanged, Shown, Survives};
 ghost use Rattle.sqlite.specs.Held.{state};
-ghost use Rattle.table_opening.specs.Foreign.{RefusesToShow};
-ghost use Rattle.table_opening.specs.Queries.{IsReading};
-ghost use Rattle.table_opening.specs.Kept.{IsKept};
+ghost use Rattle.plan_tables_opening.specs.Foreign.{RefusesToShow};
+ghost use Rattle.plan_tables_opening.specs.Queries.{IsReading};
+ghost use Rattle.plan_tables_opening.specs.Kept.{IsKept};
 ghost use Rattle.plan_migrations.specs.Asking.{IsFailure};
 
 use crate::faults::MigrateFault;
+use plan_tables_opening::{OpenFault, fault_for};
 use sqlite::{Alter, Connection, Row as Cells};
-use table_opening::{OpenFault, fault_for};
 
 /// All rows that the text selects; `None` if the database refuses for another reason than memory or the device.
 pub(crate) fn ask<S: Alter>(

@@ -1,15 +1,15 @@
 // The content of the tables of schema 1, before they are replaced.
 
 ghost use Rattle.std.specs.Prelude.{◌≡◌, IfErr, OnOk};
-ghost use Rattle.table_remaking.specs.Remaking.{AreAllFirst, AreWhole};
+ghost use Rattle.plan_migrations_remaking.specs.Remaking.{AreAllFirst, AreWhole};
 ghost use Rattle.plan_migrations.specs.Faults.{fault_in_memory};
 ghost use Rattle.plan_migrations.specs.Migrating.{FailToHold, HaveSound, TellsOf};
 
 use crate::faults::MigrateFault;
+use plan_migrations_remaking::{FirstRows, plan_in_memory};
+use plan_tables_opening::{OpenFault, fault_for, open_content};
 use sqlite::Error;
 use std::alloc::Global;
-use table_opening::{OpenFault, fault_for, open_content};
-use table_remaking::{FirstRows, plan_in_memory};
 
 /// The fault of tables that are not made.
 pub(crate) fn remake_fault(error: &Error) -> MigrateFault

@@ -4,25 +4,25 @@ ghost use Rattle.std.specs.Prelude.{◌≡◌, ◌↔◌, false, IfErr, IfOk, Is
 ghost use Rattle.std.specs.List.{All};
 ghost use Rattle.sqlite.specs.State.{HasCleanDisk, IsUnchanged, Survives};
 ghost use Rattle.sqlite.specs.Held.{state};
-ghost use Rattle.table_remaking.specs.FirstSchema.{CanRemake};
-ghost use Rattle.table_remaking.specs.Leaving.{left_by};
-ghost use Rattle.table_schema.specs.Free.{CanMake};
-ghost use Rattle.table_opening.specs.Standing.{StandAmong};
-ghost use Rattle.table_opening.specs.Kept.{IsKept};
+ghost use Rattle.plan_migrations_remaking.specs.FirstSchema.{CanRemake};
+ghost use Rattle.plan_migrations_remaking.specs.Leaving.{left_by};
+ghost use Rattle.plan_tables_schema.specs.Free.{CanMake};
+ghost use Rattle.plan_tables_opening.specs.Standing.{StandAmong};
+ghost use Rattle.plan_tables_opening.specs.Kept.{IsKept};
 ghost use Rattle.plan_migrations.specs.Migrating.{AreShown, FailsToRead, FailsToReadAll};
-ghost use Rattle.table_remaking.specs.Remaking.{AreAllFirst, tables_in};
-ghost use Rattle.table_remaking.specs.Types.{AreFirst};
+ghost use Rattle.plan_migrations_remaking.specs.Remaking.{AreAllFirst, tables_in};
+ghost use Rattle.plan_migrations_remaking.specs.Types.{AreFirst};
 
 use crate::asking::ask;
 use crate::faults::MigrateFault;
+use plan_migrations_remaking::{
+    FirstRows, are_first, first_select_text, left_without, make_changed_tables, make_first_tables,
+};
+use plan_tables_opening::{can_make, stand_among};
+use plan_tables_schema::Table;
 use sqlite::{Alter, Connection, Error};
 use sqlite_schema::schema::Schema;
 use std::alloc::{AllocError, Global};
-use table_opening::{can_make, stand_among};
-use table_remaking::{
-    FirstRows, are_first, first_select_text, left_without, make_changed_tables, make_first_tables,
-};
-use table_schema::Table;
 
 // Whether the first tables are in the schema, in any place, and those that change can be made in what is left without
 // them.

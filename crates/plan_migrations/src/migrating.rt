@@ -3,16 +3,16 @@
 ghost use Rattle.std.specs.Prelude.{◌≡◌, false, IfErr, IfOk, OnErr};
 ghost use Rattle.sqlite.specs.State.{HasCleanDisk, Survives};
 ghost use Rattle.sqlite.specs.Held.{state};
-ghost use Rattle.table_opening.specs.Kept.{IsKept};
+ghost use Rattle.plan_tables_opening.specs.Kept.{IsKept};
 ghost use Rattle.plan_migrations.specs.Migrating.{IsMigrated, IsUnmigrated, MayRenew};
 
 use crate::faults::MigrateFault;
 use crate::renewing::renew;
 use crate::tables::check_tables;
 use crate::versions::version;
+use plan_tables_schema::{SCHEMA_VERSION, TABLES};
 use sqlite::{Alter, Connection};
 use std::alloc::Global;
-use table_schema::{SCHEMA_VERSION, TABLES};
 
 /// Makes the tables of a plan those of the current schema, with their rows, all of them or none, even over a crash.
 /// Returns the version that it found and the one that it left, (0, 0) if the database has no tables of a plan. Tables

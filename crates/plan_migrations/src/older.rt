@@ -3,9 +3,9 @@
 ghost use Rattle.std.specs.Prelude.{◌≡◌, false, IfErr, IfOk, None, Ok, OnErr, OnOk, Some};
 ghost use Rattle.sqlite.specs.State.{HasCleanDisk, Survives};
 ghost use Rattle.sqlite.specs.Held.{state};
-ghost use Rattle.table_opening.specs.Foreign.{version_sql};
-ghost use Rattle.table_opening.specs.Held.{HoldsPlan};
-ghost use Rattle.table_opening.specs.Kept.{IsKept};
+ghost use Rattle.plan_tables_opening.specs.Foreign.{version_sql};
+ghost use Rattle.plan_tables_opening.specs.Held.{HoldsPlan};
+ghost use Rattle.plan_tables_opening.specs.Kept.{IsKept};
 ghost use Rattle.plan_migrations.specs.Asking.{IsFailure};
 ghost use Rattle.plan_migrations.specs.Migrating.{IsUnmigrated, MayRenew};
 ghost use Rattle.plan_migrations.specs.Older.{IsCurrent, IsFoundAs};

@@ -4,11 +4,11 @@ ghost use Rattle.std.specs.Prelude.{◌≡◌, false, IfErr, IfOk, IsTrue, OnErr
 ghost use Rattle.std.specs.List.{All};
 ghost use Rattle.sqlite.specs.State.{HasCleanDisk, IsUnchanged, Survives};
 ghost use Rattle.sqlite.specs.Held.{state};
-ghost use Rattle.table_schema.specs.Rows.{tables_of};
-ghost use Rattle.table_remaking.specs.FirstSchema.{CanRemake};
-ghost use Rattle.table_remaking.specs.Remaking.{AreAllFirst, AreWhole, CanRemakeOf, HaveStayingRowids};
-ghost use Rattle.table_remaking.specs.Remaking.{RemakesTo};
-ghost use Rattle.table_opening.specs.Kept.{IsKept};
+ghost use Rattle.plan_tables_schema.specs.Rows.{tables_of};
+ghost use Rattle.plan_migrations_remaking.specs.FirstSchema.{CanRemake};
+ghost use Rattle.plan_migrations_remaking.specs.Remaking.{AreAllFirst, AreWhole, CanRemakeOf, HaveStayingRowids};
+ghost use Rattle.plan_migrations_remaking.specs.Remaking.{RemakesTo};
+ghost use Rattle.plan_tables_opening.specs.Kept.{IsKept};
 ghost use Rattle.plan_migrations.specs.FirstContent.{AreOfFirst};
 ghost use Rattle.plan_migrations.specs.Migrating.{AreShown, FailsToRemake, IsRemade, IsRenewed};
 ghost use Rattle.plan_migrations.specs.Migrating.{IsUnrenewed, MayRenew};
@@ -17,10 +17,10 @@ use crate::contents::{check_content, remake_fault};
 use crate::faults::MigrateFault;
 use crate::first_tables::{has_first_tables, read_tables};
 use crate::rowids::check_rowids;
+use plan_migrations_remaking::{FirstRows, remake_tables};
+use plan_tables_schema::TABLES;
 use sqlite::{Alter, Connection};
 use std::alloc::Global;
-use table_remaking::{FirstRows, remake_tables};
-use table_schema::TABLES;
 
 // Replaces the tables by new ones with the rows that were read.
 fn remake<S: Alter>(

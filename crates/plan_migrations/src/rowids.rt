@@ -3,15 +3,15 @@
 ghost use Rattle.std.specs.Prelude.{◌≡◌, false, IsTrue, OnOk};
 ghost use Rattle.sqlite.specs.State.{HasCleanDisk, IsUnchanged, Survives};
 ghost use Rattle.sqlite.specs.Held.{state};
-ghost use Rattle.table_remaking.specs.FirstSchema.{CanRemake, is_changed};
-ghost use Rattle.table_opening.specs.Kept.{IsKept};
+ghost use Rattle.plan_migrations_remaking.specs.FirstSchema.{CanRemake, is_changed};
+ghost use Rattle.plan_tables_opening.specs.Kept.{IsKept};
 ghost use Rattle.plan_migrations.specs.Migrating.{ChecksAllRowids, ChecksRowids};
 
 use crate::asking::ask;
 use crate::faults::MigrateFault;
+use plan_tables_opening::{are_rowids, rowid_text};
+use plan_tables_schema::Table;
 use sqlite::{Alter, Connection};
-use table_opening::{are_rowids, rowid_text};
-use table_schema::Table;
 
 // Whether the table is replaced, so that its rowids are chosen anew.
 fn is_changed(table: Table) -> bool

@@ -3,14 +3,14 @@
 ghost use Rattle.std.specs.Prelude.{◌≡◌, false, IsTrue};
 ghost use Rattle.sqlite.specs.State.{HasCleanDisk, IsUnchanged, Survives};
 ghost use Rattle.sqlite.specs.Held.{state};
-ghost use Rattle.table_opening.specs.Kept.{IsKept};
+ghost use Rattle.plan_tables_opening.specs.Kept.{IsKept};
 ghost use Rattle.plan_migrations.specs.Migrating.{ChecksTable, ChecksTables};
 
 use crate::asking::ask;
 use crate::faults::MigrateFault;
+use plan_migrations_remaking::are_typed;
+use plan_tables_schema::{Table, select_text};
 use sqlite::{Alter, Connection};
-use table_remaking::are_typed;
-use table_schema::{Table, select_text};
 
 // Checks that the table is of its schema.
 fn check_table<S: Alter>(conn: &mut Connection<S>, table: &Table) -> Result<(), MigrateFault>

@@ -3,20 +3,20 @@
 ghost use Rattle.std.specs.Prelude.{◌≡◌, ◌⊎◌, ◌↔◌, false, IfErr, IfOk, IsSome, IsTrue, Some};
 ghost use Rattle.sqlite.specs.State.{HasCleanDisk, Survives};
 ghost use Rattle.sqlite.specs.Held.{state};
-ghost use Rattle.table_schema.specs.declared.tables.TheConstants.{SCHEMA_VERSION};
-ghost use Rattle.table_opening.specs.Foreign.{version_sql};
-ghost use Rattle.table_opening.specs.Held.{HoldsPlan};
-ghost use Rattle.table_opening.specs.Kept.{IsKept};
+ghost use Rattle.plan_tables_schema.specs.declared.tables.TheConstants.{SCHEMA_VERSION};
+ghost use Rattle.plan_tables_opening.specs.Foreign.{version_sql};
+ghost use Rattle.plan_tables_opening.specs.Held.{HoldsPlan};
+ghost use Rattle.plan_tables_opening.specs.Kept.{IsKept};
 ghost use Rattle.plan_migrations.specs.Asking.{IsFailure};
 ghost use Rattle.plan_migrations.specs.Schemas.{AreOf, TellsVersion};
 ghost use Rattle.plan_migrations.specs.declared.versions.TheConstants.{FIRST_VERSION};
 
 use crate::asking::ask;
 use crate::faults::MigrateFault;
+use plan_tables_opening::{is_known, version_text};
+use plan_tables_schema::SCHEMA_VERSION;
 use sqlite::types::ValueRef;
 use sqlite::{Alter, Connection, Row as Cells};
-use table_opening::{is_known, version_text};
-use table_schema::SCHEMA_VERSION;
 
 /// The version before the current one, whose lists of predecessors have no limits.
 pub const FIRST_VERSION: u32 = 1;

@@ -8,7 +8,7 @@ use Rattle.std.proofs.lemmas.Cmp.{tied_itself}
 use Rattle.occurrences.specs.declared.row.Row.{Row}
 use Rattle.external_dependencies.specs.Arrival.{arrival_cmp}
 use Rattle.external_dependencies.specs.Nearest.{arrival_of}
-use Rattle.keyed_lists.specs.Keyed.{IsKeyed, AreApart, HasKey, LacksKey}
+use Rattle.plan_store_lists.specs.Keyed.{IsKeyed, AreApart, HasKey, LacksKey}
 use Rattle.external_dependencies.proofs.NearestLemmas.{arrival_ties}
 use Rattle.plan_store.proofs.OrderLemmas.{arrival_total}
 

@@ -24,10 +24,10 @@ use Rattle.planner_machine.specs.Content.{Content, Sets}
 use Rattle.planner_machine.specs.Moves.{or_else}
 use Rattle.planner_machine.specs.Shown.{ListsPairs}
 use Rattle.planner_machine.specs.Sound.{AreNumbered}
-use Rattle.keyed_lists.specs.Keyed.{IsKeyed}
-use Rattle.keyed_lists.specs.Rows.{AreRows, OneEach, look_up, of_current, of_deletion, of_row}
-use Rattle.keyed_lists.proofs.KeyLemmas.{contains_first, contains_later, missed_all, nothing}
-use Rattle.keyed_lists.proofs.LookLemmas.{look_at, look_lacks, look_some}
+use Rattle.plan_store_lists.specs.Keyed.{IsKeyed}
+use Rattle.plan_store_lists.specs.Rows.{AreRows, OneEach, look_up, of_current, of_deletion, of_row}
+use Rattle.plan_store_lists.proofs.KeyLemmas.{contains_first, contains_later, missed_all, nothing}
+use Rattle.plan_store_lists.proofs.LookLemmas.{look_at, look_lacks, look_some}
 use Rattle.plan_store.specs.AppPairs.{AddsPairs, AreBySerials, HasAppPairs, HasEnds, with_others}
 use Rattle.plan_store.specs.Listed.{is_of_app, link_at, link_of, links_at, row_at, row_in, with_link}
 use Rattle.plan_store.specs.Parts.{Rest, with_rest}

@@ -22,14 +22,14 @@ use Rattle.external_dependencies.specs.declared.live.Arrival.{Arrival}
 use Rattle.planner_machine.specs.Content.{Seat, Sets, alone, seat}
 use Rattle.planner_machine.specs.Pairs.{LiveAt}
 use Rattle.planner_machine.specs.Sound.{AreNumbered}
-use Rattle.keyed_lists.specs.Keyed.{IsKeyed}
-use Rattle.keyed_lists.specs.Rows.{AreRows, look_up, of_current, of_row}
+use Rattle.plan_store_lists.specs.Keyed.{IsKeyed}
+use Rattle.plan_store_lists.specs.Rows.{AreRows, look_up, of_current, of_row}
 use Rattle.external_dependencies.proofs.NearestLemmas.{answer_none, arrival_ties}
 use Rattle.plan_store.specs.Arrivals.{IsGreatestOf, arrives, arrives_live, later_of}
 use Rattle.plan_store.specs.Asked.{HasLast, IsNoLater}
 use Rattle.plan_store.specs.Slices.{HaveOneApp}
 use Rattle.plan_store.specs.Views.{IsLastBefore}
-use Rattle.keyed_lists.proofs.LookLemmas.{look_has, look_some}
+use Rattle.plan_store_lists.proofs.LookLemmas.{look_has, look_some}
 use Rattle.plan_store.proofs.OrderLemmas.{arrival_total}
 use Rattle.plan_store.proofs.PlaceLemmas.{stands_cp, stands_history, stands_ltp}
 

@@ -17,8 +17,8 @@ use Rattle.planner_machine.specs.Content.{Content, Seat, Sets, StandsAt, alone, 
 use Rattle.planner_machine.specs.Moves.{or_else}
 use Rattle.planner_machine.specs.Sound.{AreNumbered, IsSound}
 use Rattle.planner_machine.proofs.SeatLemmas.{one_place}
-use Rattle.keyed_lists.specs.Rows.{OneEach, look_up}
-use Rattle.keyed_lists.proofs.LookLemmas.{look_at, look_lacks, look_none, look_some}
+use Rattle.plan_store_lists.specs.Rows.{OneEach, look_up}
+use Rattle.plan_store_lists.proofs.LookLemmas.{look_at, look_lacks, look_none, look_some}
 use Rattle.plan_store.specs.AppPairs.{HasEnds, LacksNone, with_others}
 use Rattle.plan_store.specs.Ends.{HasFound}
 use Rattle.plan_store.specs.Listed.{row_at, row_in}

@@ -3,8 +3,8 @@ use Rattle.std.proofs.Common.{◌≡◌, ℕ, List, [], sym, ap, subst, arith}
 use Rattle.std.proofs.Common.{None, Option}
 use Rattle.std.specs.List.{Contains}
 use Rattle.occurrences.specs.declared.row.Row.{Row}
-use Rattle.keyed_lists.specs.Rows.{HasEachOnce, look_up}
-use Rattle.keyed_lists.proofs.KeyLemmas.{nothing}
+use Rattle.plan_store_lists.specs.Rows.{HasEachOnce, look_up}
+use Rattle.plan_store_lists.proofs.KeyLemmas.{nothing}
 use Rattle.plan_store.specs.Changes.{FitsSet}
 use Rattle.plan_store.specs.declared.changes.Moves.{Moves}
 

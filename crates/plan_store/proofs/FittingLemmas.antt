@@ -17,10 +17,10 @@ use Rattle.std.proofs.lemmas.List.Quantifiers.{all_pairs_push}
 use Rattle.itertools.specs.Consumer.{all_distinct_from}
 use Rattle.occurrences.specs.declared.row.Row.{Row}
 use Rattle.external_dependencies.specs.Nearest.{arrival_of}
-use Rattle.keyed_lists.specs.Rows.{AreRows, HasEachOnce, look_up}
+use Rattle.plan_store_lists.specs.Rows.{AreRows, HasEachOnce, look_up}
 use Rattle.plan_store.specs.Changes.{FitsSet}
 use Rattle.plan_store.specs.declared.changes.Moves.{Moves}
-use Rattle.keyed_lists.proofs.LookLemmas.{look_at, look_lacks, look_none, look_some}
+use Rattle.plan_store_lists.proofs.LookLemmas.{look_at, look_lacks, look_none, look_some}
 
 -- no number stands at two places
 abbrev Distinct : List ℕ → Type 0

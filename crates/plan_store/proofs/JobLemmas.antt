@@ -6,10 +6,10 @@ use Rattle.std.specs.FinMap.{nat_cmp-IsAntisymmetric}
 use Rattle.std.proofs.lemmas.Bool.{eqb-true, eqb-false}
 use Rattle.std.proofs.lemmas.Cmp.{nat_cmp_total}
 use Rattle.planner_machine.specs.declared.job.Job.{Job}
-use Rattle.keyed_lists.specs.Rows.{OneEach, look_up}
-use Rattle.keyed_lists.proofs.KeyLemmas.{one_item}
+use Rattle.plan_store_lists.specs.Rows.{OneEach, look_up}
+use Rattle.plan_store_lists.proofs.KeyLemmas.{one_item}
 use Rattle.plan_store.specs.Jobs.{AreJobs}
-use Rattle.keyed_lists.proofs.LookLemmas.{look_at, look_lacks, look_none, look_some}
+use Rattle.plan_store_lists.proofs.LookLemmas.{look_at, look_lacks, look_none, look_some}
 
 abbrev pub number_of : Job → ℕ
 number_of job = job.number

@@ -13,9 +13,9 @@ use Rattle.occurrences.specs.Row.{RowBefore, row_cmp}
 use Rattle.occurrences.specs.declared.row.Row.{Row}
 use Rattle.occurrences.specs.contracts.row.RowOrd.TheImpl.{ghosts}
 use Rattle.occurrences.proofs.RowLemmas.{row_cmp_total, row_equal, row_ranks}
-use Rattle.keyed_lists.specs.Rows.{AreRows}
-use Rattle.keyed_lists.proofs.EditLemmas.{sorted_keyed}
-use Rattle.keyed_lists.proofs.KeyLemmas.{contains_cases, contains_first, contains_later, nothing}
+use Rattle.plan_store_lists.specs.Rows.{AreRows}
+use Rattle.plan_store_lists.proofs.EditLemmas.{sorted_keyed}
+use Rattle.plan_store_lists.proofs.KeyLemmas.{contains_cases, contains_first, contains_later, nothing}
 use Rattle.plan_store.specs.Listed.{SortsRows}
 use Rattle.plan_store.specs.Listings.{Shown, TakesAll}
 use Rattle.plan_store.proofs.ViewLemmas.{once_from_rows}

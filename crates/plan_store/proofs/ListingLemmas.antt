@@ -14,9 +14,9 @@ use Rattle.occurrences.proofs.RowLemmas.{row_ranks, row_strict}
 use Rattle.external_dependencies.specs.Arrival.{arrival_cmp}
 use Rattle.external_dependencies.specs.Nearest.{arrival_of}
 use Rattle.planner_machine.specs.Shown.{IsOfApp}
-use Rattle.keyed_lists.specs.Keyed.{IsKeyed}
-use Rattle.keyed_lists.specs.Rows.{AreRows, HasEachOnce}
-use Rattle.keyed_lists.proofs.KeyLemmas.{contains_cases, contains_first, contains_later, nothing}
+use Rattle.plan_store_lists.specs.Keyed.{IsKeyed}
+use Rattle.plan_store_lists.specs.Rows.{AreRows, HasEachOnce}
+use Rattle.plan_store_lists.proofs.KeyLemmas.{contains_cases, contains_first, contains_later, nothing}
 use Rattle.plan_store.specs.Listed.{SortsRows, EndsWithin, ShowsSet, shown_as}
 use Rattle.plan_store.specs.Listings.{HandsAll, HandsPart, Shown, TakesAll}
 use Rattle.plan_store.specs.declared.listings.ListFault.{ListFault}

@@ -8,11 +8,11 @@ use Rattle.occurrences.specs.declared.row.Row.{Row}
 use Rattle.external_dependencies.specs.Nearest.{arrival_of}
 use Rattle.external_dependencies.specs.declared.live.Arrival.{Arrival}
 use Rattle.planner_machine.specs.Moves.{or_else}
-use Rattle.keyed_lists.specs.Keyed.{AreApart, HasKey, LacksKey}
-use Rattle.keyed_lists.specs.Rows.{HasEachOnce, OneEach, look_up}
+use Rattle.plan_store_lists.specs.Keyed.{AreApart, HasKey, LacksKey}
+use Rattle.plan_store_lists.specs.Rows.{HasEachOnce, OneEach, look_up}
 use Rattle.plan_store.specs.Changes.{FitsSet, moved_set}
 use Rattle.plan_store.specs.declared.changes.Moves.{Moves}
-use Rattle.keyed_lists.proofs.LookLemmas.{look_some, look_none, look_lacks, look_at}
+use Rattle.plan_store_lists.proofs.LookLemmas.{look_some, look_none, look_lacks, look_at}
 
 module _ {X : Type 0} (row_of : X → Row) where
   abbrev serial_of : X → ℕ

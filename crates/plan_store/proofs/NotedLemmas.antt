@@ -14,9 +14,9 @@ use Rattle.std.proofs.lemmas.List.{get_or_append_left, get_or_default, get_or_pu
 use Rattle.std.proofs.lemmas.List.Elements.{Contains-append_left}
 use Rattle.std.proofs.lemmas.List.Elements.{Contains-get_or, Contains-push, Contains-push_cases}
 use Rattle.app_definitions.specs.declared.definitions.Definitions.{Definitions}
-use Rattle.definition_records.specs.ByName.{AreEntriesOf}
-use Rattle.definition_records.specs.declared.predecessors.Predecessor.{Predecessor}
-use Rattle.definition_records.proofs.ByNameLemmas.{entry_is, entry_there}
+use Rattle.app_definition_records.specs.ByName.{AreEntriesOf}
+use Rattle.app_definition_records.specs.declared.predecessors.Predecessor.{Predecessor}
+use Rattle.app_definition_records.proofs.ByNameLemmas.{entry_is, entry_there}
 use Rattle.occurrences.specs.declared.key.Key.{Key}
 use Rattle.occurrences.specs.declared.place.CurrentRow.{CurrentRow}
 use Rattle.occurrences.specs.declared.row.Row.{Row}
@@ -27,14 +27,14 @@ use Rattle.external_dependencies.specs.Nearest.{arrival_of}
 use Rattle.external_dependencies.specs.declared.links.Link.{Link}
 use Rattle.planner_machine.specs.Content.{Content}
 use Rattle.planner_machine.specs.declared.content.Bounds.{Bounds}
-use Rattle.keyed_lists.specs.Keyed.{IsKeyed}
-use Rattle.keyed_lists.specs.Rows.{AreRows, look_up, of_current, of_row}
-use Rattle.keyed_lists.proofs.SliceLemmas.{Rises, less_not_equal, name_ties, parted_below, then_less}
+use Rattle.plan_store_lists.specs.Keyed.{IsKeyed}
+use Rattle.plan_store_lists.specs.Rows.{AreRows, look_up, of_current, of_row}
+use Rattle.plan_store_lists.proofs.SliceLemmas.{Rises, less_not_equal, name_ties, parted_below, then_less}
 use Rattle.plan_store.specs.Asked.{AsksKey, AsksPlan, HasLasts, IsLastOf, IsNoLater, ListsDefined}
 use Rattle.plan_store.specs.Noted.{AreAtPlaces, AskedByOne, AsksEach, AsksEnd, AsksRow, HasNoted, IsAsked, IsDefined}
 use Rattle.plan_store.specs.Noted.{IsLastPlace, LacksBefore, Notes}
 use Rattle.plan_store.specs.Views.{current_serial, row_serial}
-use Rattle.keyed_lists.proofs.LookLemmas.{look_has, look_some}
+use Rattle.plan_store_lists.proofs.LookLemmas.{look_has, look_some}
 use Rattle.plan_store.proofs.SliceLemmas.{apps_rise}
 
 less_from_lt : (x y : ℕ) → x < y → nat_cmp x y ≡ Less

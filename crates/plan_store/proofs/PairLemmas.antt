@@ -15,9 +15,9 @@ use Rattle.external_dependencies.specs.Pair.{pair_cmp}
 use Rattle.external_dependencies.specs.Rising.{IsRising}
 use Rattle.external_dependencies.specs.declared.change.PairChange.{PairChange}
 use Rattle.external_dependencies.specs.declared.pairs.Pair.{Pair}
-use Rattle.keyed_lists.proofs.KeyLemmas.{contains_cases, contains_first, contains_later, contains_filter}
-use Rattle.keyed_lists.proofs.KeyLemmas.{filter_contains, holds_lacks, holds_none, nothing}
-use Rattle.keyed_lists.specs.Keyed.{holds_key}
+use Rattle.plan_store_lists.proofs.KeyLemmas.{contains_cases, contains_first, contains_later, contains_filter}
+use Rattle.plan_store_lists.proofs.KeyLemmas.{filter_contains, holds_lacks, holds_none, nothing}
+use Rattle.plan_store_lists.specs.Keyed.{holds_key}
 use Rattle.external_dependencies.proofs.PairLemmas.{pair_ties}
 use Rattle.plan_store.specs.Changes.{LeadsOn, is_among, pairs_after, placed_before, with_pair, with_pairs}
 

@@ -17,12 +17,12 @@ use Rattle.external_dependencies.specs.declared.live.Arrival.{Arrival}
 use Rattle.external_dependencies.specs.declared.pairs.Pair.{Pair}
 use Rattle.planner_machine.specs.Content.{Content}
 use Rattle.planner_machine.specs.Moves.{or_else}
-use Rattle.keyed_lists.specs.Keyed.{LacksKey}
-use Rattle.keyed_lists.specs.Rows.{OneEach, look_up}
-use Rattle.keyed_lists.specs.Seats.{HasSeats}
-use Rattle.keyed_lists.specs.declared.seats.Seat.{Seat}
-use Rattle.keyed_lists.proofs.KeyLemmas.{contains_first, one_is}
-use Rattle.keyed_lists.proofs.LookLemmas.{look_at, look_has, look_lacks, look_none, look_some}
+use Rattle.plan_store_lists.specs.Keyed.{LacksKey}
+use Rattle.plan_store_lists.specs.Rows.{OneEach, look_up}
+use Rattle.plan_store_lists.specs.Seats.{HasSeats}
+use Rattle.plan_store_lists.specs.declared.seats.Seat.{Seat}
+use Rattle.plan_store_lists.proofs.KeyLemmas.{contains_first, one_is}
+use Rattle.plan_store_lists.proofs.LookLemmas.{look_at, look_has, look_lacks, look_none, look_some}
 use Rattle.plan_store.specs.Parts.{IsPartOf, followed_alone, is_followed, is_planned, or_this, rest_of}
 use Rattle.plan_store.specs.Room.{no_jobs, with_job_set}
 use Rattle.plan_store.specs.Views.{bars}

@@ -4,13 +4,13 @@ use Rattle.std.specs.Prelude.{is_some, if◌then◌else◌}
 use Rattle.occurrences.specs.declared.row.Row.{Row}
 use Rattle.external_dependencies.specs.Nearest.{arrival_of}
 use Rattle.planner_machine.specs.Moves.{or_else}
-use Rattle.keyed_lists.specs.Keyed.{holds_key}
-use Rattle.keyed_lists.specs.Rows.{AreRows, look_up}
-use Rattle.keyed_lists.specs.Seats.{HasSeats, seat_cmp, seat_of}
-use Rattle.keyed_lists.specs.declared.seats.Seat.{Seat}
+use Rattle.plan_store_lists.specs.Keyed.{holds_key}
+use Rattle.plan_store_lists.specs.Rows.{AreRows, look_up}
+use Rattle.plan_store_lists.specs.Seats.{HasSeats, seat_cmp, seat_of}
+use Rattle.plan_store_lists.specs.declared.seats.Seat.{Seat}
 use Rattle.plan_store.specs.Changes.{FitsSet, moved_set}
 use Rattle.plan_store.specs.declared.changes.Moves.{Moves}
-use Rattle.keyed_lists.proofs.LookLemmas.{look_some, look_has}
+use Rattle.plan_store_lists.proofs.LookLemmas.{look_some, look_has}
 
 module _ {X : Type 0} (row_of : X → Row) (moves : Moves X) (old new : List X) (seats : List Seat) where
   abbrev serial_of : X → ℕ

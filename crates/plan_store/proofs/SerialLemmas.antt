@@ -17,12 +17,12 @@ use Rattle.occurrences.specs.declared.place.Place.TheVariants.{LongTerm, Current
 use Rattle.occurrences.specs.declared.row.Row.{Row}
 use Rattle.planner_machine.specs.Content.{Seat, Sets, alone, seat}
 use Rattle.planner_machine.specs.Sound.{AreNumbered}
-use Rattle.keyed_lists.specs.Rows.{AreRows, look_up, of_current, of_deletion, of_row}
-use Rattle.keyed_lists.proofs.KeyLemmas.{missed_all}
+use Rattle.plan_store_lists.specs.Rows.{AreRows, look_up, of_current, of_deletion, of_row}
+use Rattle.plan_store_lists.proofs.KeyLemmas.{missed_all}
 use Rattle.plan_store.specs.Listed.{AreBySerial, row_at}
 use Rattle.plan_store.specs.Parts.{ListsAll}
 use Rattle.plan_store.proofs.ListedLemmas.{from_map, to_map}
-use Rattle.keyed_lists.proofs.LookLemmas.{look_has, look_some}
+use Rattle.plan_store_lists.proofs.LookLemmas.{look_has, look_some}
 use Rattle.plan_store.proofs.PlaceLemmas.{stands_cp, stands_deleted, stands_history, stands_ltp}
 use Rattle.plan_store.proofs.ShownLemmas.{row_at_some, row_at_stands, row_serial}
 

@@ -31,8 +31,8 @@ use Rattle.planner_machine.specs.Shown.{IsLinked, IsListed, IsOfApp, IsPlaceOf, 
 use Rattle.planner_machine.specs.Shown.{ListsPairs}
 use Rattle.planner_machine.specs.Shown.{CurrentPlan, InDeletions, InHistory, LongTermPlan}
 use Rattle.planner_machine.specs.Sound.{AreNumbered}
-use Rattle.keyed_lists.specs.Rows.{AreRows, look_up, of_current, of_deletion, of_row}
-use Rattle.keyed_lists.proofs.KeyLemmas.{contains_cases, contains_first, contains_later, nothing}
+use Rattle.plan_store_lists.specs.Rows.{AreRows, look_up, of_current, of_deletion, of_row}
+use Rattle.plan_store_lists.proofs.KeyLemmas.{contains_cases, contains_first, contains_later, nothing}
 use Rattle.plan_store.specs.Listed.{EndsWithin, ShowsSet, is_of_app, link_at, link_of, links_at, row_at, row_in}
 use Rattle.plan_store.specs.Listed.{shown_as, with_link}
 use Rattle.plan_store.specs.Listings.{HandsAll, HandsPart, ShowRows, Shown, TakesAll, link_shown, row_shown}
@@ -40,7 +40,7 @@ use Rattle.plan_store.specs.declared.listings.ListFault.{ListFault}
 use Rattle.plan_store.specs.declared.listings.ListFault.TheVariants.{Sink}
 use Rattle.plan_store.specs.declared.listings.SinkFault.{SinkFault}
 use Rattle.plan_store.proofs.ListedLemmas.{from_map, pairs_map, takes_more, to_map}
-use Rattle.keyed_lists.proofs.LookLemmas.{look_has, look_some}
+use Rattle.plan_store_lists.proofs.LookLemmas.{look_has, look_some}
 use Rattle.plan_store.proofs.PlaceLemmas.{stands_cp, stands_deleted, stands_history, stands_ltp}
 
 -- a row in its place

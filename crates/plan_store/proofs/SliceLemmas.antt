@@ -15,8 +15,8 @@ use Rattle.std.proofs.lemmas.Bool.{cases_order}
 use Rattle.occurrences.specs.declared.row.Row.{Row}
 use Rattle.external_dependencies.specs.Arrival.{arrival_cmp}
 use Rattle.external_dependencies.specs.Nearest.{arrival_of}
-use Rattle.keyed_lists.specs.Keyed.{IsKeyed}
-use Rattle.keyed_lists.proofs.SliceLemmas.{AtMost, Rises, between, less_not_equal, name_ties, then_less}
+use Rattle.plan_store_lists.specs.Keyed.{IsKeyed}
+use Rattle.plan_store_lists.proofs.SliceLemmas.{AtMost, Rises, between, less_not_equal, name_ties, then_less}
 use Rattle.plan_store.specs.Slices.{HaveOneApp}
 
 not_less : (a b : List ℕ) → AtMost nat_list_cmp_total b a → is_lt (slice_cmp nat_cmp a b) ≡ false

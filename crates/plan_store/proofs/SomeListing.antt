@@ -21,9 +21,9 @@ use Rattle.planner_machine.specs.Shown.{CurrentPlan, InDeletions, InHistory, IsL
 use Rattle.planner_machine.specs.Shown.{ListsLinks, ListsRows, LongTermPlan}
 use Rattle.planner_machine.specs.Sound.{AreNumbered}
 use Rattle.planner_machine.proofs.SeatLemmas.{not_empty, one_place}
-use Rattle.keyed_lists.specs.Rows.{HasEachOnce}
-use Rattle.keyed_lists.proofs.KeyLemmas.{contains_cases, contains_filter, contains_first, contains_later}
-use Rattle.keyed_lists.proofs.KeyLemmas.{filter_contains, nothing}
+use Rattle.plan_store_lists.specs.Rows.{HasEachOnce}
+use Rattle.plan_store_lists.proofs.KeyLemmas.{contains_cases, contains_filter, contains_first, contains_later}
+use Rattle.plan_store_lists.proofs.KeyLemmas.{filter_contains, nothing}
 use Rattle.plan_store.specs.Listed.{is_of_app, links_at}
 use Rattle.plan_store.specs.Listings.{IsListing, ShowRows, Shown, in_force_shown, link_shown, row_shown}
 use Rattle.plan_store.specs.declared.listings.What.{What}

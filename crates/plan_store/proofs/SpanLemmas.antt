@@ -14,14 +14,14 @@ use Rattle.external_dependencies.specs.Arrival.{arrival_cmp}
 use Rattle.external_dependencies.specs.Nearest.{arrival_of}
 use Rattle.external_dependencies.specs.declared.live.Arrival.{Arrival}
 use Rattle.planner_machine.specs.Content.{Sets}
-use Rattle.keyed_lists.specs.Keyed.{IsKeyed}
-use Rattle.keyed_lists.specs.Rows.{AreRows, look_up, of_current, of_row}
+use Rattle.plan_store_lists.specs.Keyed.{IsKeyed}
+use Rattle.plan_store_lists.specs.Rows.{AreRows, look_up, of_current, of_row}
 use Rattle.plan_store.specs.Arrivals.{arrives, arrives_live}
 use Rattle.plan_store.specs.Asked.{IsPlannedAt}
 use Rattle.plan_store.specs.Slices.{HaveOneApp}
 use Rattle.plan_store.specs.Spans.{IsLeastOf, IsNextPlanned, earlier_of}
 use Rattle.plan_store.specs.Views.{current_serial, row_serial}
-use Rattle.keyed_lists.proofs.LookLemmas.{look_has, look_some}
+use Rattle.plan_store_lists.proofs.LookLemmas.{look_has, look_some}
 use Rattle.plan_store.proofs.SliceLemmas.{arrivals_rise}
 
 -- of rows of one application, by input arrival and serial, what stands no earlier does not arrive earlier

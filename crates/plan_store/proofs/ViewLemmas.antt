@@ -7,7 +7,7 @@ use Rattle.std.specs.declared.cmp.Ordering.TheVariants.{Less, Equal}
 use Rattle.std.proofs.lemmas.Bool.{cases_lt, cases_eq, eq-eqb, ne_eqb}
 use Rattle.std.proofs.lemmas.Cmp.{tied_itself}
 use Rattle.std.proofs.lemmas.List.Kept.{AllPairs-filter}
-use Rattle.keyed_lists.proofs.KeyLemmas.{contains_filter, filter_contains}
+use Rattle.plan_store_lists.proofs.KeyLemmas.{contains_filter, filter_contains}
 use Rattle.occurrences.specs.declared.key.Key.{Key}
 use Rattle.occurrences.specs.declared.place.Deletion.{Deletion}
 use Rattle.occurrences.specs.declared.place.Reason.TheVariants.{Operator}
@@ -20,10 +20,10 @@ use Rattle.occurrences.specs.declared.place.CurrentRow.{CurrentRow}
 use Rattle.planner_machine.specs.Content.{Seat, Sets, empty_seat, seat}
 use Rattle.planner_machine.specs.Moves.{bit, keep, size}
 use Rattle.planner_machine.specs.Sound.{AreNumbered}
-use Rattle.keyed_lists.specs.Keyed.{IsKeyed}
-use Rattle.keyed_lists.specs.Rows.{AreRows, HasEachOnce, OneEach, look_up, of_current, of_deletion, of_row}
+use Rattle.plan_store_lists.specs.Keyed.{IsKeyed}
+use Rattle.plan_store_lists.specs.Rows.{AreRows, HasEachOnce, OneEach, look_up, of_current, of_deletion, of_row}
 use Rattle.plan_store.specs.Views.{IsAny, IsCurrentRow, IsDeletedKey, IsPlannedRow, ListsSet}
-use Rattle.keyed_lists.proofs.LookLemmas.{look_some, look_none, look_lacks, look_has, look_at}
+use Rattle.plan_store_lists.proofs.LookLemmas.{look_some, look_none, look_lacks, look_has, look_at}
 use Rattle.plan_store.proofs.OrderLemmas.{arrival_total}
 
 -- how many serials a set has

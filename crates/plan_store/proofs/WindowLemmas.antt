@@ -16,11 +16,11 @@ use Rattle.planner_machine.specs.DailyPlan.{arrives_before, moved}
 use Rattle.planner_machine.specs.Moves.{keep}
 use Rattle.planner_machine.specs.Sound.{AreNumbered, HaveOwnKeys, IsUnplanned}
 use Rattle.planner_machine.specs.declared.content.Bounds.{Bounds}
-use Rattle.keyed_lists.specs.Rows.{AreRows, look_up, of_current, of_deletion, of_row}
-use Rattle.keyed_lists.specs.Seats.{HasSeats}
-use Rattle.keyed_lists.specs.declared.seats.Seat.{Seat}
-use Rattle.keyed_lists.proofs.KeyLemmas.{contains_filter, filter_contains, nothing}
-use Rattle.keyed_lists.proofs.LookLemmas.{look_has, look_some}
+use Rattle.plan_store_lists.specs.Rows.{AreRows, look_up, of_current, of_deletion, of_row}
+use Rattle.plan_store_lists.specs.Seats.{HasSeats}
+use Rattle.plan_store_lists.specs.declared.seats.Seat.{Seat}
+use Rattle.plan_store_lists.proofs.KeyLemmas.{contains_filter, filter_contains, nothing}
+use Rattle.plan_store_lists.proofs.LookLemmas.{look_has, look_some}
 use Rattle.plan_store.specs.Contents.{content_of}
 use Rattle.plan_store.specs.Asked.{AsksKey, AsksPlan, HasLasts}
 use Rattle.plan_store.specs.Parts.{Rest, rest_of, with_rest}

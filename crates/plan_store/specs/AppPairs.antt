@@ -6,7 +6,7 @@ use Rattle.occurrences.specs.declared.row.Row.{Row}
 use Rattle.external_dependencies.specs.declared.pairs.Pair.{Pair}
 use Rattle.planner_machine.specs.Content.{Content, Sets}
 use Rattle.planner_machine.specs.Moves.{or_else}
-use Rattle.keyed_lists.specs.Rows.{OneEach, look_up}
+use Rattle.plan_store_lists.specs.Rows.{OneEach, look_up}
 use Rattle.plan_store.specs.Listed.{row_at}
 use Rattle.plan_store.specs.Parts.{Rest, with_rest}
 use Rattle.plan_store.specs.Views.{row_serial}

@@ -15,7 +15,7 @@ use Rattle.external_dependencies.specs.declared.pairs.Pair.{Pair}
 use Rattle.planner_machine.specs.Content.{Content, Sets}
 use Rattle.planner_machine.specs.Moves.{or_else}
 use Rattle.planner_machine.specs.declared.job.Job.{Job}
-use Rattle.keyed_lists.specs.Rows.{HasEachOnce, look_up, of_current, of_deletion, of_row}
+use Rattle.plan_store_lists.specs.Rows.{HasEachOnce, look_up, of_current, of_deletion, of_row}
 use Rattle.plan_store.specs.declared.changes.Change.{Change}
 use Rattle.plan_store.specs.declared.changes.DefinitionChange.{DefinitionChange}
 use Rattle.plan_store.specs.declared.changes.DefinitionChange.TheVariants.{AsBefore, Merged, Removed}

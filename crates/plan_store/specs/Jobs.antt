@@ -2,7 +2,7 @@
 use Rattle.std.specs.Prelude.{List}
 use Rattle.std.specs.Ordering.{nat_cmp}
 use Rattle.planner_machine.specs.declared.job.Job.{Job}
-use Rattle.keyed_lists.specs.Keyed.{IsKeyed}
+use Rattle.plan_store_lists.specs.Keyed.{IsKeyed}
 
 -- in the order of their numbers, each number once
 abbrev pub AreJobs : List Job → Type 0

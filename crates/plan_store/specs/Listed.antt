@@ -12,7 +12,7 @@ use Rattle.occurrences.specs.declared.row.Row.{Row}
 use Rattle.external_dependencies.specs.declared.pairs.Pair.{Pair}
 use Rattle.planner_machine.specs.Content.{Sets}
 use Rattle.planner_machine.specs.Shown.{IsOfApp, LinkedRows}
-use Rattle.keyed_lists.specs.Rows.{AreRows}
+use Rattle.plan_store_lists.specs.Rows.{AreRows}
 use Rattle.plan_store.specs.Listings.{EndsSo, Shown, Marked, Plain}
 use Rattle.plan_store.specs.declared.listings.ListFault.{ListFault}
 

@@ -10,7 +10,7 @@ use Rattle.planner_machine.specs.Content.{Content, Sets}
 use Rattle.planner_machine.specs.Moves.{keep, or_else}
 use Rattle.planner_machine.specs.declared.content.Bounds.{Bounds}
 use Rattle.planner_machine.specs.declared.job.Job.{Job}
-use Rattle.keyed_lists.specs.Rows.{look_up}
+use Rattle.plan_store_lists.specs.Rows.{look_up}
 use Rattle.plan_store.specs.Views.{bars}
 
 -- history, the deletions and the kept jobs, each as a look-up

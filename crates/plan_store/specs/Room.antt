@@ -4,8 +4,8 @@ use Rattle.app_definitions.specs.declared.definitions.Definitions.{Definitions}
 use Rattle.external_dependencies.specs.declared.pairs.Pair.{Pair}
 use Rattle.planner_machine.specs.Content.{Content}
 use Rattle.planner_machine.specs.declared.job.Job.{Job}
-use Rattle.keyed_lists.specs.Rows.{of_current, of_deletion, of_row}
-use Rattle.keyed_lists.specs.Seats.{HasSeats}
+use Rattle.plan_store_lists.specs.Rows.{of_current, of_deletion, of_row}
+use Rattle.plan_store_lists.specs.Seats.{HasSeats}
 use Rattle.plan_store.specs.declared.changes.Change.{Change}
 use Rattle.plan_store.specs.declared.contents.Content.{Content as Kept}
 use Rattle.plan_store.specs.declared.room.Room.{Room}

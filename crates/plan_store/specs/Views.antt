@@ -22,7 +22,7 @@ use Rattle.planner_machine.specs.Moves.{has_key, keep, size}
 use Rattle.planner_machine.specs.Sound.{AreNumbered, HaveOwnKeys, IsSound}
 use Rattle.planner_machine.specs.declared.content.Bounds.{Bounds}
 use Rattle.planner_machine.specs.declared.job.Job.{Job}
-use Rattle.keyed_lists.specs.Rows.{AreRows, look_up, of_row}
+use Rattle.plan_store_lists.specs.Rows.{AreRows, look_up, of_row}
 use Rattle.plan_store.specs.Asked.{AsksKey, AsksPlan, HasLast, HasLasts, IsLimit}
 use Rattle.plan_store.specs.Contents.{content_of}
 use Rattle.plan_store.specs.declared.contents.Content.{Content as Kept}

@@ -1,8 +1,8 @@
 //! The pairs of one application, found from its rows, each with both its rows, looked up by serial.
 ghost use Rattle.std.specs.Prelude.{◌≡◌, ◌≢◌, None, Some, IfOk, IfErr, OnOk, Contains, length, map, option_copied, option_map};
 ghost use Rattle.external_dependencies.specs.declared.pairs.Pair.{Pair as PairValue};
-ghost use Rattle.keyed_lists.specs.Rows.{AreRows, look_up};
-ghost use Rattle.keyed_lists.specs.Seats.{AreSeats, HasSeats};
+ghost use Rattle.plan_store_lists.specs.Rows.{AreRows, look_up};
+ghost use Rattle.plan_store_lists.specs.Seats.{AreSeats, HasSeats};
 ghost use Rattle.planner_machine.specs.Sound.{AreNumbered};
 ghost use Rattle.plan_store.specs.AppPairs.{AddsPairs, AreBySerials, HasAppPairs, HasEnds, LacksNone, with_others};
 ghost use Rattle.plan_store.specs.Contents.{content_of};
@@ -16,8 +16,8 @@ use crate::contents::Content;
 use crate::listings::{Item, ListFault, RowSink};
 use crate::slices::{of_app, of_serial};
 use external_dependencies::{Pair, Pairs};
-use keyed_lists::{PlanRow, Seat};
 use occurrences::{Row, Serial};
+use plan_store_lists::{PlanRow, Seat};
 use std::alloc::{AllocError, Global};
 use work_calendars::App;
 

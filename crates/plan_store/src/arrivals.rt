@@ -2,7 +2,7 @@ ghost use Rattle.std.specs.Prelude.{◌≡◌};
 ghost use Rattle.external_dependencies.specs.Arrival.{arrival_cmp};
 ghost use Rattle.external_dependencies.specs.Nearest.{arrival_of};
 ghost use Rattle.occurrences.specs.declared.place.CurrentRow.{CurrentRow as CurrentValue};
-ghost use Rattle.keyed_lists.specs.Keyed.{IsKeyed};
+ghost use Rattle.plan_store_lists.specs.Keyed.{IsKeyed};
 ghost use Rattle.plan_store.specs.Arrivals.{IsGreatestOf, arrives, arrives_live, later_of};
 
 use external_dependencies::Arrival;

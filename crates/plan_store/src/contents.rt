@@ -12,8 +12,8 @@ use crate::stores::Need;
 use crate::views::View;
 use app_definitions::Definitions;
 use external_dependencies::{Links, Pairs};
-use keyed_lists::{Seat, note_rows};
 use occurrences::{CurrentRow, Deletion, Key, Row};
+use plan_store_lists::{Seat, note_rows};
 use planner_machine::{Bounds, Job};
 use std::alloc::{AllocError, Global};
 use std::mem::replace;
@@ -57,13 +57,13 @@ pub struct Content {
     ghost deletion_seats: { HasSeats of_deletion deletions.items seats.items },
 }
 
-ghost use Rattle.keyed_lists.specs.Rows.{AreRows, of_row, of_current, of_deletion};
+ghost use Rattle.plan_store_lists.specs.Rows.{AreRows, of_row, of_current, of_deletion};
 ghost use Rattle.planner_machine.specs.Moves.{keep, or_else};
 ghost use Rattle.plan_store.specs.Changes.{redefined};
 ghost use Rattle.plan_store.specs.Jobs.{AreJobs};
-ghost use Rattle.keyed_lists.specs.Rows.{HasEachOnce};
-ghost use Rattle.keyed_lists.specs.Seats.{AreSeats, HasSeats};
-ghost use Rattle.keyed_lists.specs.declared.seats.Seat.{Seat as SeatValue};
+ghost use Rattle.plan_store_lists.specs.Rows.{HasEachOnce};
+ghost use Rattle.plan_store_lists.specs.Seats.{AreSeats, HasSeats};
+ghost use Rattle.plan_store_lists.specs.declared.seats.Seat.{Seat as SeatValue};
 ghost use Rattle.plan_store.specs.declared.changes.Change.{Change as ChangeValue};
 ghost use Rattle.plan_store.specs.declared.room.Room.{Room as RoomValue};
 
@@ -73,7 +73,7 @@ impl Content {
     ghost use Rattle.planner_machine.specs.Sound.{AreNumbered};
     ghost use Rattle.plan_store.specs.Contents.{content_of};
     ghost use Rattle.plan_store.specs.Parts.{Rest, with_rest};
-    ghost use Rattle.keyed_lists.specs.Rows.{look_up};
+    ghost use Rattle.plan_store_lists.specs.Rows.{look_up};
     ghost use Rattle.plan_store.specs.Views.{HasAsked, IsFilled, Shows, TellsSizes, bars, current_serial};
     ghost use Rattle.plan_store.specs.Views.{deletion_serial, row_serial, shown, with_part, with_plans_alone};
     ghost use Rattle.occurrences.specs.declared.row.Row.{Row as RowValue};

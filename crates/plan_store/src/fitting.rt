@@ -1,8 +1,8 @@
 // Whether a content admits a change.
 
 ghost use Rattle.std.specs.Prelude.{◌≡◌, ◌↔◌, ◌++◌, Contains, Some, None, IfOk, IsTrue};
-ghost use Rattle.keyed_lists.specs.Rows.{AreRows, HasEachOnce, look_up};
-ghost use Rattle.keyed_lists.specs.Seats.{AreSeats, HasSeats};
+ghost use Rattle.plan_store_lists.specs.Rows.{AreRows, HasEachOnce, look_up};
+ghost use Rattle.plan_store_lists.specs.Seats.{AreSeats, HasSeats};
 ghost use Rattle.external_dependencies.specs.Nearest.{arrival_of};
 ghost use Rattle.planner_machine.specs.declared.job.Job.{Job as JobValue};
 ghost use Rattle.plan_store.specs.Changes.{Fits, FitsSet};
@@ -12,8 +12,8 @@ use crate::changes::{Change, Moves};
 use crate::contents::Content;
 use crate::slices::of_serial;
 use itertools::Itertools;
-use keyed_lists::{PlanRow, Seat};
 use occurrences::{CurrentRow, Deletion, Row};
+use plan_store_lists::{PlanRow, Seat};
 use planner_machine::Job;
 use std::alloc::{AllocError, Global};
 

@@ -3,7 +3,7 @@ ghost use Rattle.std.specs.List.{HoldsAt};
 ghost use Rattle.std.specs.List.Sorted.{IsPartitionPoint};
 ghost use Rattle.std.specs.Ordering.{nat_cmp};
 ghost use Rattle.std.specs.declared.cmp.Ordering.TheVariants.{Less, Greater};
-ghost use Rattle.keyed_lists.specs.Rows.{look_up};
+ghost use Rattle.plan_store_lists.specs.Rows.{look_up};
 ghost use Rattle.plan_store.specs.Changes.{jobs_after};
 ghost use Rattle.plan_store.specs.Jobs.{AreJobs};
 ghost use Rattle.planner_machine.specs.declared.job.Job.{Job as JobValue};

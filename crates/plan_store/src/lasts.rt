@@ -3,11 +3,11 @@
 
 ghost use Rattle.std.specs.Prelude.{◌≡◌, ◌↔◌, ◌<◌, ℕ, [], length, Contains, MatchOption, OnOk};
 ghost use Rattle.std.specs.List.{AllPairs};
-ghost use Rattle.definition_records.specs.declared.predecessors.Predecessor.{Predecessor as PredecessorValue};
+ghost use Rattle.app_definition_records.specs.declared.predecessors.Predecessor.{Predecessor as PredecessorValue};
 ghost use Rattle.external_dependencies.specs.Link.{Lists};
 ghost use Rattle.external_dependencies.specs.declared.links.Link.{Link as LinkValue};
 ghost use Rattle.planner_machine.specs.Content.{Content as ContentValue};
-ghost use Rattle.keyed_lists.specs.Rows.{AreRows, look_up, of_current, of_row};
+ghost use Rattle.plan_store_lists.specs.Rows.{AreRows, look_up, of_current, of_row};
 ghost use Rattle.occurrences.specs.declared.row.Row.{Row as RowValue};
 ghost use Rattle.plan_store.specs.Asked.{AsksKey, AsksPlan, HasLasts, ListsDefined};
 ghost use Rattle.plan_store.specs.Noted.{AreAtPlaces, AskedByOne, AsksEach, AsksEnd, AsksRow, IsAsked};

@@ -1,9 +1,9 @@
 ghost use Rattle.std.specs.Prelude.{◌≡◌, ℕ, ◌+◌, ◌≤◌, vec_len, vec_capacity};
-ghost use Rattle.keyed_lists.specs.Rows.{AreRows, look_up};
+ghost use Rattle.plan_store_lists.specs.Rows.{AreRows, look_up};
 ghost use Rattle.plan_store.specs.Changes.{FitsSet, moved_set};
 
 use crate::changes::Moves;
-use keyed_lists::{PlanRow, insert_all, remove_all, replace_all, sort};
+use plan_store_lists::{PlanRow, insert_all, remove_all, replace_all, sort};
 
 // Makes the moves in the list of a set. There is room for what is put.
 pub(crate) fn move_rows<T: PlanRow>(list: &mut Vec<T>, moves: Moves<T>)

@@ -4,7 +4,7 @@ ghost use Rattle.external_dependencies.specs.Rising.{IsRising};
 ghost use Rattle.plan_store.specs.Changes.{pairs_after};
 
 use external_dependencies::{Pair, PairChange};
-use keyed_lists::{has_key, insert_all, remove_all};
+use plan_store_lists::{has_key, insert_all, remove_all};
 
 // Makes a change in the list of the pairs. There is room for those that come.
 pub(crate) fn change_pairs(pairs: &mut Vec<Pair>, change: PairChange)

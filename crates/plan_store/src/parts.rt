@@ -5,16 +5,16 @@ ghost use Rattle.std.specs.Prelude.{◌≡◌, ◌↔◌, ◌⊎◌, ℕ, Contai
 ghost use Rattle.std.specs.List.{list_any};
 ghost use Rattle.std.specs.List.Sorted.{IsNonDecreasing};
 ghost use Rattle.std.specs.Mem.{FitsInMemory};
-ghost use Rattle.keyed_lists.specs.Rows.{AreRows, HasEachOnce, look_up, of_current, of_deletion, of_row};
-ghost use Rattle.keyed_lists.specs.Seats.{AreSeats, HasSeats};
-ghost use Rattle.keyed_lists.specs.declared.seats.Seat.{Seat as SeatValue};
+ghost use Rattle.plan_store_lists.specs.Rows.{AreRows, HasEachOnce, look_up, of_current, of_deletion, of_row};
+ghost use Rattle.plan_store_lists.specs.Seats.{AreSeats, HasSeats};
+ghost use Rattle.plan_store_lists.specs.declared.seats.Seat.{Seat as SeatValue};
 ghost use Rattle.plan_store.specs.Parts.{or_this};
 
 use crate::contents::Content;
 use crate::room::grow;
 use crate::slices::{barring, of_key, of_serial};
-use keyed_lists::{PlanRow, Seat, insert_all, note_rows};
 use occurrences::{CurrentRow, Deletion, Key, Row, Serial};
+use plan_store_lists::{PlanRow, Seat, insert_all, note_rows};
 use std::alloc::{AllocError, Global};
 use std::slice::from_ref;
 

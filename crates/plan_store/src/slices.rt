@@ -3,15 +3,15 @@ ghost use Rattle.std.specs.Prelude.{◌++◌, ◌≤◌, not};
 ghost use Rattle.occurrences.specs.declared.place.CurrentRow.{CurrentRow as CurrentValue};
 ghost use Rattle.occurrences.specs.declared.place.Deletion.{Deletion as DeletionValue};
 ghost use Rattle.planner_machine.specs.DailyPlan.{arrives_before};
-ghost use Rattle.keyed_lists.specs.Keyed.{IsKeyed};
-ghost use Rattle.keyed_lists.specs.Seats.{AreSeats, HasSeats};
+ghost use Rattle.plan_store_lists.specs.Keyed.{IsKeyed};
+ghost use Rattle.plan_store_lists.specs.Seats.{AreSeats, HasSeats};
 ghost use Rattle.external_dependencies.specs.Arrival.{arrival_cmp};
 ghost use Rattle.external_dependencies.specs.Nearest.{arrival_of};
 ghost use Rattle.plan_store.specs.Slices.{HaveOneApp, IsFront};
 ghost use Rattle.plan_store.specs.Views.{bars_from, is_asked, is_by_operator, is_from_plan_end, is_of_key};
 
-use keyed_lists::{PlanRow, Seat, seats_of};
 use occurrences::{CurrentRow, Deletion, Key, Reason, Row, Serial, Status};
+use plan_store_lists::{PlanRow, Seat, seats_of};
 use planner_machine::Bounds;
 use std::alloc::AllocError;
 use work_calendars::{App, Moment};

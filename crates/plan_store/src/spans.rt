@@ -4,8 +4,8 @@ ghost use Rattle.std.specs.Prelude.{◌≡◌, ◌↔◌, ◌≤◌, Contains};
 ghost use Rattle.external_dependencies.specs.Arrival.{arrival_cmp};
 ghost use Rattle.external_dependencies.specs.Nearest.{arrival_of};
 ghost use Rattle.external_dependencies.specs.Touch.{IsWithin};
-ghost use Rattle.keyed_lists.specs.Keyed.{IsKeyed};
-ghost use Rattle.keyed_lists.specs.Rows.{AreRows, look_up, of_current, of_row};
+ghost use Rattle.plan_store_lists.specs.Keyed.{IsKeyed};
+ghost use Rattle.plan_store_lists.specs.Rows.{AreRows, look_up, of_current, of_row};
 ghost use Rattle.occurrences.specs.declared.place.CurrentRow.{CurrentRow as CurrentValue};
 ghost use Rattle.planner_machine.specs.Content.{Sets};
 ghost use Rattle.plan_store.specs.Arrivals.{arrives, arrives_live};
@@ -14,8 +14,8 @@ ghost use Rattle.plan_store.specs.Spans.{IsLeastOf, IsNextPlanned, earlier_of};
 ghost use Rattle.plan_store.specs.Views.{current_serial, row_serial};
 
 use crate::slices::{from_on, of_app};
-use keyed_lists::PlanRow;
 use occurrences::{CurrentRow, Row, Status};
+use plan_store_lists::PlanRow;
 use work_calendars::{App, Moment};
 
 // The rows of one application that arrive at the last moment or before it, or all where there is none.

@@ -49,8 +49,8 @@ pub struct View<'a> {
     ghost deletion_seats: { HasSeats of_deletion deletions.now content.now.seats.items },
 }
 
-ghost use Rattle.keyed_lists.specs.Rows.{AreRows, look_up, of_current, of_deletion, of_row};
-ghost use Rattle.keyed_lists.specs.Seats.{HasSeats};
+ghost use Rattle.plan_store_lists.specs.Rows.{AreRows, look_up, of_current, of_deletion, of_row};
+ghost use Rattle.plan_store_lists.specs.Seats.{HasSeats};
 
 impl<'a> View<'a> {
     ghost use Rattle.plan_store.specs.Views.{BehindAny, BehindPairs, BehindPart, IsAny, IsCurrentRow, IsDeletedKey};

@@ -16,13 +16,13 @@ use Rattle.sqlite_trees.specs.Tree.{IsAscending}
 use Rattle.sqlite_wal.specs.Recovery.{Image}
 use Rattle.planner_machine.specs.Content.{Content}
 use Rattle.planner_machine.specs.Sound.{IsSound}
-use Rattle.table_schema.specs.Places.{TreesDiffer}
-use Rattle.table_schema.specs.Rows.{tables_of}
-use Rattle.table_schema.specs.Schema.{HasTables, IsAside, table_at, to_run_cycle}
-use Rattle.table_schema.specs.declared.tables.Table.TheVariants.{Offset}
-use Rattle.table_reading.specs.Reading.{HasPlan}
-use Rattle.table_opening.specs.Held.{HoldsPlan}
-use Rattle.table_opening.specs.Stored.{AllHaveRowids}
+use Rattle.plan_tables_schema.specs.Places.{TreesDiffer}
+use Rattle.plan_tables_schema.specs.Rows.{tables_of}
+use Rattle.plan_tables_schema.specs.Schema.{HasTables, IsAside, table_at, to_run_cycle}
+use Rattle.plan_tables_schema.specs.declared.tables.Table.TheVariants.{Offset}
+use Rattle.plan_tables_loading.specs.Reading.{HasPlan}
+use Rattle.plan_tables_opening.specs.Held.{HoldsPlan}
+use Rattle.plan_tables_opening.specs.Stored.{AllHaveRowids}
 use Rattle.plan_tables.specs.Found.{Tells}
 use Rattle.plan_tables.specs.Stored.{HoldsSound}
 

@@ -14,11 +14,11 @@ use Rattle.external_dependencies.specs.declared.pairs.Pair.{Pair}
 use Rattle.planner_machine.specs.Content.{Content}
 use Rattle.plan_store.specs.declared.stores.StoreFault.{StoreFault}
 use Rattle.plan_store.specs.declared.stores.StoreFault.TheVariants.{Device, Memory}
-use Rattle.table_opening.specs.Opened.{IsStored}
-use Rattle.table_schema.specs.Rows.{MayFail, Tables, tables_of}
-use Rattle.table_schema.specs.Schema.{HasOwnIndexes}
-use Rattle.table_writing.specs.Taking.{TakesChange}
-use Rattle.table_writing.specs.declared.redefining.DefinitionMoves.{DefinitionMoves}
+use Rattle.plan_tables_opening.specs.Opened.{IsStored}
+use Rattle.plan_tables_schema.specs.Rows.{MayFail, Tables, tables_of}
+use Rattle.plan_tables_schema.specs.Schema.{HasOwnIndexes}
+use Rattle.plan_tables_writing.specs.Taking.{TakesChange}
+use Rattle.plan_tables_writing.specs.declared.redefining.DefinitionMoves.{DefinitionMoves}
 use Rattle.external_dependencies.specs.Pair.{pair_cmp}
 use Rattle.external_dependencies.specs.Rising.{IsRising}
 use Rattle.planner_machine.specs.Sound.{IsSound}
@@ -32,8 +32,8 @@ use Rattle.plan_store.specs.declared.changes.DefinitionChange.TheVariants.{AsBef
 use Rattle.plan_tables.specs.Causes.{CountsOn, CanTake, fault_in, HasFailed}
 use Rattle.plan_tables.specs.Kept.{StaysPut}
 use Rattle.plan_tables.specs.Taken.{HasRoomFor, KeepsSchema}
-use Rattle.table_taking.specs.Taken.{AreTaken, FindsRoom, FittingIsTaken}
-use Rattle.table_writing.specs.Writing.{IsTellableChange}
+use Rattle.plan_tables_constraints.specs.Taken.{AreTaken, FindsRoom, FittingIsTaken}
+use Rattle.plan_tables_writing.specs.Writing.{IsTellableChange}
 use Rattle.plan_tables.proofs.BegunLemmas.{same_options}
 
 -- ---- it is asked whether a connection is open

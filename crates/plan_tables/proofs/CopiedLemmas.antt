@@ -23,7 +23,7 @@ use Rattle.sqlite_wal.specs.Recovery.{Image}
 use Rattle.plan_store.specs.declared.stores.StoreFault.{StoreFault}
 use Rattle.plan_store.specs.declared.stores.StoreFault.TheVariants.{Device, Memory}
 use Rattle.planner_machine.specs.Content.{Content}
-use Rattle.table_facts.specs.Content.{HaveOneContent}
+use Rattle.plan_tables_content.specs.Content.{HaveOneContent}
 use Rattle.plan_tables.specs.Found.{IsFoundIn, IsFoundInEither, KeepsAlone, Tells}
 use Rattle.plan_tables.specs.Stored.{LeavesSound, MayLeave}
 use Rattle.plan_tables.proofs.FoundLemmas.{found_told, tells_left, told_again}

@@ -27,13 +27,13 @@ use Rattle.sqlite_store.specs.FileStore as files
 use Rattle.sqlite_trees.specs.Objects.{catalog_tree}
 use Rattle.sqlite_wal.specs.Recovery.{Image}
 use Rattle.planner_machine.specs.Content.{Content}
-use Rattle.table_schema.specs.Rows.{tables_of}
-use Rattle.table_schema.specs.Free.{IsFree}
-use Rattle.table_schema.specs.Schema.{HasTables, name, table, table_at}
-use Rattle.table_schema.proofs.EachLemmas.{each}
-use Rattle.table_schema.specs.declared.tables.Table.TheVariants.{Meta}
-use Rattle.table_facts.specs.Content.{HaveOneContent, IsContentOf}
-use Rattle.table_opening.specs.Opened.{IsStored, IsToldBy}
+use Rattle.plan_tables_schema.specs.Rows.{tables_of}
+use Rattle.plan_tables_schema.specs.Free.{IsFree}
+use Rattle.plan_tables_schema.specs.Schema.{HasTables, name, table, table_at}
+use Rattle.plan_tables_schema.proofs.EachLemmas.{each}
+use Rattle.plan_tables_schema.specs.declared.tables.Table.TheVariants.{Meta}
+use Rattle.plan_tables_content.specs.Content.{HaveOneContent, IsContentOf}
+use Rattle.plan_tables_opening.specs.Opened.{IsStored, IsToldBy}
 use Rattle.plan_tables.specs.Found.{HoldsLeft, IsFoundIn, Tells, TellsLeft}
 use Rattle.plan_tables.specs.Stored.{LeavesSound, MayLeave, TellsSound}
 use Rattle.plan_tables.proofs.SetLemmas.{content_set}

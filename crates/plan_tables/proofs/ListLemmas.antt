@@ -14,17 +14,17 @@ use Rattle.occurrences.specs.declared.place.Deletion.{Deletion}
 use Rattle.occurrences.specs.declared.row.Row.{Row}
 use Rattle.planner_machine.specs.Content.{Content}
 use Rattle.planner_machine.specs.Sound.{AreNumbered}
-use Rattle.keyed_lists.specs.Rows.{of_deletion, of_row}
+use Rattle.plan_store_lists.specs.Rows.{of_deletion, of_row}
 use Rattle.plan_store.specs.Listings.{HandsAll, HandsPart as HandsSome, IsListing, Shown}
 use Rattle.plan_store.specs.Parts.{ListsAll}
 use Rattle.plan_store.specs.declared.listings.ListFault.TheVariants as list
 use Rattle.plan_store.specs.declared.listings.SinkFault.{SinkFault}
-use Rattle.table_schema.specs.Rows.{StaysOrIsUndone, tables_of}
-use Rattle.table_schema.specs.Schema.{HasTables}
-use Rattle.table_schema.specs.declared.tables.Table.{Table}
-use Rattle.table_schema.proofs.StopLemmas.{vain_since}
-use Rattle.table_facts.specs.Content.{IsContentOf}
-use Rattle.table_reading.proofs.LookLemmas.{undone_since}
+use Rattle.plan_tables_schema.specs.Rows.{StaysOrIsUndone, tables_of}
+use Rattle.plan_tables_schema.specs.Schema.{HasTables}
+use Rattle.plan_tables_schema.specs.declared.tables.Table.{Table}
+use Rattle.plan_tables_schema.proofs.StopLemmas.{vain_since}
+use Rattle.plan_tables_content.specs.Content.{IsContentOf}
+use Rattle.plan_tables_loading.proofs.LookLemmas.{undone_since}
 use Rattle.plan_tables_queries.specs.Finding.{FindsFact, StopsFor}
 use Rattle.plan_tables_queries.specs.declared.faults.LookupFault.{LookupFault}
 use Rattle.plan_tables_queries.specs.declared.faults.LookupFault.TheVariants as lookup

@@ -16,8 +16,8 @@ use Rattle.plan_store.specs.declared.listings.ListFault.{ListFault}
 use Rattle.plan_store.specs.declared.listings.ListFault.TheVariants as list
 use Rattle.plan_store.specs.declared.stores.StoreFault.{StoreFault}
 use Rattle.plan_store.specs.declared.stores.StoreFault.TheVariants.{Device, Memory}
-use Rattle.table_schema.specs.Rows.{StaysOrIsUndone}
-use Rattle.table_schema.specs.Schema.{HasTables}
+use Rattle.plan_tables_schema.specs.Rows.{StaysOrIsUndone}
+use Rattle.plan_tables_schema.specs.Schema.{HasTables}
 use Rattle.plan_tables_windows.specs.Gathering.{Grows}
 use Rattle.plan_tables_queries.specs.Finding.{StopsFor}
 use Rattle.plan_tables_queries.specs.declared.faults.LookupFault.{LookupFault}

@@ -9,11 +9,11 @@ use Rattle.plan_store.specs.Changes.{Fits, after}
 use Rattle.plan_store.specs.Parts.{IsPartOf, Rest, rest_of}
 use Rattle.plan_store.specs.Room.{no_jobs}
 use Rattle.plan_store.specs.declared.changes.Change.{Change}
-use Rattle.table_schema.specs.Rows.{tables_of}
-use Rattle.table_facts.specs.ToldSets.{AllTellSets}
+use Rattle.plan_tables_schema.specs.Rows.{tables_of}
+use Rattle.plan_tables_content.specs.ToldSets.{AllTellSets}
 use Rattle.plan_tables_windows.specs.Gathering.{told_rest}
-use Rattle.table_opening.specs.Opened.{IsStored}
-use Rattle.table_writing.specs.declared.redefining.DefinitionMoves.{DefinitionMoves}
+use Rattle.plan_tables_opening.specs.Opened.{IsStored}
+use Rattle.plan_tables_writing.specs.declared.redefining.DefinitionMoves.{DefinitionMoves}
 use Rattle.plan_tables.specs.Kept.{CanRead, IsKept, IsMet, jobless, kept_in}
 use Rattle.plan_tables.specs.Told.{BringMoves}
 use Rattle.plan_tables.proofs.StorableMoves.{told_moves}

@@ -11,7 +11,7 @@ use Rattle.sqlite_store.specs.FileStore.{view}
 use Rattle.sqlite_store.specs.declared.store.FileStore.{FileStore}
 use Rattle.sqlite_trees.specs.View.{IsClean, IsQuiet}
 use Rattle.sqlite_wal.specs.Recovery.{Image}
-use Rattle.table_opening.specs.declared.faults.OpenFault.{OpenFault}
+use Rattle.plan_tables_opening.specs.declared.faults.OpenFault.{OpenFault}
 use Rattle.plan_tables.specs.Adopted.{ComesBack}
 use Rattle.plan_tables.specs.Refused.{HoldsNoPlan, IsGivenBack}
 use Rattle.plan_tables.proofs.AgainLemmas.{found_plan}

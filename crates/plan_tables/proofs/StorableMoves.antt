@@ -6,17 +6,17 @@ use Rattle.app_definitions.specs.declared.kinds.Block.{Block}
 use Rattle.app_definitions.specs.declared.kinds.Block.TheVariants as block
 use Rattle.app_definitions.specs.declared.kinds.Kind.{Kind}
 use Rattle.app_definitions.specs.declared.kinds.Kind.TheVariants as kind
-use Rattle.keyed_lists.proofs.KeyLemmas.{nothing}
-use Rattle.table_schema.specs.declared.tables.Table.{Table}
+use Rattle.plan_store_lists.proofs.KeyLemmas.{nothing}
+use Rattle.plan_tables_schema.specs.declared.tables.Table.{Table}
 use Rattle.plan_store.specs.declared.changes.DefinitionChange.{DefinitionChange}
 use Rattle.plan_store.specs.declared.changes.DefinitionChange.TheVariants.{AsBefore, Merged, Removed}
-use Rattle.table_definitions.specs.Storing.{IsStorable}
-use Rattle.table_definitions.proofs.StorableRows.{applications_storable, calendars_storable, cycles_storable}
-use Rattle.table_definitions.proofs.StorableRows.{offsets_storable, periods_storable, predecessors_storable}
-use Rattle.table_facts.specs.Content.{ByName, IsOfSome}
-use Rattle.table_writing.specs.Redefining.{AreMovesOf, AreRowsFor, AreRowsOf, AreStorableMoves, BringsRows, CanStore}
-use Rattle.table_writing.specs.Redefining.{kind_of}
-use Rattle.table_writing.specs.declared.redefining.DefinitionMoves.{DefinitionMoves}
+use Rattle.plan_tables_definitions.specs.Storing.{IsStorable}
+use Rattle.plan_tables_definitions.proofs.StorableRows.{applications_storable, calendars_storable, cycles_storable}
+use Rattle.plan_tables_definitions.proofs.StorableRows.{offsets_storable, periods_storable, predecessors_storable}
+use Rattle.plan_tables_content.specs.Content.{ByName, IsOfSome}
+use Rattle.plan_tables_writing.specs.Redefining.{AreMovesOf, AreRowsFor, AreRowsOf, AreStorableMoves, BringsRows, CanStore}
+use Rattle.plan_tables_writing.specs.Redefining.{kind_of}
+use Rattle.plan_tables_writing.specs.declared.redefining.DefinitionMoves.{DefinitionMoves}
 use Rattle.plan_tables.specs.Told.{BringMoves, IsToldChange}
 
 rows_for : {D : Type 0} {cells : ℕ} (t : Table) (IsRow : List ℕ → D → Values → Type 0) (all : ByName D)

@@ -11,7 +11,7 @@ use Rattle.sqlite.specs.State.{HasCleanDisk, IsLive, IsUnchanged, State, Survive
 use Rattle.external_dependencies.specs.declared.pairs.Pair.{Pair}
 use Rattle.planner_machine.specs.Content.{Content}
 use Rattle.planner_machine.specs.Sound.{IsSound}
-use Rattle.table_schema.specs.Rows.{tables_of}
+use Rattle.plan_tables_schema.specs.Rows.{tables_of}
 use Rattle.app_definitions.specs.declared.definitions.Definitions.{Definitions}
 use Rattle.plan_store.specs.Changes.{after, Fits, redefined}
 use Rattle.plan_store.specs.Redefining.{half_redefined}
@@ -19,23 +19,23 @@ use Rattle.plan_store.specs.Parts.{IsPartOf, Rest, rest_of, with_rest}
 use Rattle.plan_store.specs.Room.{with_definitions, with_pairs_of}
 use Rattle.plan_store.specs.declared.changes.Change.{Change}
 use Rattle.plan_store.specs.declared.changes.DefinitionChange.TheVariants.{AsBefore}
-use Rattle.table_facts.specs.Content.{HaveOneContent, IsContentOf}
-use Rattle.table_facts.specs.ToldSets.{AllTellSets}
+use Rattle.plan_tables_content.specs.Content.{HaveOneContent, IsContentOf}
+use Rattle.plan_tables_content.specs.ToldSets.{AllTellSets}
 use Rattle.plan_tables_windows.specs.Gathering.{Grows, told_rest, told_with}
-use Rattle.table_opening.specs.Opened.{IsStored}
-use Rattle.table_opening.specs.Stored.{AllHaveRowids}
+use Rattle.plan_tables_opening.specs.Opened.{IsStored}
+use Rattle.plan_tables_opening.specs.Stored.{AllHaveRowids}
 use Rattle.plan_tables.specs.Found.{Tells}
 use Rattle.plan_tables.specs.Kept.{IsKept, LooksOn, StaysPut, jobless, kept_in}
 use Rattle.plan_tables.specs.Stored.{LeavesSound, MayLeave}
-use Rattle.table_writing.specs.Redefining.{AreMovesOf, definitions_moved, written}
-use Rattle.table_writing.specs.Writing.{HoldsWritten, IsTellableChange}
-use Rattle.table_writing.specs.declared.redefining.DefinitionMoves.{DefinitionMoves}
+use Rattle.plan_tables_writing.specs.Redefining.{AreMovesOf, definitions_moved, written}
+use Rattle.plan_tables_writing.specs.Writing.{HoldsWritten, IsTellableChange}
+use Rattle.plan_tables_writing.specs.declared.redefining.DefinitionMoves.{DefinitionMoves}
 use Rattle.plan_tables.proofs.BegunLemmas.{same_options}
-use Rattle.table_taking.proofs.ContentAfter.{plans_after}
-use Rattle.table_taking.proofs.DefinitionFacts.{redefined_content}
+use Rattle.plan_tables_constraints.proofs.ContentAfter.{plans_after}
+use Rattle.plan_tables_constraints.proofs.DefinitionFacts.{redefined_content}
 use Rattle.plan_tables.proofs.SetLemmas.{content_set}
-use Rattle.table_schema.specs.Rows.{Tables}
-use Rattle.table_schema.proofs.StatementLemmas.{plan_still}
+use Rattle.plan_tables_schema.specs.Rows.{Tables}
+use Rattle.plan_tables_schema.proofs.StatementLemmas.{plan_still}
 
 pub stored_still : (old new : State) (c : Content) → IsStored old c → IsTrue new.is_open → new.now ≡ old.now
     → new.committed ≡ old.committed → IsStored new c

@@ -13,14 +13,14 @@ use Rattle.work_calendars.specs.declared.statuses.DayStatus.{DayStatus}
 use Rattle.plan_periods.specs.Period.{IsSoundPeriod}
 use Rattle.plan_periods.specs.declared.periods.Period.{Period}
 use Rattle.plan_periods.specs.declared.periods.Period.TheVariants.{All as AllDays, Work, Listed}
-use Rattle.definition_records.proofs.ByNameLemmas.{get-overlaid}
-use Rattle.definition_records.specs.ByName.{overlaid}
-use Rattle.definition_records.specs.Calendars.{FitsCalendar, IsCalendarOf}
-use Rattle.definition_records.specs.CycleRecords.{AreRunCyclesOf, FitsRunCycle}
-use Rattle.definition_records.specs.Periods.{FitsPeriod, IsPeriodOf}
-use Rattle.definition_records.specs.Predecessors.{ArePredecessorsOf, FitsPredecessors}
-use Rattle.definition_records.specs.FieldCounts.{HasCalendarFields, HasCycleFields, HasPeriodFields}
-use Rattle.definition_records.specs.FieldCounts.{HasPredecessorFields}
+use Rattle.app_definition_records.proofs.ByNameLemmas.{get-overlaid}
+use Rattle.app_definition_records.specs.ByName.{overlaid}
+use Rattle.app_definition_records.specs.Calendars.{FitsCalendar, IsCalendarOf}
+use Rattle.app_definition_records.specs.CycleRecords.{AreRunCyclesOf, FitsRunCycle}
+use Rattle.app_definition_records.specs.Periods.{FitsPeriod, IsPeriodOf}
+use Rattle.app_definition_records.specs.Predecessors.{ArePredecessorsOf, FitsPredecessors}
+use Rattle.app_definition_records.specs.FieldCounts.{HasCalendarFields, HasCycleFields, HasPeriodFields}
+use Rattle.app_definition_records.specs.FieldCounts.{HasPredecessorFields}
 use Rattle.app_definitions.specs.Definitions.{merged}
 use Rattle.app_definitions.specs.declared.definitions.Definitions.{Definitions}
 use Rattle.app_definitions.specs.declared.kinds.Block.{Block}
@@ -32,16 +32,16 @@ use Rattle.plan_store.specs.Changes.{after, jobs_after, redefined}
 use Rattle.plan_store.specs.declared.changes.Change.{Change}
 use Rattle.plan_store.specs.declared.changes.DefinitionChange.{DefinitionChange}
 use Rattle.plan_store.specs.declared.changes.DefinitionChange.TheVariants.{AsBefore, Merged, Removed}
-use Rattle.definition_soundness.specs.Values.{ListsDate, ListsWeekday}
-use Rattle.definition_soundness.proofs.CalendarRecords.{calendar_value}
-use Rattle.definition_soundness.proofs.CycleRecords.{cycles_value}
-use Rattle.definition_soundness.proofs.DefinedLemmas.{calendar_week, cycles_rise, made_of, period_sound}
-use Rattle.definition_soundness.proofs.GivenLemmas.{definable_from}
-use Rattle.definition_soundness.proofs.SimpleLemmas.{predecessors_value}
-use Rattle.table_definitions.specs.Telling.{IsTellableBlock}
-use Rattle.table_facts.specs.Content.{ByName, HasEntry}
-use Rattle.table_facts.specs.Facts.{IsCalendarRow}
-use Rattle.table_facts.specs.Facts.IsCalendarRow.{Date, Weekday}
+use Rattle.app_definition_soundness.specs.Values.{ListsDate, ListsWeekday}
+use Rattle.app_definition_soundness.proofs.CalendarRecords.{calendar_value}
+use Rattle.app_definition_soundness.proofs.CycleRecords.{cycles_value}
+use Rattle.app_definition_soundness.proofs.DefinedLemmas.{calendar_week, cycles_rise, made_of, period_sound}
+use Rattle.app_definition_soundness.proofs.GivenLemmas.{definable_from}
+use Rattle.app_definition_soundness.proofs.SimpleLemmas.{predecessors_value}
+use Rattle.plan_tables_definitions.specs.Telling.{IsTellableBlock}
+use Rattle.plan_tables_content.specs.Content.{ByName, HasEntry}
+use Rattle.plan_tables_content.specs.Facts.{IsCalendarRow}
+use Rattle.plan_tables_content.specs.Facts.IsCalendarRow.{Date, Weekday}
 use Rattle.plan_tables.specs.Told.{IsToldChange}
 
 -- what a block gives stands in the definitions after it

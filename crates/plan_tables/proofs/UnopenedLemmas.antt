@@ -6,11 +6,11 @@ use Rattle.sqlite.specs.State.{State}
 use Rattle.sqlite.specs.Steps.{IsEmpty, over_memory}
 use Rattle.sqlite.proofs.Callers.{memory_is_clean}
 use Rattle.sqlite_trees.specs.declared.memory.MemStore.{MemStore}
-use Rattle.table_schema.specs.Free.{IsFree}
-use Rattle.table_schema.proofs.MadeLemmas.{nothing_is_free}
-use Rattle.table_opening.specs.Opened.{IsUnmade}
-use Rattle.table_opening.specs.declared.faults.OpenFault.{OpenFault}
-use Rattle.table_opening.specs.declared.faults.OpenFault.TheVariants.{Memory, Device, Unopened, Tables as OtherTables, Rows}
+use Rattle.plan_tables_schema.specs.Free.{IsFree}
+use Rattle.plan_tables_schema.proofs.MadeLemmas.{nothing_is_free}
+use Rattle.plan_tables_opening.specs.Opened.{IsUnmade}
+use Rattle.plan_tables_opening.specs.declared.faults.OpenFault.{OpenFault}
+use Rattle.plan_tables_opening.specs.declared.faults.OpenFault.TheVariants.{Memory, Device, Unopened, Tables as OtherTables, Rows}
 use Rattle.plan_tables.specs.Unopened.{IsUnmadeBy}
 
 memory_alone : (a b : State) (fault : OpenFault) → a.faults ≡ 0 → b.faults ≡ 0 → IsTrue a.is_open

@@ -7,7 +7,7 @@ use Rattle.sqlite.specs.Store.{Ghosts}
 use Rattle.sqlite.specs.declared.error.Error.{Error}
 use Rattle.sqlite.proofs.StateLemmas.{survives_then}
 use Rattle.planner_machine.specs.Content.{Content}
-use Rattle.table_schema.specs.Schema.{HasTables}
+use Rattle.plan_tables_schema.specs.Schema.{HasTables}
 use Rattle.plan_tables_queries.specs.Finding.{FindsFact}
 use Rattle.plan_tables_queries.specs.declared.faults.LookupFault.{LookupFault}
 use Rattle.plan_tables_queries.specs.declared.faults.LookupFault.TheVariants as lookup

@@ -5,12 +5,12 @@ use Rattle.sqlite.specs.State.{HasCleanDisk, Survives}
 use Rattle.sqlite.specs.Store.{Ghosts}
 use Rattle.plan_store.specs.Contents.{content_of}
 use Rattle.plan_store.specs.Parts.{IsPartOf}
-use Rattle.table_schema.specs.Rows.{tables_of}
+use Rattle.plan_tables_schema.specs.Rows.{tables_of}
 use Rattle.plan_tables_windows.specs.Gathering.{told_rest}
-use Rattle.table_opening.specs.Held.{HoldsPlan}
-use Rattle.table_opening.specs.Opened.{IsCommon, MakesFirst}
-use Rattle.table_opening.specs.Opening.{IsOpened, IsUnopened}
-use Rattle.table_opening.specs.declared.faults.OpenFault.{OpenFault}
+use Rattle.plan_tables_opening.specs.Held.{HoldsPlan}
+use Rattle.plan_tables_opening.specs.Opened.{IsCommon, MakesFirst}
+use Rattle.plan_tables_opening.specs.Opening.{IsOpened, IsUnopened}
+use Rattle.plan_tables_opening.specs.declared.faults.OpenFault.{OpenFault}
 use Rattle.plan_tables.specs.Kept.{kept_in}
 use Rattle.plan_tables.specs.Stored.{LeavesOne}
 use Rattle.plan_tables.specs.declared.table_store.TableStore.{TableStore}

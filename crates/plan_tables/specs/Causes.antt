@@ -10,9 +10,9 @@ use Rattle.planner_machine.specs.Content.{Content}
 use Rattle.plan_store.specs.declared.changes.Change.{Change}
 use Rattle.plan_store.specs.declared.stores.StoreFault.{StoreFault}
 use Rattle.plan_store.specs.declared.stores.StoreFault.TheVariants.{Device, Memory}
-use Rattle.table_schema.specs.Rows.{tables_of}
-use Rattle.table_schema.specs.Schema.{HasOwnIndexes}
-use Rattle.table_taking.specs.Taken.{AreTaken}
+use Rattle.plan_tables_schema.specs.Rows.{tables_of}
+use Rattle.plan_tables_schema.specs.Schema.{HasOwnIndexes}
+use Rattle.plan_tables_constraints.specs.Taken.{AreTaken}
 
 -- lack of memory, a failure of the device or a connection that was closed, or neither
 abbrev pub fault_in : Error → Option StoreFault

@@ -8,11 +8,11 @@ use Rattle.sqlite.specs.Tree.{Trees}
 use Rattle.sqlite_wal.specs.Recovery.{Image}
 use Rattle.planner_machine.specs.Content.{Content}
 use Rattle.planner_machine.specs.Sound.{IsSound}
-use Rattle.table_schema.specs.Rows.{tables_of}
-use Rattle.table_schema.specs.Schema.{HasTables}
-use Rattle.table_facts.specs.Content.{IsContentOf}
-use Rattle.table_opening.specs.Opened.{IsToldBy}
-use Rattle.table_opening.specs.Stored.{AllHaveRowids}
+use Rattle.plan_tables_schema.specs.Rows.{tables_of}
+use Rattle.plan_tables_schema.specs.Schema.{HasTables}
+use Rattle.plan_tables_content.specs.Content.{IsContentOf}
+use Rattle.plan_tables_opening.specs.Opened.{IsToldBy}
+use Rattle.plan_tables_opening.specs.Stored.{AllHaveRowids}
 
 -- the database that such files hold, or an empty one if they hold none yet, has the content
 pub record IsFoundIn (image : Image) (c : Content) : Type 0 where

@@ -7,12 +7,12 @@ use Rattle.planner_machine.specs.Sound.{IsSound}
 use Rattle.plan_store.specs.Changes.{Fits}
 use Rattle.plan_store.specs.Parts.{IsPartOf, Rest, with_rest}
 use Rattle.plan_store.specs.declared.changes.Change.{Change}
-use Rattle.table_schema.specs.Rows.{tables_of}
+use Rattle.plan_tables_schema.specs.Rows.{tables_of}
 use Rattle.plan_tables_windows.specs.Gathering.{told_rest, told_with}
-use Rattle.table_opening.specs.Opened.{IsStored}
-use Rattle.table_writing.specs.Redefining.{AreMovesOf}
+use Rattle.plan_tables_opening.specs.Opened.{IsStored}
+use Rattle.plan_tables_writing.specs.Redefining.{AreMovesOf}
 use Rattle.plan_tables.specs.Stored.{MayLeave}
-use Rattle.table_writing.specs.declared.redefining.DefinitionMoves.{DefinitionMoves}
+use Rattle.plan_tables_writing.specs.declared.redefining.DefinitionMoves.{DefinitionMoves}
 
 -- the content of the lists, with history, the deletions and the jobs that the tables have
 abbrev pub kept_in : State → Content → Content

@@ -10,8 +10,8 @@ use Rattle.plan_store.specs.declared.listings.ListFault.{ListFault}
 use Rattle.plan_store.specs.declared.listings.ListFault.TheVariants as list
 use Rattle.plan_store.specs.declared.listings.What.{What}
 use Rattle.plan_store.specs.declared.listings.What.TheVariants as whats
-use Rattle.table_schema.specs.Rows.{StaysOrIsUndone}
-use Rattle.table_schema.specs.Schema.{HasTables}
+use Rattle.plan_tables_schema.specs.Rows.{StaysOrIsUndone}
+use Rattle.plan_tables_schema.specs.Schema.{HasTables}
 use Rattle.plan_tables_queries.specs.Listing.{HandsPart, StopsFor}
 use Rattle.plan_tables_queries.specs.declared.listing_faults.ListedFault.{ListedFault}
 use Rattle.plan_tables_queries.specs.declared.listing_faults.ListedFault.TheVariants as listed

@@ -13,11 +13,11 @@ use Rattle.sqlite_store.specs.FileStore.{faults, is_shielded, recovers, view}
 use Rattle.sqlite_store.specs.declared.store.FileStore.{FileStore}
 use Rattle.sqlite_trees.specs.View.{IsClean, IsQuiet}
 use Rattle.sqlite_wal.specs.Recovery.{Image}
-use Rattle.table_opening.specs.Files.{IsRefused}
-use Rattle.table_opening.specs.Opened.{IsCommon, MakesFirst}
-use Rattle.table_opening.specs.Opening.{IsUnopened}
-use Rattle.table_opening.specs.declared.faults.OpenFault.{OpenFault}
-use Rattle.table_opening.specs.declared.faults.OpenFault.TheVariants.{Memory, Unopened}
+use Rattle.plan_tables_opening.specs.Files.{IsRefused}
+use Rattle.plan_tables_opening.specs.Opened.{IsCommon, MakesFirst}
+use Rattle.plan_tables_opening.specs.Opening.{IsUnopened}
+use Rattle.plan_tables_opening.specs.declared.faults.OpenFault.{OpenFault}
+use Rattle.plan_tables_opening.specs.declared.faults.OpenFault.TheVariants.{Memory, Unopened}
 use Rattle.plan_tables.specs.Adopted.{ComesBack}
 use Rattle.plan_tables.specs.Stored.{HoldsSound}
 

@@ -7,8 +7,8 @@ use Rattle.planner_machine.specs.Content.{Content}
 use Rattle.plan_store.specs.Parts.{IsPartOf, Rest}
 use Rattle.plan_tables_windows.specs.Changes.{KnowsNamed}
 use Rattle.plan_tables_windows.specs.Windows.{IsReadyFor}
-use Rattle.table_schema.specs.Rows.{tables_of}
-use Rattle.table_schema.specs.Schema.{HasTables}
+use Rattle.plan_tables_schema.specs.Rows.{tables_of}
+use Rattle.plan_tables_schema.specs.Schema.{HasTables}
 use Rattle.plan_tables_windows.specs.Gathering.{Grows, told_rest}
 use Rattle.plan_tables.specs.Causes.{HasFailed}
 use Rattle.plan_tables.specs.Kept.{IsKept, StaysPut}

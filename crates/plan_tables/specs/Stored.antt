@@ -6,9 +6,9 @@ use Rattle.sqlite.specs.Tree.{Trees}
 use Rattle.sqlite_wal.specs.Recovery.{Image}
 use Rattle.planner_machine.specs.Content.{Content}
 use Rattle.planner_machine.specs.Sound.{IsSound}
-use Rattle.table_schema.specs.Rows.{tables_of}
-use Rattle.table_facts.specs.Content.{IsContentOf}
-use Rattle.table_opening.specs.Stored.{AllHaveRowids}
+use Rattle.plan_tables_schema.specs.Rows.{tables_of}
+use Rattle.plan_tables_content.specs.Content.{IsContentOf}
+use Rattle.plan_tables_opening.specs.Stored.{AllHaveRowids}
 use Rattle.plan_tables.specs.Found.{Tells}
 
 -- a crash of the database may leave this content

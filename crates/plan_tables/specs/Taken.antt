@@ -4,9 +4,9 @@ use Rattle.sqlite.specs.State.{HasCleanDisk, State}
 use Rattle.plan_store.specs.declared.changes.Change.{Change}
 use Rattle.plan_store.specs.declared.stores.StoreFault.{StoreFault}
 use Rattle.plan_store.specs.declared.stores.StoreFault.TheVariants.{Memory}
-use Rattle.table_schema.specs.Rows.{tables_of}
-use Rattle.table_schema.specs.Schema.{HasOwnIndexes}
-use Rattle.table_taking.specs.Taken.{FindsRoom}
+use Rattle.plan_tables_schema.specs.Rows.{tables_of}
+use Rattle.plan_tables_schema.specs.Schema.{HasOwnIndexes}
+use Rattle.plan_tables_constraints.specs.Taken.{FindsRoom}
 
 -- no index made by hand is of the tables of the database, and there is room in them for a change
 abbrev pub HasRoomFor : State → Change → Type 0

@@ -2,9 +2,9 @@
 use Rattle.std.specs.Prelude.{◌≡◌, [], ◌∷◌, None, Some, ⊤}
 use Rattle.plan_store.specs.declared.changes.DefinitionChange.{DefinitionChange}
 use Rattle.plan_store.specs.declared.changes.DefinitionChange.TheVariants.{AsBefore, Merged, Removed}
-use Rattle.table_definitions.specs.Telling.{IsTellableBlock}
-use Rattle.table_writing.specs.Redefining.{BringsRows, kind_of}
-use Rattle.table_writing.specs.declared.redefining.DefinitionMoves.{DefinitionMoves}
+use Rattle.plan_tables_definitions.specs.Telling.{IsTellableBlock}
+use Rattle.plan_tables_writing.specs.Redefining.{BringsRows, kind_of}
+use Rattle.plan_tables_writing.specs.declared.redefining.DefinitionMoves.{DefinitionMoves}
 
 -- the rows of what a block brings distinguish it from all else
 abbrev pub IsToldChange : DefinitionChange → Type 0

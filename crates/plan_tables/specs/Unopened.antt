@@ -2,8 +2,8 @@
 use Rattle.sqlite.specs.Held.{Held, state}
 use Rattle.sqlite.specs.State.{HasCleanDisk}
 use Rattle.sqlite.specs.Store.{Ghosts}
-use Rattle.table_opening.specs.Opened.{HasRoom, IsUnmade}
-use Rattle.table_opening.specs.declared.faults.OpenFault.{OpenFault}
+use Rattle.plan_tables_opening.specs.Opened.{HasRoom, IsUnmade}
+use Rattle.plan_tables_opening.specs.declared.faults.OpenFault.{OpenFault}
 
 -- if nothing was in the way of the tables, the connection as it was dropped says why it did not get them
 abbrev pub IsUnmadeBy : {S : Type 0} → Ghosts S → Held S → OpenFault → Type 0

@@ -5,14 +5,14 @@ ghost use Rattle.external_dependencies.specs.Link.{link_cmp};
 ghost use Rattle.external_dependencies.specs.Pair.{pair_cmp};
 ghost use Rattle.external_dependencies.specs.Rising.{IsRising};
 ghost use Rattle.planner_machine.specs.declared.job.Job.{Job as JobValue};
-ghost use Rattle.table_facts.specs.Content.{answer_text, IsSmall};
-ghost use Rattle.table_writing.specs.Writing.{IsTellableChange};
+ghost use Rattle.plan_tables_content.specs.Content.{answer_text, IsSmall};
+ghost use Rattle.plan_tables_writing.specs.Writing.{IsTellableChange};
 
 use external_dependencies::Links;
 use plan_store::Change;
+use plan_tables_content::{answer_is_small, answer_line};
 use planner_machine::Job;
 use std::alloc::{AllocError, Global};
-use table_facts::{answer_is_small, answer_line};
 
 /// The line of the job's reply; no bytes if there is no job.
 pub(crate) fn job_line(alloc: Global, job: &Option<Job>) -> Result<Vec<u8>, AllocError>

@@ -21,9 +21,9 @@ ghost use Rattle.plan_tables.specs.Stored.{MayLeave, TellsSound};
 
 use crate::table_store::TableStore;
 use plan_store::StoreFault;
+use plan_tables_content::tables_have_one_content;
 use sqlite::{Alter, Error, ErrorCode, FileStore};
 use sqlite_disk::{Disk, Files};
-use table_facts::tables_have_one_content;
 
 impl<S: Alter + Drop> TableStore<S> {
     /// Drops the tables, as a program does at its end. Each database that a crash may leave of them has the tables of

@@ -1,16 +1,16 @@
 // The changes in the tables of definitions.
 
 ghost use Rattle.std.specs.Prelude.{◌≡◌, ◌∷◌, [], None, Some, IfOk};
-ghost use Rattle.table_writing.specs.Redefining.{BringsRows, kind_of};
+ghost use Rattle.plan_tables_writing.specs.Redefining.{BringsRows, kind_of};
 ghost use Rattle.plan_tables.specs.Told.{BringMoves};
 
 use app_definitions::{Block, Kind};
 use plan_store::DefinitionChange;
-use std::alloc::{AllocError, Global};
-use table_definitions::{
+use plan_tables_definitions::{
     application_rows, calendar_rows, cycle_rows, offset_rows, period_rows, predecessor_rows,
 };
-use table_writing::DefinitionMoves;
+use plan_tables_writing::DefinitionMoves;
+use std::alloc::{AllocError, Global};
 use work_calendars::Name;
 
 // Nothing moves.

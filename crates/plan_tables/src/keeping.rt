@@ -4,7 +4,7 @@ ghost use Rattle.std.specs.Prelude.{◌≡◌, ◌⊎◌, ◌<◌, ◌^◌, fals
 ghost use Rattle.sqlite.specs.State.{HasCleanDisk, IsRolledBack, IsUnchanged, Survives};
 ghost use Rattle.sqlite.specs.Held.{state};
 ghost use Rattle.sqlite_disk.specs.Disk.{MoreFaults};
-ghost use Rattle.table_schema.specs.Rows.{tables_of};
+ghost use Rattle.plan_tables_schema.specs.Rows.{tables_of};
 ghost use Rattle.planner_machine.specs.declared.job.Job.{Job as JobValue};
 ghost use Rattle.plan_store.specs.Changes.{Fits, after, redefined};
 ghost use Rattle.plan_store.specs.Contents.{content_of};
@@ -13,22 +13,22 @@ ghost use Rattle.plan_store.specs.Parts.{Rest, with_rest};
 ghost use Rattle.plan_store.specs.Room.{HasRoom, with_definitions, with_pairs_of};
 ghost use Rattle.plan_store.specs.declared.changes.DefinitionChange.TheVariants.{AsBefore};
 ghost use Rattle.plan_store.specs.declared.stores.StoreFault.TheVariants.{Device, Memory};
-ghost use Rattle.table_facts.specs.Content.{answer_text};
-ghost use Rattle.table_opening.specs.Opened.{IsStored};
-ghost use Rattle.table_opening.specs.Stored.{AllHaveRowids};
-ghost use Rattle.table_writing.specs.Redefining.{AreStorableMoves};
-ghost use Rattle.table_writing.specs.Writing.{IsTellableChange};
+ghost use Rattle.plan_tables_content.specs.Content.{answer_text};
+ghost use Rattle.plan_tables_opening.specs.Opened.{IsStored};
+ghost use Rattle.plan_tables_opening.specs.Stored.{AllHaveRowids};
+ghost use Rattle.plan_tables_writing.specs.Redefining.{AreStorableMoves};
+ghost use Rattle.plan_tables_writing.specs.Writing.{IsTellableChange};
 ghost use Rattle.plan_tables.specs.Causes.{CanTake, HasFailed, fault_in};
 ghost use Rattle.plan_tables.specs.Found.{Tells};
 ghost use Rattle.plan_tables.specs.Kept.{IsMet, StaysPut, jobless};
 ghost use Rattle.plan_tables.specs.Whys.{IsWhyOf};
 
-use plan_tables_queries::LookupFault;
 use plan_store::{Change, Content, DefinitionChange, Redefining, Room, StoreFault};
+use plan_tables_queries::LookupFault;
+use plan_tables_writing::{DefinitionMoves, commit_change};
 use sqlite::{Alter, Connection, Error, ErrorCode};
 use std::alloc::{AllocError, Global};
 use std::mem::replace;
-use table_writing::{DefinitionMoves, commit_change};
 
 /// Why something is not done.
 #[derive(Clone, Copy)]

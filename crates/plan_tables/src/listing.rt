@@ -4,21 +4,22 @@ ghost use Rattle.std.specs.Prelude.{◌≡◌, ◌≢◌, false, option_copied, 
 ghost use Rattle.sqlite.specs.Held.{state};
 ghost use Rattle.sqlite.specs.State.{HasCleanDisk, IsUnchanged, Survives};
 ghost use Rattle.planner_machine.specs.Sound.{AreNumbered};
-ghost use Rattle.keyed_lists.specs.Rows.{of_deletion, of_row};
+ghost use Rattle.plan_store_lists.specs.Rows.{of_deletion, of_row};
 ghost use Rattle.plan_store.specs.Contents.{content_of};
 ghost use Rattle.plan_store.specs.Listings.{HandsAll, HandsPart, IsListing};
 ghost use Rattle.plan_store.specs.Parts.{ListsAll};
-ghost use Rattle.table_schema.specs.Schema.{HasTables};
+ghost use Rattle.plan_tables_schema.specs.Schema.{HasTables};
 ghost use Rattle.plan_tables_queries.specs.Finding.{FindsFact};
 ghost use Rattle.plan_tables.specs.Causes.{HasFailed};
 ghost use Rattle.plan_tables.specs.Kept.{IsKept, StaysPut, kept_in};
 ghost use Rattle.plan_tables.specs.Listing.{LeavesOpen, ListsKept, fault_so, listed_so, what_of};
 
 use crate::keeping::{Unmade, cause_of};
-use plan_tables_queries::{ListedFault, list_deletions, list_history};
-use plan_tables_queries::{LookupFault, completed_rows, deleted_rows};
 use occurrences::{Deletion, Row};
 use plan_store::{Content, ListFault, RowSink, SinkFault};
+use plan_tables_queries::{
+    ListedFault, LookupFault, completed_rows, deleted_rows, list_deletions, list_history,
+};
 use sqlite::{Alter, Connection};
 use std::alloc::Global;
 use work_calendars::App;

@@ -16,14 +16,14 @@ ghost use Rattle.plan_tables.specs.Kept.{IsKept, kept_in};
 ghost use Rattle.plan_tables.specs.Refused.{IsGivenBack, IsNotOpened};
 ghost use Rattle.plan_tables.specs.Stored.{LeavesOne};
 ghost use Rattle.plan_tables.specs.Unopened.{IsUnmadeBy};
-ghost use Rattle.table_opening.specs.declared.faults.OpenFault.TheVariants.{Memory};
+ghost use Rattle.plan_tables_opening.specs.declared.faults.OpenFault.TheVariants.{Memory};
 
 use crate::table_store::TableStore;
+use plan_tables_content::tables_have_one_content;
+use plan_tables_opening::{OpenFault, open_connection_from, open_content};
 use sqlite::{Alter, Connection, File, FileFrom, FileStore, Leftover, MemStore, Start, Unknown};
 use std::alloc::Global;
 use std::rt::HostRuntime;
-use table_facts::tables_have_one_content;
-use table_opening::{OpenFault, open_connection_from, open_content};
 
 impl<S: Alter + Drop> TableStore<S> {
     /// A store over the database of a connection. The database has the tables of the plan, of a known version, with

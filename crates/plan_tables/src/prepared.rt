@@ -2,15 +2,15 @@
 
 ghost use Rattle.std.specs.Prelude.{◌≡◌, ◌↔◌, ◌<◌, ◌^◌, IfOk, IfSome, IsTrue};
 ghost use Rattle.planner_machine.specs.declared.job.Job.{Job as JobValue};
-ghost use Rattle.table_facts.specs.Content.{answer_text};
+ghost use Rattle.plan_tables_content.specs.Content.{answer_text};
 ghost use Rattle.plan_tables.specs.Told.{BringMoves};
 
 use crate::answers::job_line;
 use crate::definition_moves::moves_of;
 use plan_store::Change;
+use plan_tables_writing::DefinitionMoves;
 use planner_machine::Job;
 use std::alloc::{AllocError, Global};
-use table_writing::DefinitionMoves;
 
 /// The changes in the tables of definitions, and the line of the job's reply.
 #[derive(Drop)]

@@ -5,9 +5,9 @@ ghost use Rattle.plan_tables_windows.specs.Gathering.{Gathers};
 ghost use Rattle.plan_tables.specs.Sought.{IsFoundFor, Seeks};
 
 use crate::keeping::{Unmade, why_of};
-use plan_tables_windows::{gather, gather_for_change};
-use plan_tables_queries::LookupFault;
 use plan_store::{Change, Content, Need};
+use plan_tables_queries::LookupFault;
+use plan_tables_windows::{gather, gather_for_change};
 use sqlite::{Alter, Connection};
 use std::alloc::Global;
 

@@ -6,15 +6,15 @@ use Rattle.sqlite.specs.Order.{Row as Values}
 use Rattle.occurrences.specs.declared.row.Row.{Row}
 use Rattle.planner_machine.specs.Content.{Content}
 use Rattle.planner_machine.specs.Sound.{IsSound}
-use Rattle.definition_records.proofs.RisingLemmas.{Contains-map, Contains-map_back}
-use Rattle.keyed_lists.specs.Rows.{OneEach, look_up}
-use Rattle.keyed_lists.proofs.LookLemmas.{look_at, look_some}
+use Rattle.app_definition_records.proofs.RisingLemmas.{Contains-map, Contains-map_back}
+use Rattle.plan_store_lists.specs.Rows.{OneEach, look_up}
+use Rattle.plan_store_lists.proofs.LookLemmas.{look_at, look_some}
 use Rattle.plan_store.specs.Parts.{ListsAll}
-use Rattle.table_schema.specs.Rows.{Tables, shown}
-use Rattle.table_lookups.specs.Looks.{question}
-use Rattle.table_lookups.specs.declared.looks.Look.{Look}
-use Rattle.table_facts.specs.Content.{IsContentOf}
-use Rattle.table_facts.proofs.Told.{is_some, same_options}
+use Rattle.plan_tables_schema.specs.Rows.{Tables, shown}
+use Rattle.plan_tables_lookups.specs.Looks.{question}
+use Rattle.plan_tables_lookups.specs.declared.looks.Look.{Look}
+use Rattle.plan_tables_content.specs.Content.{IsContentOf}
+use Rattle.plan_tables_content.proofs.Told.{is_some, same_options}
 use Rattle.plan_tables_queries.specs.Telling.{HasUntold}
 use Rattle.plan_tables_queries.proofs.NumberLemmas.{IsNumberedSet}
 

@@ -4,9 +4,9 @@ use Rattle.std.specs.List.Sorted.{IsPermutation}
 use Rattle.std.proofs.lemmas.List.Elements.{Contains-append_right}
 use Rattle.std.proofs.lemmas.List.Sorted.{Contains-permutation, IsPermutation-sym}
 use Rattle.sqlite.specs.Order.{Row as Values}
-use Rattle.keyed_lists.proofs.KeyLemmas.{contains_first}
-use Rattle.table_lookups.specs.Handing.{HandsPart}
-use Rattle.table_lookups.specs.declared.handing.HandFault.TheVariants.{Sink}
+use Rattle.plan_store_lists.proofs.KeyLemmas.{contains_first}
+use Rattle.plan_tables_lookups.specs.Handing.{HandsPart}
+use Rattle.plan_tables_lookups.specs.declared.handing.HandFault.TheVariants.{Sink}
 use Rattle.plan_tables_queries.specs.Telling.{TellsNone, TellsNot}
 use Rattle.plan_tables_queries.specs.declared.faults.LookupFault.{LookupFault}
 use Rattle.plan_tables_queries.proofs.RowLemmas.{none_among}

@@ -17,20 +17,20 @@ use Rattle.occurrences.specs.declared.place.Reason.{Reason}
 use Rattle.occurrences.specs.declared.place.Reason.TheVariants.{Operator, Withdrawn, Plan}
 use Rattle.planner_machine.specs.Content.{Content}
 use Rattle.planner_machine.specs.Sound.{IsSound}
-use Rattle.definition_records.proofs.RisingLemmas.{Contains-map, Contains-map_back}
-use Rattle.table_schema.specs.Rows.{HaveRowids, Tables, shown}
-use Rattle.table_schema.specs.declared.tables.Table.TheVariants as table
-use Rattle.table_lookups.specs.Finding.{natural}
-use Rattle.table_lookups.specs.Looks.{question}
-use Rattle.table_lookups.specs.Question.{asked_for, is_so, passes}
-use Rattle.table_lookups.specs.declared.looks.Look.TheVariants.{DeletedFrom}
-use Rattle.table_facts.specs.Content.{IsContentOf}
-use Rattle.table_facts.specs.Facts.{deletion_values}
-use Rattle.table_facts.proofs.Decoded.{one_deletion}
-use Rattle.table_reading.specs.Cells.{IsNumberedRow}
-use Rattle.table_reading.specs.Rowids.{place_of}
-use Rattle.table_reading.proofs.OrderLemmas.{apart_distinct, distinct_apart, flips}
-use Rattle.table_reading.proofs.RowidLemmas.{distinct_rowids}
+use Rattle.app_definition_records.proofs.RisingLemmas.{Contains-map, Contains-map_back}
+use Rattle.plan_tables_schema.specs.Rows.{HaveRowids, Tables, shown}
+use Rattle.plan_tables_schema.specs.declared.tables.Table.TheVariants as table
+use Rattle.plan_tables_lookups.specs.Finding.{natural}
+use Rattle.plan_tables_lookups.specs.Looks.{question}
+use Rattle.plan_tables_lookups.specs.Question.{asked_for, is_so, passes}
+use Rattle.plan_tables_lookups.specs.declared.looks.Look.TheVariants.{DeletedFrom}
+use Rattle.plan_tables_content.specs.Content.{IsContentOf}
+use Rattle.plan_tables_content.specs.Facts.{deletion_values}
+use Rattle.plan_tables_content.proofs.Decoded.{one_deletion}
+use Rattle.plan_tables_loading.specs.Cells.{IsNumberedRow}
+use Rattle.plan_tables_loading.specs.Rowids.{place_of}
+use Rattle.plan_tables_loading.proofs.OrderLemmas.{apart_distinct, distinct_apart, flips}
+use Rattle.plan_tables_loading.proofs.RowidLemmas.{distinct_rowids}
 use Rattle.plan_tables_queries.specs.Deletions.{AreGoneFrom, IsGoneFrom}
 use Rattle.plan_tables_queries.specs.Telling.{TellsNot}
 use Rattle.plan_tables_queries.specs.declared.faults.LookupFault.{LookupFault}

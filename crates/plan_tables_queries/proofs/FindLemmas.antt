@@ -6,10 +6,10 @@ use Rattle.sqlite.specs.Store.{Ghosts}
 use Rattle.sqlite.specs.declared.error.Error.{Error}
 use Rattle.planner_machine.specs.Content.{Content}
 use Rattle.planner_machine.specs.Sound.{IsSound}
-use Rattle.table_schema.specs.Rows.{Tables, tables_of}
-use Rattle.table_schema.proofs.ResultLemmas.{if_err, if_ok}
-use Rattle.table_facts.specs.Content.{IsContentOf}
-use Rattle.table_lookups.specs.Finding.{Finds}
+use Rattle.plan_tables_schema.specs.Rows.{Tables, tables_of}
+use Rattle.plan_tables_schema.proofs.ResultLemmas.{if_err, if_ok}
+use Rattle.plan_tables_content.specs.Content.{IsContentOf}
+use Rattle.plan_tables_lookups.specs.Finding.{Finds}
 use Rattle.plan_tables_queries.specs.Finding.{FindsFact, StopsFor}
 use Rattle.plan_tables_queries.specs.Telling.{TellsTables}
 use Rattle.plan_tables_queries.specs.declared.faults.LookupFault.{LookupFault}

@@ -6,14 +6,14 @@ use base.Stored.{Coded-set}
 use mathlib.Core.HLevel.{⊥_prop}
 use Rattle.sqlite.specs.Order.{Row as Values}
 use Rattle.sqlite_value.specs.contracts.row.Row as values
-use Rattle.definition_records.proofs.RisingLemmas.{Contains-map, Contains-map_back}
-use Rattle.keyed_lists.specs.Rows.{look_up}
-use Rattle.keyed_lists.proofs.LookLemmas.{look_none, look_some}
+use Rattle.app_definition_records.proofs.RisingLemmas.{Contains-map, Contains-map_back}
+use Rattle.plan_store_lists.specs.Rows.{look_up}
+use Rattle.plan_store_lists.proofs.LookLemmas.{look_none, look_some}
 use Rattle.planner_machine.specs.Content.{Content}
 use Rattle.planner_machine.specs.Sound.{IsSound}
-use Rattle.table_schema.specs.Rows.{Tables, shown}
-use Rattle.table_schema.specs.declared.tables.Table.{Table}
-use Rattle.table_facts.specs.Content.{IsContentOf, IsOfSet, IsTellable, IsUnderOwn}
+use Rattle.plan_tables_schema.specs.Rows.{Tables, shown}
+use Rattle.plan_tables_schema.specs.declared.tables.Table.{Table}
+use Rattle.plan_tables_content.specs.Content.{IsContentOf, IsOfSet, IsTellable, IsUnderOwn}
 
 values_set : IsSet Values
 values_set = Coded-set values.the_row.coded

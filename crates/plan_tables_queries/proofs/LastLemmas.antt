@@ -7,15 +7,15 @@ use Rattle.occurrences.specs.declared.row.Row.{Row}
 use Rattle.planner_machine.specs.Content.{Content}
 use Rattle.planner_machine.specs.Sound.{IsSound}
 use Rattle.plan_store.proofs.PlaceLemmas.{stands_history}
-use Rattle.table_schema.specs.Rows.{Tables, shown}
-use Rattle.table_schema.specs.declared.tables.Table.TheVariants as table
-use Rattle.table_lookups.specs.Last.{Arrives, EachArrives, IsLastBefore, IsLastFound}
-use Rattle.table_facts.specs.Content.{IsContentOf}
-use Rattle.table_facts.specs.Decoded.{nat_in, text_in}
-use Rattle.table_facts.specs.Facts.{row_values}
-use Rattle.table_facts.proofs.Decoded.{one_row}
-use Rattle.table_facts.proofs.Told.{is_some}
-use Rattle.table_reading.specs.Cells.{IsNumberedRow}
+use Rattle.plan_tables_schema.specs.Rows.{Tables, shown}
+use Rattle.plan_tables_schema.specs.declared.tables.Table.TheVariants as table
+use Rattle.plan_tables_lookups.specs.Last.{Arrives, EachArrives, IsLastBefore, IsLastFound}
+use Rattle.plan_tables_content.specs.Content.{IsContentOf}
+use Rattle.plan_tables_content.specs.Decoded.{nat_in, text_in}
+use Rattle.plan_tables_content.specs.Facts.{row_values}
+use Rattle.plan_tables_content.proofs.Decoded.{one_row}
+use Rattle.plan_tables_content.proofs.Told.{is_some}
+use Rattle.plan_tables_loading.specs.Cells.{IsNumberedRow}
 use Rattle.plan_tables_queries.specs.Last.{IsLastRow}
 use Rattle.plan_tables_queries.specs.Telling.{TellsNone}
 use Rattle.plan_tables_queries.specs.declared.faults.LookupFault.{LookupFault}

@@ -18,16 +18,16 @@ use Rattle.occurrences.specs.declared.row.Row.{Row}
 use Rattle.external_dependencies.specs.declared.rows.PlacedRow.{PlacedRow}
 use Rattle.planner_machine.specs.Content.{Content, StandsAt}
 use Rattle.planner_machine.specs.Shown.{IsListed, IsOfApp, IsPlaceOf, Listed}
-use Rattle.definition_records.proofs.RisingLemmas.{Contains-map, Contains-map_back}
-use Rattle.keyed_lists.proofs.KeyLemmas.{contains_first, contains_later}
+use Rattle.app_definition_records.proofs.RisingLemmas.{Contains-map, Contains-map_back}
+use Rattle.plan_store_lists.proofs.KeyLemmas.{contains_first, contains_later}
 use Rattle.plan_store.specs.Listings.{HandsAll, ShowRows, Shown, row_shown}
-use Rattle.table_schema.specs.Rows.{HaveRowids, Tables, shown}
-use Rattle.table_lookups.specs.Question.{Answers, Question, asked_for, order_cmp, passes}
-use Rattle.table_facts.specs.Content.{IsOfSet}
-use Rattle.table_facts.specs.Facts.{natural}
-use Rattle.table_reading.specs.Rowids.{place_of}
-use Rattle.table_reading.proofs.OrderLemmas.{apart_distinct, distinct_apart, flips}
-use Rattle.table_reading.proofs.RowidLemmas.{distinct_rowids, rowid_place}
+use Rattle.plan_tables_schema.specs.Rows.{HaveRowids, Tables, shown}
+use Rattle.plan_tables_lookups.specs.Question.{Answers, Question, asked_for, order_cmp, passes}
+use Rattle.plan_tables_content.specs.Content.{IsOfSet}
+use Rattle.plan_tables_content.specs.Facts.{natural}
+use Rattle.plan_tables_loading.specs.Rowids.{place_of}
+use Rattle.plan_tables_loading.proofs.OrderLemmas.{apart_distinct, distinct_apart, flips}
+use Rattle.plan_tables_loading.proofs.RowidLemmas.{distinct_rowids, rowid_place}
 use Rattle.plan_tables_queries.proofs.RowLemmas.{asked_is, is_asked}
 use Rattle.plan_tables_queries.specs.Listing.{EndsSo, HandsPart}
 use Rattle.plan_tables_queries.specs.ListedRows.{EndsTelling, TellsAll, TellsPart, marked}

@@ -12,13 +12,13 @@ use Rattle.planner_machine.specs.Content.{Content}
 use Rattle.planner_machine.specs.Shown.{Listed}
 use Rattle.planner_machine.specs.Sound.{IsSound}
 use Rattle.plan_store.specs.Listings.{ShowRows, Shown}
-use Rattle.table_schema.specs.Rows.{HaveRowids, StaysOrIsUndone, Tables, shown, tables_of}
-use Rattle.table_schema.specs.Schema.{HasTables}
-use Rattle.table_schema.proofs.ResultLemmas.{if_err, if_ok}
-use Rattle.table_lookups.specs.Looks.{AreAsked, question}
-use Rattle.table_lookups.specs.Question.{Answers}
-use Rattle.table_lookups.specs.declared.looks.Look.{Look}
-use Rattle.table_facts.specs.Content.{IsOfSet}
+use Rattle.plan_tables_schema.specs.Rows.{HaveRowids, StaysOrIsUndone, Tables, shown, tables_of}
+use Rattle.plan_tables_schema.specs.Schema.{HasTables}
+use Rattle.plan_tables_schema.proofs.ResultLemmas.{if_err, if_ok}
+use Rattle.plan_tables_lookups.specs.Looks.{AreAsked, question}
+use Rattle.plan_tables_lookups.specs.Question.{Answers}
+use Rattle.plan_tables_lookups.specs.declared.looks.Look.{Look}
+use Rattle.plan_tables_content.specs.Content.{IsOfSet}
 use Rattle.plan_tables_queries.specs.Listing.{HoldsContent, Lists, StopsFor}
 use Rattle.plan_tables_queries.specs.ListedRows.{TellsAll, TellsPart}
 use Rattle.plan_tables_queries.specs.declared.listing_faults.ListedFault.{ListedFault}

@@ -13,19 +13,19 @@ use Rattle.occurrences.specs.declared.row.Row.{Row}
 use Rattle.planner_machine.specs.Content.{Content}
 use Rattle.planner_machine.specs.Sound.{IsSound}
 use Rattle.planner_machine.specs.declared.job.Job.{Job}
-use Rattle.table_schema.specs.Rows.{Tables, shown}
-use Rattle.table_schema.specs.declared.tables.Table.TheVariants as table
-use Rattle.table_lookups.specs.Finding.{AreAll, Finds, natural}
-use Rattle.table_lookups.specs.Looks.{question}
-use Rattle.table_lookups.specs.Question.{is_so, passes}
-use Rattle.table_lookups.specs.declared.looks.Look.{Look}
-use Rattle.table_lookups.specs.declared.looks.Look.TheVariants.{InDeletions, InHistory, JobOf}
-use Rattle.table_facts.specs.Content.{IsContentOf, IsOfSet, IsSmall, IsTellable, IsUnderOwn, job_values}
-use Rattle.table_facts.specs.Decoded.{nat_in, text_in}
-use Rattle.table_facts.specs.Facts.{deletion_values, row_values}
-use Rattle.table_facts.proofs.AnswerLemmas.{one_answer}
-use Rattle.table_facts.proofs.Decoded.{one_deletion, one_row}
-use Rattle.table_reading.specs.Cells.{IsNumberedRow, IsReadJob}
+use Rattle.plan_tables_schema.specs.Rows.{Tables, shown}
+use Rattle.plan_tables_schema.specs.declared.tables.Table.TheVariants as table
+use Rattle.plan_tables_lookups.specs.Finding.{AreAll, Finds, natural}
+use Rattle.plan_tables_lookups.specs.Looks.{question}
+use Rattle.plan_tables_lookups.specs.Question.{is_so, passes}
+use Rattle.plan_tables_lookups.specs.declared.looks.Look.{Look}
+use Rattle.plan_tables_lookups.specs.declared.looks.Look.TheVariants.{InDeletions, InHistory, JobOf}
+use Rattle.plan_tables_content.specs.Content.{IsContentOf, IsOfSet, IsSmall, IsTellable, IsUnderOwn, job_values}
+use Rattle.plan_tables_content.specs.Decoded.{nat_in, text_in}
+use Rattle.plan_tables_content.specs.Facts.{deletion_values, row_values}
+use Rattle.plan_tables_content.proofs.AnswerLemmas.{one_answer}
+use Rattle.plan_tables_content.proofs.Decoded.{one_deletion, one_row}
+use Rattle.plan_tables_loading.specs.Cells.{IsNumberedRow, IsReadJob}
 use Rattle.plan_tables_queries.specs.Finding.{FindsFact}
 use Rattle.plan_tables_queries.specs.Telling.{TellsFirst, TellsFound, TellsNot}
 use Rattle.plan_tables_queries.specs.declared.faults.LookupFault.{LookupFault}

@@ -12,16 +12,16 @@ use Rattle.sqlite_sql.specs.declared.ops.CompareOp.TheVariants.{Eq}
 use Rattle.occurrences.specs.declared.row.Row.{Row}
 use Rattle.planner_machine.specs.Content.{Content}
 use Rattle.planner_machine.specs.Sound.{IsSound}
-use Rattle.definition_records.proofs.RisingLemmas.{Contains-map, Contains-map_back}
-use Rattle.table_schema.specs.Rows.{Tables}
-use Rattle.table_schema.specs.declared.tables.Table.TheVariants as table
-use Rattle.table_lookups.specs.Looks.{question}
-use Rattle.table_lookups.specs.Question.{asked_for, is_so, passes}
-use Rattle.table_lookups.specs.declared.looks.Look.TheVariants.{HistoryOf}
-use Rattle.table_facts.specs.Content.{IsContentOf}
-use Rattle.table_facts.specs.Facts.{row_values}
-use Rattle.table_facts.proofs.Decoded.{one_row}
-use Rattle.table_reading.specs.Cells.{IsNumberedRow}
+use Rattle.app_definition_records.proofs.RisingLemmas.{Contains-map, Contains-map_back}
+use Rattle.plan_tables_schema.specs.Rows.{Tables}
+use Rattle.plan_tables_schema.specs.declared.tables.Table.TheVariants as table
+use Rattle.plan_tables_lookups.specs.Looks.{question}
+use Rattle.plan_tables_lookups.specs.Question.{asked_for, is_so, passes}
+use Rattle.plan_tables_lookups.specs.declared.looks.Look.TheVariants.{HistoryOf}
+use Rattle.plan_tables_content.specs.Content.{IsContentOf}
+use Rattle.plan_tables_content.specs.Facts.{row_values}
+use Rattle.plan_tables_content.proofs.Decoded.{one_row}
+use Rattle.plan_tables_loading.specs.Cells.{IsNumberedRow}
 use Rattle.plan_tables_queries.specs.OfApp.{AreAllOf}
 use Rattle.plan_tables_queries.specs.Telling.{TellsNot}
 use Rattle.plan_tables_queries.specs.declared.faults.LookupFault.{LookupFault}

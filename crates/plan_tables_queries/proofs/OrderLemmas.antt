@@ -21,8 +21,8 @@ use Rattle.occurrences.specs.declared.key.Key.{Key}
 use Rattle.occurrences.specs.declared.row.Row.{Row}
 use Rattle.occurrences.proofs.KeyLemmas.{key_cmp_total, key_equal, key_ranks}
 use Rattle.occurrences.proofs.OrderLemmas.{answer_means, then_equal}
-use Rattle.keyed_lists.proofs.EditLemmas.{sorted_keyed}
-use Rattle.table_facts.specs.Facts.{natural}
+use Rattle.plan_store_lists.proofs.EditLemmas.{sorted_keyed}
+use Rattle.plan_tables_content.specs.Facts.{natural}
 
 -- ---- by key and serial
 

@@ -3,10 +3,10 @@ use Rattle.std.proofs.Common.{◌≡◌, ◌↔◌, ℕ, true, List, Option, Som
 use Rattle.std.specs.List.Sorted.{IsPermutation}
 use Rattle.std.proofs.lemmas.List.Sorted.{Contains-permutation, IsPermutation-sym}
 use Rattle.sqlite.specs.Order.{Row}
-use Rattle.keyed_lists.proofs.KeyLemmas.{contains_filter, filter_contains}
-use Rattle.table_schema.specs.Rows.{Tables, shown}
-use Rattle.table_lookups.specs.Question.{Question, asked_for, passes}
-use Rattle.table_facts.specs.Content.{IsOfSet}
+use Rattle.plan_store_lists.proofs.KeyLemmas.{contains_filter, filter_contains}
+use Rattle.plan_tables_schema.specs.Rows.{Tables, shown}
+use Rattle.plan_tables_lookups.specs.Question.{Question, asked_for, passes}
+use Rattle.plan_tables_content.specs.Content.{IsOfSet}
 use Rattle.plan_tables_queries.specs.Telling.{HasUntold, TellsNone, TellsNot}
 use Rattle.plan_tables_queries.specs.declared.faults.LookupFault.{LookupFault}
 use Rattle.plan_tables_queries.specs.declared.faults.LookupFault.TheVariants.{Memory, Untold, Store}

@@ -10,7 +10,7 @@ use Rattle.planner_machine.specs.Content.{Content, StandsAt}
 use Rattle.planner_machine.specs.Sound.{IsSound}
 use Rattle.planner_machine.proofs.SeatLemmas.{cases_issued, not_empty}
 use Rattle.plan_store.proofs.PlaceLemmas.{stands_deleted, stands_history}
-use Rattle.table_reading.specs.Cells.{IsNumberedRow}
+use Rattle.plan_tables_loading.specs.Cells.{IsNumberedRow}
 
 small : (n issued : ℕ) → n ≤ issued → issued ≤ GREATEST_SERIAL → n ≤ GREATEST_SERIAL
 small n issued within few = omega arith

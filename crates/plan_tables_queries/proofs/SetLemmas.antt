@@ -25,14 +25,14 @@ use Rattle.planner_machine.specs.Content.{Content, Seat, alone, seat}
 use Rattle.planner_machine.specs.Shown.{InDeletions, InHistory, IsPlaceOf}
 use Rattle.planner_machine.specs.Sound.{IsSound}
 use Rattle.plan_store.proofs.PlaceLemmas.{stands_deleted, stands_history}
-use Rattle.table_facts.specs.Facts.{deletion_values, row_values}
-use Rattle.table_facts.specs.Decoded.{deletion_of, row_of}
-use Rattle.table_facts.proofs.Decoded.{deletion_back as told_back, one_deletion, one_row, row_back}
-use Rattle.table_reading.specs.Cells.{IsNumberedRow}
-use Rattle.table_schema.specs.declared.tables.Table.TheVariants as table
-use Rattle.table_lookups.specs.Looks.{question}
-use Rattle.table_lookups.specs.Question.{is_so}
-use Rattle.table_lookups.specs.declared.looks.Look.TheVariants.{DeletionsListed, DeletionsOf, HistoryListed, HistoryOf}
+use Rattle.plan_tables_content.specs.Facts.{deletion_values, row_values}
+use Rattle.plan_tables_content.specs.Decoded.{deletion_of, row_of}
+use Rattle.plan_tables_content.proofs.Decoded.{deletion_back as told_back, one_deletion, one_row, row_back}
+use Rattle.plan_tables_loading.specs.Cells.{IsNumberedRow}
+use Rattle.plan_tables_schema.specs.declared.tables.Table.TheVariants as table
+use Rattle.plan_tables_lookups.specs.Looks.{question}
+use Rattle.plan_tables_lookups.specs.Question.{is_so}
+use Rattle.plan_tables_lookups.specs.declared.looks.Look.TheVariants.{DeletionsListed, DeletionsOf, HistoryListed, HistoryOf}
 use Rattle.plan_tables_queries.proofs.SerialLemmas.{completed_formed, deleted_formed}
 use Rattle.plan_tables_queries.proofs.TestLemmas.{alone_of, of_alone, so_texts}
 use Rattle.plan_tables_queries.proofs.KnownLemmas.{IsReadSet}

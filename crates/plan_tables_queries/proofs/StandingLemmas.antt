@@ -14,12 +14,12 @@ use Rattle.sqlite_schema.specs.contracts.schema.Table as described
 use Rattle.sqlite_schema.specs.declared.schema.Reference.{Reference}
 use Rattle.sqlite_trees.specs.Props.{IsAscending-prop}
 use Rattle.sqlite_trees.specs.Tree.{IsAscending}
-use Rattle.table_schema.specs.Named.{first_named}
-use Rattle.table_schema.specs.Places.{TableStandsAt, TreesDiffer}
-use Rattle.table_schema.specs.Schema.{HasTables, IsAside, RefersAside, name, table_at, to_run_cycle}
-use Rattle.table_schema.specs.declared.tables.Table.{Table}
-use Rattle.table_schema.specs.declared.tables.Table.TheVariants.{Offset, RunCycle}
-use Rattle.table_schema.proofs.FoundLemmas.{named_there}
+use Rattle.plan_tables_schema.specs.Named.{first_named}
+use Rattle.plan_tables_schema.specs.Places.{TableStandsAt, TreesDiffer}
+use Rattle.plan_tables_schema.specs.Schema.{HasTables, IsAside, RefersAside, name, table_at, to_run_cycle}
+use Rattle.plan_tables_schema.specs.declared.tables.Table.{Table}
+use Rattle.plan_tables_schema.specs.declared.tables.Table.TheVariants.{Offset, RunCycle}
+use Rattle.plan_tables_schema.proofs.FoundLemmas.{named_there}
 
 -- ---- there is one proof at most
 

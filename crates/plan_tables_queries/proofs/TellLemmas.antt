@@ -4,9 +4,9 @@ use Rattle.sqlite.specs.Order.{Row as Values}
 use Rattle.sqlite.specs.declared.error.Error.{Error}
 use Rattle.occurrences.specs.declared.row.Row.{Row}
 use Rattle.plan_store.specs.Listings.{Shown, TakesAll}
-use Rattle.table_lookups.specs.Handing.{HandsAll, HandsPart}
-use Rattle.table_lookups.specs.Handing.{TakesAll as TakesRows}
-use Rattle.table_lookups.specs.declared.handing.HandFault.TheVariants as hand
+use Rattle.plan_tables_lookups.specs.Handing.{HandsAll, HandsPart}
+use Rattle.plan_tables_lookups.specs.Handing.{TakesAll as TakesRows}
+use Rattle.plan_tables_lookups.specs.declared.handing.HandFault.TheVariants as hand
 use Rattle.plan_tables_queries.specs.ListedRows.{EndsTelling, RefusesRow, TakesRow, TellsAll, TellsPart, marked}
 use Rattle.plan_tables_queries.specs.declared.listing_faults.ListedFault.{ListedFault}
 use Rattle.plan_tables_queries.specs.declared.listing_faults.ListedFault.TheVariants.{Memory, Untold, Sink, Store}

@@ -7,8 +7,8 @@ use Rattle.sqlite.specs.declared.types.Value.TheVariants.{Text}
 use Rattle.sqlite_sql.specs.Ops.{binary, from_truth, is_true}
 use Rattle.sqlite_sql.specs.declared.ops.CompareOp.TheVariants.{Eq, Ge}
 use Rattle.sqlite_value.proofs.OrderLemmas.{value_cmp-Int, value_cmp-Text}
-use Rattle.table_lookups.specs.Finding.{natural}
-use Rattle.table_lookups.specs.Question.{is_so}
+use Rattle.plan_tables_lookups.specs.Finding.{natural}
+use Rattle.plan_tables_lookups.specs.Question.{is_so}
 
 decided : (b : Bool) → is_true (from_truth (Some b)) ≡ b
 decided true = refl

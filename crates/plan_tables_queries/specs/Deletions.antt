@@ -4,8 +4,8 @@ use Rattle.std.specs.List.{AllPairs}
 use Rattle.occurrences.specs.declared.place.Deletion.{Deletion}
 use Rattle.occurrences.specs.declared.place.Reason.TheVariants.{Operator}
 use Rattle.planner_machine.specs.Content.{Content}
-use Rattle.table_schema.specs.Rows.{HaveRowids, Tables}
-use Rattle.table_schema.specs.declared.tables.Table.TheVariants as table
+use Rattle.plan_tables_schema.specs.Rows.{HaveRowids, Tables}
+use Rattle.plan_tables_schema.specs.declared.tables.Table.TheVariants as table
 
 -- one by the operator that arrives at the moment or after it
 pub record IsGoneFrom (c : Content) (moment : ℕ) (deletion : Deletion) : Type 0 where

@@ -6,10 +6,10 @@ use Rattle.sqlite.specs.Store.{Ghosts}
 use Rattle.planner_machine.specs.Content.{Content}
 use Rattle.planner_machine.specs.Sound.{IsSound}
 use Rattle.plan_store.specs.Listings.{HandsAll, Shown, TakesAll}
-use Rattle.table_schema.specs.Rows.{HaveRowids, MayFail, StaysOrIsUndone, tables_of}
-use Rattle.table_schema.specs.Schema.{HasTables}
-use Rattle.table_schema.specs.declared.tables.Table.{Table}
-use Rattle.table_facts.specs.Content.{IsContentOf}
+use Rattle.plan_tables_schema.specs.Rows.{HaveRowids, MayFail, StaysOrIsUndone, tables_of}
+use Rattle.plan_tables_schema.specs.Schema.{HasTables}
+use Rattle.plan_tables_schema.specs.declared.tables.Table.{Table}
+use Rattle.plan_tables_content.specs.Content.{IsContentOf}
 use Rattle.plan_tables_queries.specs.declared.listing_faults.ListedFault.{ListedFault}
 use Rattle.plan_tables_queries.specs.declared.listing_faults.ListedFault.TheVariants.{Memory, Untold, Sink, Store}
 

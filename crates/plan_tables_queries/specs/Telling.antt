@@ -7,8 +7,8 @@ use Rattle.sqlite.specs.Order.{Row}
 use Rattle.sqlite.specs.State.{HasCleanDisk, IsUnchanged, Survives}
 use Rattle.sqlite.specs.Store.{Ghosts}
 use Rattle.sqlite.specs.declared.error.Error.{Error}
-use Rattle.table_schema.specs.Rows.{StaysOrIsUndone, Tables, tables_of}
-use Rattle.table_schema.specs.Schema.{HasTables}
+use Rattle.plan_tables_schema.specs.Rows.{StaysOrIsUndone, Tables, tables_of}
+use Rattle.plan_tables_schema.specs.Schema.{HasTables}
 use Rattle.plan_tables_queries.specs.Finding.{StopsFor}
 use Rattle.plan_tables_queries.specs.declared.faults.LookupFault.{LookupFault}
 use Rattle.plan_tables_queries.specs.declared.faults.LookupFault.TheVariants.{Memory, Untold, Store}

@@ -2,16 +2,16 @@
 
 ghost use Rattle.std.specs.Prelude.{◌≡◌, [], ◌∷◌, ◌++◌, map, IfErr, OnOk};
 ghost use Rattle.std.specs.List.Sorted.{IsPermutation};
-ghost use Rattle.table_schema.specs.Rows.{shown};
+ghost use Rattle.plan_tables_schema.specs.Rows.{shown};
 ghost use Rattle.plan_tables_queries.specs.Telling.{HasUntold, TellsNone, TellsTables};
 
 use crate::faults::LookupFault;
 use crate::telling::tell_row;
+use plan_tables_loading::Told;
+use plan_tables_lookups::{HandFault, SinkFault, ValuesSink, hand_all};
+use plan_tables_schema::Table;
 use sqlite::{Alter, Connection, Row};
 use std::alloc::Global;
-use table_lookups::{HandFault, SinkFault, ValuesSink, hand_all};
-use table_reading::Told;
-use table_schema::Table;
 
 /// Keeps what each row encodes that it accepts.
 #[derive(Drop)]

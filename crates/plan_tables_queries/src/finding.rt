@@ -5,11 +5,11 @@ ghost use Rattle.sqlite.specs.Held.{state};
 ghost use Rattle.sqlite.specs.Value.{owned};
 ghost use Rattle.sqlite.specs.Values.{bound_value};
 ghost use Rattle.sqlite.specs.declared.types.Value.TheVariants.{Text};
-ghost use Rattle.keyed_lists.specs.Rows.{of_deletion, of_row};
+ghost use Rattle.plan_store_lists.specs.Rows.{of_deletion, of_row};
 ghost use Rattle.plan_store.specs.Parts.{ListsAll};
-ghost use Rattle.table_lookups.specs.Finding.{AreAll, Finds};
-ghost use Rattle.table_lookups.specs.declared.looks.Look.TheVariants as look;
-ghost use Rattle.table_schema.specs.Rows.{tables_of};
+ghost use Rattle.plan_tables_lookups.specs.Finding.{AreAll, Finds};
+ghost use Rattle.plan_tables_lookups.specs.declared.looks.Look.TheVariants as look;
+ghost use Rattle.plan_tables_schema.specs.Rows.{tables_of};
 ghost use Rattle.plan_tables_queries.specs.Deletions.{AreGoneFrom};
 ghost use Rattle.plan_tables_queries.specs.Finding.{FindsFact};
 ghost use Rattle.plan_tables_queries.specs.Last.{IsLastRow};
@@ -19,16 +19,16 @@ use crate::collecting::tell_all;
 use crate::faults::LookupFault;
 use crate::telling::{tell_each, tell_found, tell_row};
 use occurrences::{Deletion, Row, Serial};
+use plan_tables_content::answer_is_small;
+use plan_tables_lookups::{
+    Look, ask, deletion_of_serial, history_of_serial, job_of_number, last_of,
+    operator_deletions_from,
+};
+use plan_tables_schema::Table;
 use planner_machine::Job;
 use sqlite::types::ValueRef;
 use sqlite::{Alter, Connection, Error, Row as Cells};
 use std::alloc::Global;
-use table_facts::answer_is_small;
-use table_lookups::{
-    Look, ask, deletion_of_serial, history_of_serial, job_of_number, last_of,
-    operator_deletions_from,
-};
-use table_schema::Table;
 use work_calendars::App;
 
 /// The job that is kept under the number, if there is one.

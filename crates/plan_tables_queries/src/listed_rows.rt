@@ -8,10 +8,10 @@ ghost use Rattle.occurrences.specs.Place.{reason_letter};
 ghost use Rattle.occurrences.specs.Status.{status_letter};
 ghost use Rattle.occurrences.specs.declared.row.Row.{Row as RowValue};
 ghost use Rattle.occurrences.specs.declared.status.Status.TheVariants.{C};
-ghost use Rattle.table_lookups.specs.Looks.{AreAsked, question};
-ghost use Rattle.table_lookups.specs.Question.{Answers};
-ghost use Rattle.table_schema.specs.Rows.{StaysOrIsUndone, tables_of};
-ghost use Rattle.table_schema.specs.Schema.{HasTables};
+ghost use Rattle.plan_tables_lookups.specs.Looks.{AreAsked, question};
+ghost use Rattle.plan_tables_lookups.specs.Question.{Answers};
+ghost use Rattle.plan_tables_schema.specs.Rows.{StaysOrIsUndone, tables_of};
+ghost use Rattle.plan_tables_schema.specs.Schema.{HasTables};
 ghost use Rattle.plan_tables_queries.specs.Listing.{StopsFor};
 ghost use Rattle.plan_tables_queries.specs.ListedRows.{RefusesRow, TakesRow, TellsAll, TellsNone, TellsPart};
 ghost use Rattle.plan_tables_queries.specs.ListedRows.{told_by};
@@ -19,12 +19,12 @@ ghost use Rattle.plan_tables_queries.specs.ListedRows.{told_by};
 use crate::listing_faults::ListedFault;
 use occurrences::{Deletion, Row, Status};
 use plan_store::{Item, RowSink};
+use plan_tables_loading::Told;
+use plan_tables_lookups::{HandFault, Look, SinkFault, ValuesSink, hand};
 use sqlite::types::ValueRef;
 use sqlite::{Alter, Connection, Row as Cells};
 use std::alloc::{AllocError, Global};
 use std::marker::PhantomData;
-use table_lookups::{HandFault, Look, SinkFault, ValuesSink, hand};
-use table_reading::Told;
 
 /// What a row encodes, and the letter with which a listing shows it.
 pub(crate) trait Marked: Told {

@@ -6,17 +6,17 @@ ghost use Rattle.sqlite.specs.Values.{bound_value};
 ghost use Rattle.sqlite.specs.declared.types.Value.TheVariants.{Text};
 ghost use Rattle.plan_store.specs.Listings.{IsListing};
 ghost use Rattle.plan_store.specs.declared.listings.What.TheVariants as what;
-ghost use Rattle.table_schema.specs.declared.tables.Table.TheVariants as table;
+ghost use Rattle.plan_tables_schema.specs.declared.tables.Table.TheVariants as table;
 ghost use Rattle.plan_tables_queries.specs.Listing.{Lists};
 
-use crate::listing_faults::ListedFault;
 use crate::listed_rows::tell_rows;
+use crate::listing_faults::ListedFault;
 use occurrences::{Deletion, Row};
 use plan_store::RowSink;
+use plan_tables_lookups::Look;
 use sqlite::types::ValueRef;
 use sqlite::{Alter, Connection};
 use std::alloc::Global;
-use table_lookups::Look;
 use work_calendars::App;
 
 fn name(app: &App) -> ValueRef<'_>

@@ -4,9 +4,9 @@ ghost use Rattle.std.specs.Prelude.{◌≡◌, map, IfErr, IfOk};
 ghost use Rattle.plan_tables_queries.specs.Telling.{TellsFound, TellsNone, TellsNot, told_by};
 
 use crate::faults::LookupFault;
+use plan_tables_loading::Told;
 use sqlite::{Error, Row};
 use std::alloc::{AllocError, Global};
-use table_reading::Told;
 
 // What was decoded of a row, or why nothing was.
 fn told_by<X>(found: Result<Option<X>, AllocError>) -> Result<X, LookupFault>

@@ -8,9 +8,9 @@ use Rattle.std.specs.Ordering.{nat_cmp, ordering_then}
 use Rattle.std.specs.List.{Contains}
 use Rattle.std.proofs.lemmas.List.Elements.{Contains-append_left, Contains-push, Contains-push_cases}
 use Rattle.app_definitions.specs.declared.definitions.Definitions.{Definitions}
-use Rattle.definition_records.specs.ByName.{AreEntriesOf}
-use Rattle.definition_records.specs.declared.predecessors.Predecessor.{Predecessor}
-use Rattle.definition_records.proofs.ByNameLemmas.{entry_is, entry_there}
+use Rattle.app_definition_records.specs.ByName.{AreEntriesOf}
+use Rattle.app_definition_records.specs.declared.predecessors.Predecessor.{Predecessor}
+use Rattle.app_definition_records.proofs.ByNameLemmas.{entry_is, entry_there}
 use Rattle.occurrences.specs.declared.key.Key.{Key}
 use Rattle.occurrences.specs.declared.place.CurrentRow.{CurrentRow}
 use Rattle.occurrences.specs.declared.status.Status.TheVariants.{W}
@@ -19,9 +19,9 @@ use Rattle.external_dependencies.specs.declared.links.Link.{Link}
 use Rattle.external_dependencies.proofs.OrderLemmas.{then_equal}
 use Rattle.planner_machine.specs.Content.{Content}
 use Rattle.planner_machine.specs.declared.content.Bounds.{Bounds}
-use Rattle.keyed_lists.specs.Rows.{AreRows, look_up, of_current}
-use Rattle.keyed_lists.proofs.KeyLemmas.{nothing}
-use Rattle.keyed_lists.proofs.LookLemmas.{look_has, look_some}
+use Rattle.plan_store_lists.specs.Rows.{AreRows, look_up, of_current}
+use Rattle.plan_store_lists.proofs.KeyLemmas.{nothing}
+use Rattle.plan_store_lists.proofs.LookLemmas.{look_has, look_some}
 use Rattle.plan_store.specs.Asked.{AsksKey, AsksPlan, ListsDefined}
 use Rattle.plan_store.specs.Noted.{AskedByOne, AsksEach, AsksEnd, AsksRow, IsAsked, IsDefined}
 use Rattle.plan_store.specs.Views.{current_serial}

@@ -14,8 +14,8 @@ use Rattle.planner_machine.specs.Content.{Content}
 use Rattle.plan_store.specs.Parts.{IsPartOf, Rest, with_deleted, with_rest}
 use Rattle.plan_store.specs.Views.{bars_from, is_by_operator}
 use Rattle.plan_tables_windows.proofs.PartLemmas.{deleted_has, deleted_part, stood_still}
-use Rattle.table_schema.specs.Rows.{Tables, tables_of}
-use Rattle.table_schema.proofs.ResultLemmas.{still_ok}
+use Rattle.plan_tables_schema.specs.Rows.{Tables, tables_of}
+use Rattle.plan_tables_schema.proofs.ResultLemmas.{still_ok}
 use Rattle.plan_tables_queries.specs.Deletions.{AreGoneFrom}
 use Rattle.plan_tables_queries.specs.Finding.{FindsFact}
 use Rattle.plan_tables_queries.specs.declared.faults.LookupFault.{LookupFault}

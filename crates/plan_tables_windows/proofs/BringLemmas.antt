@@ -10,17 +10,17 @@ use Rattle.sqlite.specs.Store.{Ghosts}
 use Rattle.occurrences.specs.declared.place.Deletion.{Deletion}
 use Rattle.occurrences.specs.declared.row.Row.{Row}
 use Rattle.planner_machine.specs.Content.{Content}
-use Rattle.keyed_lists.proofs.LookLemmas.{look_some}
+use Rattle.plan_store_lists.proofs.LookLemmas.{look_some}
 use Rattle.plan_store.specs.Asked.{HasLast, IsNoLater}
 use Rattle.plan_store.specs.Parts.{IsPartOf, Knows, KnowsDeletion, Rest, with_completed, with_deleted}
 use Rattle.plan_tables_windows.specs.Unknown.{HasMore}
 use Rattle.plan_tables_windows.specs.declared.asks.Ask.{Ask}
 use Rattle.plan_tables_windows.proofs.PartLemmas.{completed_has, completed_known, completed_part, deleted_has, deleted_part}
 use Rattle.plan_tables_windows.proofs.PartLemmas.{lacking_deletion_known, lacking_known, stood_still}
-use Rattle.table_schema.specs.Rows.{Tables, shown, tables_of}
-use Rattle.table_schema.specs.declared.tables.Table.TheVariants as table
-use Rattle.table_facts.specs.Decoded.{deletion_of, row_of}
-use Rattle.table_facts.specs.ToldSets.{told_deletions, told_history}
+use Rattle.plan_tables_schema.specs.Rows.{Tables, shown, tables_of}
+use Rattle.plan_tables_schema.specs.declared.tables.Table.TheVariants as table
+use Rattle.plan_tables_content.specs.Decoded.{deletion_of, row_of}
+use Rattle.plan_tables_content.specs.ToldSets.{told_deletions, told_history}
 use Rattle.plan_tables_queries.specs.Finding.{FindsFact}
 use Rattle.plan_tables_queries.specs.Last.{IsLastRow}
 use Rattle.plan_tables_queries.specs.declared.faults.LookupFault.{LookupFault}

@@ -8,8 +8,8 @@ use Rattle.external_dependencies.specs.declared.pairs.Pair.{Pair}
 use Rattle.planner_machine.specs.Content.{Content}
 use Rattle.planner_machine.specs.Moves.{or_else}
 use Rattle.planner_machine.specs.declared.job.Job.{Job}
-use Rattle.keyed_lists.specs.Rows.{look_up, of_current, of_deletion, of_row}
-use Rattle.keyed_lists.proofs.LookLemmas.{look_some}
+use Rattle.plan_store_lists.specs.Rows.{look_up, of_current, of_deletion, of_row}
+use Rattle.plan_store_lists.proofs.LookLemmas.{look_some}
 use Rattle.plan_store.specs.Changes.{Fits, FitsSet, after, moved_set}
 use Rattle.plan_store.specs.Parts.{HasBars, IsPartOf, Knows, Rest, is_planned, rest_of, with_rest}
 use Rattle.plan_store.specs.Room.{no_jobs}

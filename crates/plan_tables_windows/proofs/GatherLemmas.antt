@@ -13,11 +13,11 @@ use Rattle.planner_machine.specs.Sound.{IsSound}
 use Rattle.plan_store.specs.Parts.{IsPartOf, Rest, with_rest}
 use Rattle.plan_tables_windows.specs.Unknown.{HasMore}
 use Rattle.plan_tables_windows.proofs.PartLemmas.{part_is}
-use Rattle.table_schema.specs.Rows.{StaysOrIsUndone, tables_of}
-use Rattle.table_schema.specs.Schema.{HasTables}
-use Rattle.table_schema.proofs.ResultLemmas.{if_err, still_ok}
-use Rattle.table_schema.proofs.StopLemmas.{vain_since}
-use Rattle.table_facts.specs.Content.{IsContentOf}
+use Rattle.plan_tables_schema.specs.Rows.{StaysOrIsUndone, tables_of}
+use Rattle.plan_tables_schema.specs.Schema.{HasTables}
+use Rattle.plan_tables_schema.proofs.ResultLemmas.{if_err, still_ok}
+use Rattle.plan_tables_schema.proofs.StopLemmas.{vain_since}
+use Rattle.plan_tables_content.specs.Content.{IsContentOf}
 use Rattle.plan_tables_queries.specs.Finding.{FindsFact, StopsFor}
 use Rattle.plan_tables_queries.specs.declared.faults.LookupFault.{LookupFault}
 use Rattle.plan_tables_queries.specs.declared.faults.LookupFault.TheVariants.{Memory, Untold, Store}

@@ -12,7 +12,7 @@ use Rattle.external_dependencies.specs.declared.pairs.Pair.{Pair}
 use Rattle.planner_machine.specs.Content.{Content}
 use Rattle.planner_machine.specs.Moves.{has_key, keep}
 use Rattle.planner_machine.specs.Sound.{IsSound}
-use Rattle.keyed_lists.proofs.KeyLemmas.{contains_filter, nothing}
+use Rattle.plan_store_lists.proofs.KeyLemmas.{contains_filter, nothing}
 use Rattle.plan_store.specs.Asked.{AsksKey, AsksPlan, HasLast, HasLasts, IsLastOf, IsNoLater}
 use Rattle.plan_store.specs.Parts.{IsPartOf, Knows, Rest, is_planned, with_rest}
 use Rattle.plan_store.specs.Views.{Shows, ShowsLive, TellsSizes, asked_pairs, asks_completed}

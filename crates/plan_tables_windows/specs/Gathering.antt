@@ -7,10 +7,10 @@ use Rattle.planner_machine.specs.Content.{Content}
 use Rattle.planner_machine.specs.Sound.{IsSound}
 use Rattle.plan_store.specs.Parts.{IsPartOf, Rest, with_rest}
 use Rattle.plan_tables_windows.specs.Unknown.{HasMore}
-use Rattle.table_schema.specs.Rows.{StaysOrIsUndone, Tables, tables_of}
-use Rattle.table_schema.specs.Schema.{HasTables}
-use Rattle.table_facts.specs.Content.{IsContentOf}
-use Rattle.table_facts.specs.ToldSets.{told_deletions, told_history, told_jobs}
+use Rattle.plan_tables_schema.specs.Rows.{StaysOrIsUndone, Tables, tables_of}
+use Rattle.plan_tables_schema.specs.Schema.{HasTables}
+use Rattle.plan_tables_content.specs.Content.{IsContentOf}
+use Rattle.plan_tables_content.specs.ToldSets.{told_deletions, told_history, told_jobs}
 use Rattle.plan_tables_queries.specs.Finding.{StopsFor}
 use Rattle.plan_tables_queries.specs.declared.faults.LookupFault.{LookupFault}
 use Rattle.plan_tables_queries.specs.declared.faults.LookupFault.TheVariants.{Untold}

@@ -6,7 +6,7 @@ use Rattle.occurrences.specs.declared.row.Row.{Row}
 use Rattle.external_dependencies.specs.declared.pairs.Pair.{Pair}
 use Rattle.planner_machine.specs.Content.{Content, Sets}
 use Rattle.planner_machine.specs.Sound.{IsSound}
-use Rattle.keyed_lists.specs.Rows.{of_current, of_deletion, of_row}
+use Rattle.plan_store_lists.specs.Rows.{of_current, of_deletion, of_row}
 use Rattle.plan_store.specs.Parts.{IsPartOf, Knows, KnowsDeletion, Rest, is_planned, with_rest}
 use Rattle.plan_store.specs.declared.changes.Change.{Change}
 

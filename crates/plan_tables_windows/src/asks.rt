@@ -2,7 +2,7 @@
 
 ghost use Rattle.std.specs.Prelude.{[], ◌≡◌, ◌↔◌, ◌+◌, ℕ, Contains, IfOk, List, OnOk};
 ghost use Rattle.std.specs.FinMap.{IsAntisymmetric};
-ghost use Rattle.definition_records.specs.declared.predecessors.Predecessor.{Predecessor as PredecessorValue};
+ghost use Rattle.app_definition_records.specs.declared.predecessors.Predecessor.{Predecessor as PredecessorValue};
 ghost use Rattle.external_dependencies.specs.Link.{Lists};
 ghost use Rattle.external_dependencies.specs.declared.links.Link.{Link as LinkValue};
 ghost use Rattle.plan_tables_windows.specs.Asks.{AddsAsks, AreDistinct, IsAskedIn};

@@ -4,9 +4,9 @@ ghost use Rattle.plan_store.specs.Contents.{content_of};
 ghost use Rattle.plan_store.specs.Parts.{with_completed, with_deleted};
 ghost use Rattle.plan_tables_windows.specs.Bringing.{Brings, BringsEach};
 
-use plan_tables_queries::LookupFault;
 use occurrences::{Deletion, Row};
 use plan_store::Content;
+use plan_tables_queries::LookupFault;
 use std::alloc::{AllocError, Global};
 
 /// Loads a row of history into the lists, unless they have one of its serial.

@@ -7,9 +7,9 @@ ghost use Rattle.plan_tables_windows.specs.Bringing.{HasGoneFrom};
 ghost use Rattle.plan_tables_windows.specs.Gathering.{Gathers};
 
 use crate::bringing::{bring_deletion, bring_deletions, bring_row};
-use plan_tables_queries::{LookupFault, completed_row, deleted_row, deletions_from};
 use occurrences::Serial;
 use plan_store::Content;
+use plan_tables_queries::{LookupFault, completed_row, deleted_row, deletions_from};
 use sqlite::{Alter, Connection};
 use std::alloc::Global;
 use work_calendars::Moment;

@@ -9,9 +9,9 @@ ghost use Rattle.plan_tables_windows.specs.Bringing.{IsAnswered};
 ghost use Rattle.plan_tables_windows.specs.Gathering.{Gathers};
 
 use crate::bringing::bring_row;
-use plan_tables_queries::{LookupFault, last_completed};
 use crate::{Ask, asks_of};
 use plan_store::{Content, Need};
+use plan_tables_queries::{LookupFault, last_completed};
 use sqlite::{Alter, Connection};
 use std::alloc::{AllocError, Global};
 

@@ -11,10 +11,10 @@ ghost use Rattle.plan_tables_windows.specs.Gathering.{Gathers};
 
 use crate::gathering::{find_barring, find_each_completed, find_each_deleted};
 use crate::lasts::find_asked;
-use plan_tables_queries::LookupFault;
-use occurrences::Key;
 use crate::{Unknown, unknown_for_key, unknown_of};
+use occurrences::Key;
 use plan_store::{Change, Content, Need};
+use plan_tables_queries::LookupFault;
 use planner_machine::Bounds;
 use sqlite::{Alter, Connection};
 use std::alloc::{AllocError, Global};

@@ -1,7 +1,7 @@
 // What has to be loaded of history and of the deletions, as serials.
 
 ghost use Rattle.std.specs.Prelude.{[], ◌≡◌, ℕ, Contains, IfOk, OnOk, false};
-ghost use Rattle.keyed_lists.specs.Rows.{of_deletion, of_row};
+ghost use Rattle.plan_store_lists.specs.Rows.{of_deletion, of_row};
 ghost use Rattle.plan_tables_windows.specs.Changes.{KnowsNamed};
 ghost use Rattle.plan_tables_windows.specs.Unknown.{AddsUnsettled, FindsOut, IsNamed, IsNamedDeletion, IsPredecessorIn};
 ghost use Rattle.plan_tables_windows.specs.Unknown.{IsPredecessorOf, IsPredecessorOfKey, IsPredecessorOfNew};
@@ -13,9 +13,9 @@ ghost use Rattle.plan_store.specs.Contents.{content_of};
 ghost use Rattle.plan_store.specs.Parts.{HasBars};
 
 use external_dependencies::Pair;
-use keyed_lists::PlanRow;
 use occurrences::{Deletion, Key, Row, Serial};
 use plan_store::{Change, Content};
+use plan_store_lists::PlanRow;
 use std::alloc::{AllocError, Global};
 
 /// What has to be loaded before a change, by serial: what is under each, or that nothing is.

@@ -14,7 +14,7 @@ use Rattle.planner_machine.specs.Statement.{Act, Add, AddCurrent, Change as Mach
 use Rattle.planner_machine.specs.Statement.{DailyExtendBy, Define, Delete, Extend, ModifyAll, ModifyOne, Replan}
 use Rattle.planner_machine.specs.Statement.{Undefine, decision_of}
 use Rattle.planner_machine.specs.declared.job.Job.{Job}
-use Rattle.keyed_lists.specs.Rows.{HasEachOnce, of_current, of_deletion, of_row}
+use Rattle.plan_store_lists.specs.Rows.{HasEachOnce, of_current, of_deletion, of_row}
 use Rattle.plan_store.specs.Changes.{ChangesNothing, Fits, FitsSet, LeadsOn, MovesNothing, after, jobs_after}
 use Rattle.plan_store.specs.Changes.{moved_set, pairs_after, redefined}
 use Rattle.plan_store.proofs.PairLemmas.{leads_nowhere}

@@ -2,7 +2,7 @@
 use Rattle.std.proofs.Common.{◌≡◌, ℕ, List, sym, subst}
 use Rattle.app_occurrences.specs.Active.{IsActive, cycles_of}
 use Rattle.app_occurrences.specs.NamedOccurrences.{ListsNamed, work_of}
-use Rattle.definition_records.specs.declared.applications.Application.{Application}
+use Rattle.app_definition_records.specs.declared.applications.Application.{Application}
 use Rattle.app_definitions.specs.declared.definitions.Definitions.{Definitions}
 use Rattle.run_cycles.specs.Occurrence.{IsOccurrence}
 use Rattle.run_cycles.specs.declared.named.Named.{Named}

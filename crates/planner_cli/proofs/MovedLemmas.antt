@@ -4,10 +4,10 @@ use Rattle.std.specs.List.{Contains}
 use Rattle.std.specs.Prelude.{is_some, if◌then◌else◌}
 use Rattle.occurrences.specs.declared.row.Row.{Row}
 use Rattle.planner_machine.specs.Moves.{or_else}
-use Rattle.keyed_lists.specs.Rows.{HasEachOnce, OneEach, look_up}
+use Rattle.plan_store_lists.specs.Rows.{HasEachOnce, OneEach, look_up}
 use Rattle.plan_store.specs.Changes.{FitsSet, moved_set}
 use Rattle.plan_store.specs.declared.changes.Moves.{Moves}
-use Rattle.keyed_lists.proofs.LookLemmas.{look_has, look_lacks, look_none, look_some}
+use Rattle.plan_store_lists.proofs.LookLemmas.{look_has, look_lacks, look_none, look_some}
 use Rattle.planner_cli.proofs.ShownLists.{one_each}
 
 some_none : {X : Type 0} (o : Option X) (x : X) → o ≡ Some x → o ≡ None → ⊥

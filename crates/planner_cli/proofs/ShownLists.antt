@@ -16,8 +16,8 @@ use Rattle.std.proofs.lemmas.List.Sorted.{IsPermutation-sym}
 use Rattle.occurrences.specs.Row.{RowBefore, row_cmp}
 use Rattle.occurrences.specs.declared.row.Row.{Row}
 use Rattle.occurrences.proofs.RowLemmas.{row_cmp_total, row_equal, row_ranks}
-use Rattle.keyed_lists.proofs.EditLemmas.{sorted_keyed}
-use Rattle.keyed_lists.proofs.KeyLemmas.{contains_cases, contains_first, contains_later, nothing}
+use Rattle.plan_store_lists.proofs.EditLemmas.{sorted_keyed}
+use Rattle.plan_store_lists.proofs.KeyLemmas.{contains_cases, contains_first, contains_later, nothing}
 use Rattle.plan_listings.specs.Line.{AreLinesOf, ended}
 use Rattle.plan_listings.specs.Report.{IsReport, IsSignedText}
 use Rattle.plan_listings.specs.declared.report.Signed.{Signed}

@@ -23,7 +23,7 @@ use Rattle.planner_machine.specs.Shown.{WouldBeCarried, WouldBeDeleted, WouldBeH
 use Rattle.planner_machine.specs.Shown.{WouldBeWithdrawn}
 use Rattle.planner_machine.specs.Sound.{AreNumbered}
 use Rattle.planner_machine.proofs.SeatLemmas.{cases_issued, one_place}
-use Rattle.keyed_lists.proofs.KeyLemmas.{contains_filter, filter_contains}
+use Rattle.plan_store_lists.proofs.KeyLemmas.{contains_filter, filter_contains}
 use Rattle.plan_store.proofs.PlaceLemmas.{stands_cp, stands_ltp}
 use Rattle.planner_cli.specs.Trials.{carried_part, completed, daily_changes, deleted, deleted_part, history_part}
 use Rattle.planner_cli.specs.Trials.{plan_changes}

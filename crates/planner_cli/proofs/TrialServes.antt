@@ -25,7 +25,7 @@ use Rattle.planner_machine.specs.Sound.{AreNumbered, IsSound}
 use Rattle.planner_machine.specs.Statement.{Change as MachineChange, Trial, decision_of, fate_of, replan_fate}
 use Rattle.planner_machine.specs.declared.content.Bounds.{Bounds}
 use Rattle.planner_machine.proofs.NewEndLemmas.{one_end}
-use Rattle.keyed_lists.specs.Rows.{of_current, of_row}
+use Rattle.plan_store_lists.specs.Rows.{of_current, of_row}
 use Rattle.plan_listings.specs.Line.{ended as line_ended}
 use Rattle.plan_listings.specs.Report.{IsReport, daily_sign, daily_signs, plan_signs}
 use Rattle.plan_listings.specs.declared.report.Signed.{Signed}

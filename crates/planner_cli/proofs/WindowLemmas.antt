@@ -1,7 +1,7 @@
 -- The rows of the current plan in the window of a daily plan.
 use Rattle.std.proofs.Common.{◌≡◌, ◌∙◌, ℕ, List, Option, None, Some, ap}
 use Rattle.occurrences.specs.declared.place.CurrentRow.{CurrentRow}
-use Rattle.keyed_lists.specs.Rows.{of_current}
+use Rattle.plan_store_lists.specs.Rows.{of_current}
 use Rattle.planner_machine.specs.Content.{Content}
 use Rattle.planner_machine.specs.Statement.{decision_of}
 use Rattle.plan_store.specs.Verdicts.{VerdictIs}

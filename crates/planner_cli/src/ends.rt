@@ -9,8 +9,8 @@ ghost use Rattle.planner_cli.specs.Verdicts.{IsEnd};
 
 use crate::kinds::count_of;
 use plan_store::{Need, PlanStore, StoreFault, View};
-use planner_machine::Bounds;
 use planner_cli_stream::DailyFunction;
+use planner_machine::Bounds;
 use std::alloc::{AllocError, Global};
 use work_calendars::Moment;
 

@@ -4,8 +4,8 @@ ghost use Rattle.planner_cli.specs.Faults.{cause_of, read_cause, store_cause, ta
 
 use crate::tally::Tally;
 use plan_store::StoreFault;
-use std::fmt;
 use planner_cli_stream::ReadFault;
+use std::fmt;
 use thiserror::Error;
 
 /// What a device fault blames.

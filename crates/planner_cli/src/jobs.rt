@@ -20,8 +20,8 @@ use crate::early::find_refusal;
 use crate::ends::find_end;
 use occurrences::{Refusal, Reply};
 use plan_store::{Change, PlanStore, StoreFault, Verdict};
-use planner_machine::{Answer, Job, JobText, streams};
 use planner_cli_stream::{ChangeStatement, PlanFunction};
+use planner_machine::{Answer, Job, JobText, streams};
 use std::alloc::Global;
 use work_calendars::Moment;
 

@@ -4,8 +4,8 @@ ghost use Rattle.planner_cli.specs.Kinds.{count_of, definitions_kind, what_of};
 
 use app_definitions::Kind;
 use plan_store::What;
-use planner_machine::Count;
 use planner_cli_stream::{CountWord, KindWord, WhatWord};
+use planner_machine::Count;
 
 /// The kind of definitions that a statement's word names.
 pub fn definitions_kind(word: KindWord) -> Kind

@@ -3,11 +3,11 @@ ghost use Rattle.planner_cli.specs.FreshRuns.{CrashLeavesFresh, FaultLeavesFresh
 ghost use Rattle.planner_cli.specs.FreshRuns.{ItemsLeaveFresh, RunLeavesFresh};
 ghost use Rattle.planner_cli.specs.Reruns.{RerunAfterRuns, RerunEndsAsOneRun};
 
+use planner_cli_stream::one_statement_per_line;
 use planner_machine::{
     fresh_plans as machine_fresh_plans, reruns as machine_reruns, sound_content_stays_sound,
     streams,
 };
-use planner_cli_stream::one_statement_per_line;
 
 /// Law: a stream that is run again from its start, on what its first statements left, ends as one uninterrupted run.
 /// There is such a run from the first content; it leaves the same content, and each statement with a job number gets

@@ -21,11 +21,9 @@ use crate::well_formed::change_is_well_formed;
 use app_definitions::{BlockFault, Kind, read_block};
 use occurrences::Refusal;
 use plan_store::{PlanStore, StoreFault};
+use planner_cli_stream::{Block, ChangeStatement, Statement, joined_words, read_statement};
 use planner_machine::JobText;
-use planner_cli_stream::joined_words;
-use planner_cli_stream::{ChangeStatement, Statement, read_statement};
 use std::alloc::Global;
-use planner_cli_stream::Block;
 
 /// Replies to a change without data. The reply is made before anything is changed; if memory for it is refused,
 /// nothing changes.

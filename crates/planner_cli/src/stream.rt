@@ -26,11 +26,10 @@ use crate::trials::{answer_daily_trial, answer_plan_trial};
 use crate::writing::{write_answer, write_bytes};
 use app_occurrences::CalendarIndexes;
 use plan_store::PlanStore;
+use planner_cli_stream::{Block, Item, Page, Statement, read_statement};
 use planner_machine::streams;
-use planner_cli_stream::{Statement, read_statement};
 use std::alloc::Global;
 use std::io::{BufRead, Write};
-use planner_cli_stream::{Block, Item, Page};
 
 /// Processes the items of a stream in order: each is a step of the planner on the content of the store, and its reply
 /// is printed. It ends with the stream or at the first fault. A fault of memory, of the store or of the reader writes

@@ -6,7 +6,7 @@ ghost use Rattle.planner_machine.specs.Sound.{IsSound};
 ghost use Rattle.planner_machine.specs.Laws.{IsWellFormed};
 ghost use Rattle.planner_machine.specs.Statement.{Trial, decision_of};
 ghost use Rattle.plan_listings.specs.Report.{IsReport};
-ghost use Rattle.keyed_lists.specs.Rows.{of_current};
+ghost use Rattle.plan_store_lists.specs.Rows.{of_current};
 ghost use Rattle.plan_store.specs.Verdicts.{VerdictIs};
 ghost use Rattle.plan_store.specs.Views.{IsAny, ListsSet, Shows};
 ghost use Rattle.plan_store.specs.declared.stores.Need.TheVariants.{LongTerm};
@@ -30,8 +30,8 @@ use daily_planning::daily_need;
 use occurrences::{CurrentRow, Refusal, Row, Status};
 use plan_listings::{dp_report, ltp_report};
 use plan_store::{Need, PlanStore, StoreFault, Verdict, View};
-use planner_machine::{fate_is_followed, sound_content_stays_sound};
 use planner_cli_stream::{DailyFunction, PlanFunction};
+use planner_machine::{fate_is_followed, sound_content_stays_sound};
 use std::alloc::{AllocError, Global};
 use work_calendars::Moment;
 

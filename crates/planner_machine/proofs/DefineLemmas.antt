@@ -7,26 +7,26 @@ use Rattle.std.specs.FinMap as map
 use Rattle.std.specs.Option.{option_or}
 use Rattle.std.specs.Ordering.{nat_cmp}
 use Rattle.work_calendars.specs.Name.{IsName}
-use Rattle.definition_records.proofs.ByNameLemmas.{get-overlaid, get-removed}
+use Rattle.app_definition_records.proofs.ByNameLemmas.{get-overlaid, get-removed}
 use Rattle.app_definitions.proofs.OptionLemmas.{IsName-default}
-use Rattle.definition_records.specs.Applications.{FitsApplication, IsApplicationOf}
+use Rattle.app_definition_records.specs.Applications.{FitsApplication, IsApplicationOf}
 use Rattle.app_definitions.specs.Blocks.{ReadsAs}
-use Rattle.definition_records.specs.ByName.{AreGivenBy, FitsKind, IsDefinedBy, overlaid, records_of}
-use Rattle.definition_records.specs.Calendars.{FitsCalendar, IsCalendarOf}
-use Rattle.definition_records.specs.CycleRecords.{AreRunCyclesOf, FitsRunCycle}
+use Rattle.app_definition_records.specs.ByName.{AreGivenBy, FitsKind, IsDefinedBy, overlaid, records_of}
+use Rattle.app_definition_records.specs.Calendars.{FitsCalendar, IsCalendarOf}
+use Rattle.app_definition_records.specs.CycleRecords.{AreRunCyclesOf, FitsRunCycle}
 use Rattle.app_definitions.specs.Definitions.{merged, without}
 use Rattle.app_definitions.specs.Options.{GivesCalendar}
-use Rattle.definition_records.specs.Periods.{FitsPeriod, IsPeriodOf}
-use Rattle.definition_records.specs.Predecessors.{ArePredecessorsOf, FitsPredecessors}
-use Rattle.definition_records.specs.Records.{AllGood, block_records, Record, Records}
+use Rattle.app_definition_records.specs.Periods.{FitsPeriod, IsPeriodOf}
+use Rattle.app_definition_records.specs.Predecessors.{ArePredecessorsOf, FitsPredecessors}
+use Rattle.app_definition_records.specs.Records.{AllGood, block_records, Record, Records}
 use Rattle.app_definitions.specs.declared.definitions.Definitions.{Definitions}
 use Rattle.app_definitions.specs.declared.kinds.Block.{Block}
 use Rattle.app_definitions.specs.declared.kinds.Kind.{Kind}
 use Rattle.app_definitions.specs.declared.kinds.Kind.TheVariants as kind
 use Rattle.planner_machine.specs.Content.{Content}
 use Rattle.planner_machine.specs.Sound.{AreDefinable, AreDefinitions, IsSound}
-use Rattle.definition_records.specs.FieldCounts.{HasApplicationFields, HasCalendarFields, HasCycleFields}
-use Rattle.definition_records.specs.FieldCounts.{HasPeriodFields, HasPredecessorFields}
+use Rattle.app_definition_records.specs.FieldCounts.{HasApplicationFields, HasCalendarFields, HasCycleFields}
+use Rattle.app_definition_records.specs.FieldCounts.{HasPeriodFields, HasPredecessorFields}
 
 module _ {D : Type 0} (HasFields : ℕ → Type 0) (Fits : Records → Record → Type 0) (IsMadeOf : D
     → Records → Type 0) where

@@ -6,19 +6,19 @@ use Rattle.std.specs.FinMap as map
 use Rattle.std.specs.FinMap.{get-empty}
 use Rattle.std.specs.Ordering.{nat_cmp}
 use Rattle.app_definitions.proofs.OptionLemmas.{IsName-default}
-use Rattle.definition_records.specs.Applications.{FitsApplication, IsApplicationOf}
-use Rattle.definition_records.specs.ByName.{IsDefinedBy}
-use Rattle.definition_records.specs.Calendars.{FitsCalendar, IsCalendarOf}
-use Rattle.definition_records.specs.CycleRecords.{AreRunCyclesOf, FitsRunCycle}
-use Rattle.definition_records.specs.Periods.{FitsPeriod, IsPeriodOf}
-use Rattle.definition_records.specs.Predecessors.{ArePredecessorsOf, FitsPredecessors}
+use Rattle.app_definition_records.specs.Applications.{FitsApplication, IsApplicationOf}
+use Rattle.app_definition_records.specs.ByName.{IsDefinedBy}
+use Rattle.app_definition_records.specs.Calendars.{FitsCalendar, IsCalendarOf}
+use Rattle.app_definition_records.specs.CycleRecords.{AreRunCyclesOf, FitsRunCycle}
+use Rattle.app_definition_records.specs.Periods.{FitsPeriod, IsPeriodOf}
+use Rattle.app_definition_records.specs.Predecessors.{ArePredecessorsOf, FitsPredecessors}
 use Rattle.external_dependencies.specs.declared.rows.PlacedRow.{PlacedRow}
 use Rattle.planner_machine.specs.Content.{StandsAt, nothing_known}
 use Rattle.planner_machine.specs.Sound.{AreDefinable, IsSound}
 use Rattle.planner_machine.proofs.SeatLemmas.{not_empty}
-use Rattle.definition_records.specs.Records.{Record, Records}
-use Rattle.definition_records.specs.FieldCounts.{HasApplicationFields, HasCalendarFields, HasCycleFields}
-use Rattle.definition_records.specs.FieldCounts.{HasPeriodFields, HasPredecessorFields}
+use Rattle.app_definition_records.specs.Records.{Record, Records}
+use Rattle.app_definition_records.specs.FieldCounts.{HasApplicationFields, HasCalendarFields, HasCycleFields}
+use Rattle.app_definition_records.specs.FieldCounts.{HasPeriodFields, HasPredecessorFields}
 
 nowhere : (serial : ℕ) (p : PlacedRow) → StandsAt nothing_known.sets serial p → ⊥
 nowhere serial p there = not_empty nothing_known.sets serial p there refl

@@ -5,7 +5,7 @@ use Rattle.std.specs.Prelude.{Contains, nat_eq, if◌then◌else◌}
 use Rattle.std.specs.FinMap as map
 use Rattle.std.proofs.lemmas.Bool.{eqb-true}
 use Rattle.work_calendars.specs.Name.{IsName}
-use Rattle.definition_records.specs.Applications.{FitsApplication, IsApplicationOf}
+use Rattle.app_definition_records.specs.Applications.{FitsApplication, IsApplicationOf}
 use Rattle.occurrences.specs.Serial.{IsSerial}
 use Rattle.external_dependencies.specs.declared.links.Link.{Link}
 use Rattle.external_dependencies.specs.declared.live.Arrival.{Arrival}
@@ -22,7 +22,7 @@ use Rattle.planner_machine.specs.Sound.{IsJob, IsLink, IsShown, IsSound}
 use Rattle.planner_machine.proofs.LoopLemmas.{on_loop_listed}
 use Rattle.planner_machine.proofs.RangeLemmas.{defined_name}
 use Rattle.planner_machine.proofs.SeatLemmas.{cases_issued, not_empty}
-use Rattle.definition_records.specs.FieldCounts.{HasApplicationFields}
+use Rattle.app_definition_records.specs.FieldCounts.{HasApplicationFields}
 
 -- a set has no more of the first n serials than n
 bit_small : {X : Type 0} (o : Option X) → bit o ≤ 1

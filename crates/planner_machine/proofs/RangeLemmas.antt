@@ -17,15 +17,15 @@ use Rattle.run_cycles.specs.declared.cycles.CycleType.{CycleType}
 use Rattle.run_cycles.specs.declared.cycles.CycleType.TheVariants.{Negative, Normal}
 use Rattle.run_cycles.specs.declared.cycles.Deadline.{Deadline}
 use Rattle.run_cycles.specs.declared.cycles.RunCycle.{RunCycle}
-use Rattle.definition_records.proofs.ByNameLemmas.{same_name}
-use Rattle.definition_records.specs.Applications.{FitsApplication, IsApplicationOf}
-use Rattle.definition_records.specs.ByName.{FitsKind, IsDefinedBy, records_of}
-use Rattle.definition_records.specs.CycleRecords.{AreRunCyclesOf, FitsRunCycle, SpellsType, SpellsRunCycle}
-use Rattle.definition_records.specs.Fields.{IsEmptyOr, field}
-use Rattle.definition_records.specs.Predecessors.{ArePredecessorsOf, FitsPredecessors, IsWithinText}
-use Rattle.definition_records.specs.Predecessors.{predecessor_of, predecessors_of, within_of}
-use Rattle.definition_records.specs.declared.predecessors.Predecessor.{Predecessor}
-use Rattle.definition_records.specs.Records.{AllGood, Record, Records}
+use Rattle.app_definition_records.proofs.ByNameLemmas.{same_name}
+use Rattle.app_definition_records.specs.Applications.{FitsApplication, IsApplicationOf}
+use Rattle.app_definition_records.specs.ByName.{FitsKind, IsDefinedBy, records_of}
+use Rattle.app_definition_records.specs.CycleRecords.{AreRunCyclesOf, FitsRunCycle, SpellsType, SpellsRunCycle}
+use Rattle.app_definition_records.specs.Fields.{IsEmptyOr, field}
+use Rattle.app_definition_records.specs.Predecessors.{ArePredecessorsOf, FitsPredecessors, IsWithinText}
+use Rattle.app_definition_records.specs.Predecessors.{predecessor_of, predecessors_of, within_of}
+use Rattle.app_definition_records.specs.declared.predecessors.Predecessor.{Predecessor}
+use Rattle.app_definition_records.specs.Records.{AllGood, Record, Records}
 use Rattle.app_definitions.specs.declared.definitions.Definitions.{Definitions}
 use Rattle.external_dependencies.specs.declared.links.Link.{Link}
 use Rattle.planner_machine.specs.declared.content.Draft.{Draft}
@@ -33,9 +33,9 @@ use Rattle.planner_machine.specs.Drafts.{NamesDraft, draft_of}
 use Rattle.planner_machine.specs.InForce.{IsDefinedLink}
 use Rattle.planner_machine.specs.Moves.{numbered_row}
 use Rattle.planner_machine.specs.Sound.{AreDefinable, AreDefinitions, IsLink, IsOrigin, IsRow}
-use Rattle.definition_records.specs.declared.columns.TheConstants.{NAME, PREDECESSOR_WITHIN, CYCLE_TYPE, CYCLE_DEADLINE_DAY}
-use Rattle.definition_records.specs.FieldCounts.{HasApplicationFields, HasCycleFields, HasPredecessorFields}
-use Rattle.definition_records.specs.declared.columns.TheConstants.{CYCLE_DEADLINE_TIME}
+use Rattle.app_definition_records.specs.declared.columns.TheConstants.{NAME, PREDECESSOR_WITHIN, CYCLE_TYPE, CYCLE_DEADLINE_DAY}
+use Rattle.app_definition_records.specs.FieldCounts.{HasApplicationFields, HasCycleFields, HasPredecessorFields}
+use Rattle.app_definition_records.specs.declared.columns.TheConstants.{CYCLE_DEADLINE_TIME}
 use Rattle.planner_machine.specs.Content.{midnight}
 
 -- a record among good ones is good after some

@@ -4,8 +4,8 @@ use Rattle.std.proofs.Common.{inr, arith, Option, None, Some}
 use Rattle.std.specs.Prelude.{Bool, Contains, if◌then◌else◌, nat_lt}
 use Rattle.std.specs.FinMap as map
 use Rattle.work_calendars.specs.Day.{last_kept_day, first_day}
-use Rattle.definition_records.specs.Applications.{FitsApplication, IsApplicationOf}
-use Rattle.definition_records.specs.declared.applications.Application.{Application}
+use Rattle.app_definition_records.specs.Applications.{FitsApplication, IsApplicationOf}
+use Rattle.app_definition_records.specs.declared.applications.Application.{Application}
 use Rattle.app_definitions.specs.declared.definitions.Definitions.{Definitions}
 use Rattle.occurrences.specs.Key.{key_eq}
 use Rattle.occurrences.specs.Place.{IsLive, IsOpen}
@@ -34,7 +34,7 @@ use Rattle.planner_machine.proofs.LoopLemmas.{no_loop_from}
 use Rattle.planner_machine.proofs.PlannedLemmas.{within_sizes}
 use Rattle.planner_machine.proofs.RangeLemmas.{DraftRanges, defined_name, is_moment, link_names, named_ranges}
 use Rattle.planner_machine.proofs.SeatLemmas.{not_empty}
-use Rattle.definition_records.specs.FieldCounts.{HasApplicationFields}
+use Rattle.app_definition_records.specs.FieldCounts.{HasApplicationFields}
 
 -- what the statements on the plans share
 

@@ -8,7 +8,7 @@ use Rattle.run_cycles.specs.declared.named.Named.{Named}
 use Rattle.run_cycles.specs.Occurrence.{IsOccurrence}
 use Rattle.app_occurrences.specs.Active.{IsActive, cycles_of}
 use Rattle.app_occurrences.specs.NamedOccurrences.{work_of}
-use Rattle.definition_records.specs.declared.applications.Application.{Application}
+use Rattle.app_definition_records.specs.declared.applications.Application.{Application}
 use Rattle.app_definitions.specs.declared.definitions.Definitions.{Definitions}
 use Rattle.occurrences.specs.Key.{KeyBefore}
 use Rattle.occurrences.specs.declared.key.Key.{Key}

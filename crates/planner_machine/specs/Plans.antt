@@ -1,6 +1,6 @@
 -- What the statements on the plans have in common.
 use Rattle.std.specs.Prelude.{◌≡◌, ◌⊎◌, ℕ, ◌+◌, ◌<◌, List, Some}
-use Rattle.definition_records.specs.declared.applications.Application.{Application}
+use Rattle.app_definition_records.specs.declared.applications.Application.{Application}
 use Rattle.app_definitions.specs.declared.definitions.Definitions.{Definitions}
 use Rattle.occurrences.specs.declared.reply.Reply.{Reply}
 use Rattle.occurrences.specs.declared.serial.TheConstants.{GREATEST_SERIAL}

@@ -6,13 +6,13 @@ use Rattle.work_calendars.specs.Day.{IsDay, last_kept_day}
 use Rattle.work_calendars.specs.Moment.{IsMoment}
 use Rattle.work_calendars.specs.Name.{IsName, IsShort}
 use Rattle.work_calendars.specs.Within.{IsWithinHours}
-use Rattle.definition_records.specs.Applications.{FitsApplication, IsApplicationOf}
-use Rattle.definition_records.specs.ByName.{FitsKind, IsDefinedBy, records_of}
-use Rattle.definition_records.specs.Calendars.{FitsCalendar, IsCalendarOf}
-use Rattle.definition_records.specs.CycleRecords.{FitsRunCycle, AreRunCyclesOf}
-use Rattle.definition_records.specs.Periods.{FitsPeriod, IsPeriodOf}
-use Rattle.definition_records.specs.Predecessors.{FitsPredecessors, ArePredecessorsOf}
-use Rattle.definition_records.specs.Records.{AllGood, Record, Records}
+use Rattle.app_definition_records.specs.Applications.{FitsApplication, IsApplicationOf}
+use Rattle.app_definition_records.specs.ByName.{FitsKind, IsDefinedBy, records_of}
+use Rattle.app_definition_records.specs.Calendars.{FitsCalendar, IsCalendarOf}
+use Rattle.app_definition_records.specs.CycleRecords.{FitsRunCycle, AreRunCyclesOf}
+use Rattle.app_definition_records.specs.Periods.{FitsPeriod, IsPeriodOf}
+use Rattle.app_definition_records.specs.Predecessors.{FitsPredecessors, ArePredecessorsOf}
+use Rattle.app_definition_records.specs.Records.{AllGood, Record, Records}
 use Rattle.app_definitions.specs.declared.definitions.Definitions.{Definitions}
 use Rattle.occurrences.specs.Place.{IsLive}
 use Rattle.occurrences.specs.Refusal.{refusal_number}
@@ -41,8 +41,8 @@ use Rattle.planner_machine.specs.Content.{Content, Sets, StandsAt, empty_seat, m
 use Rattle.planner_machine.specs.Fate.{IsGenerated}
 use Rattle.planner_machine.specs.Pairs.{ArePairs, IsClosedAt, IsClosedPair, IsCompleteAt}
 use Rattle.planner_machine.specs.Plans.{planned}
-use Rattle.definition_records.specs.FieldCounts.{HasApplicationFields, HasCalendarFields, HasCycleFields}
-use Rattle.definition_records.specs.FieldCounts.{HasPeriodFields, HasPredecessorFields}
+use Rattle.app_definition_records.specs.FieldCounts.{HasApplicationFields, HasCalendarFields, HasCycleFields}
+use Rattle.app_definition_records.specs.FieldCounts.{HasPeriodFields, HasPredecessorFields}
 
 -- 1. Ranges and forms
 

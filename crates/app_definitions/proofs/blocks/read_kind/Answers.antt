@@ -1,4 +1,4 @@
-use Rattle.definition_records.proofs.ByNameLemmas.{AreGivenBy-none}
+use Rattle.app_definition_records.proofs.ByNameLemmas.{AreGivenBy-none}
 use Rattle.app_definitions.proofs.blocks.read_kind.Goals as goal
 
 pub gather_all-requires-clause-starts : goal.gather_all-requires-clause-starts

@@ -1,8 +1,8 @@
 use Rattle.std.proofs.Common.{◌≡◌, ◌∙◌, ap, map, sym, subst, append_assoc, ℕ, List, [], ◌∷◌, ◌++◌}
 use Rattle.std.proofs.lemmas.List.{append-nil}
-use Rattle.definition_records.specs.declared.predecessors.Predecessor.{Predecessor}
-use Rattle.definition_records.specs.ByName.{AreEntriesOf}
-use Rattle.definition_records.specs.Rising.{AreRising}
+use Rattle.app_definition_records.specs.declared.predecessors.Predecessor.{Predecessor}
+use Rattle.app_definition_records.specs.ByName.{AreEntriesOf}
+use Rattle.app_definition_records.specs.Rising.{AreRising}
 use Rattle.app_occurrences.proofs.LinkLemmas.{link_of, links_are, links_of-push, own_links, rise_more}
 use Rattle.app_occurrences.proofs.links.defined_links.Goals as goal
 

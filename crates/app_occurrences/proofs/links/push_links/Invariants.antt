@@ -1,5 +1,5 @@
 use Rattle.std.proofs.Common.{◌≡◌, ◌++◌, take, map}
-use Rattle.definition_records.specs.declared.predecessors.Predecessor.{Predecessor}
+use Rattle.app_definition_records.specs.declared.predecessors.Predecessor.{Predecessor}
 use Rattle.app_occurrences.proofs.links.push_links.Given as goal
 
 abbrev pub invariant-loop-predecessor : goal.invariant-loop-predecessor

@@ -1,4 +1,4 @@
-use Rattle.definition_records.proofs.ByNameLemmas.{IfOk-map}
+use Rattle.app_definition_records.proofs.ByNameLemmas.{IfOk-map}
 use Rattle.app_occurrences.proofs.NamedLemmas.{named_listed}
 use Rattle.app_occurrences.proofs.named.named_by_index.Goals as goal
 

@@ -3,7 +3,7 @@ use Rattle.std.specs.Prelude.{IfOk, Result, Ok, Err}
 use Rattle.std.specs.List.{Contains}
 use Rattle.external_dependencies.specs.declared.pairs.Pair.{Pair}
 use Rattle.plan_store.specs.Views.{shown, with_hidden}
-use Rattle.plan_pairs.proofs.PartLemmas.{pairs_are}
+use Rattle.plan_store_pairs.proofs.PartLemmas.{pairs_are}
 use Rattle.daily_planning.proofs.AskedLemmas.{live_asked, live_shows}
 use Rattle.daily_planning.proofs.actions.reset_pairs.Goals as goal
 

@@ -3,7 +3,7 @@ use Rattle.std.proofs.lemmas.Bool.{false≢true}
 use Rattle.occurrences.specs.declared.status.Status.{Status}
 use Rattle.occurrences.specs.declared.status.Status.TheVariants.{W}
 use Rattle.plan_store.specs.Views.{shown, with_hidden}
-use Rattle.plan_pairs.proofs.PartLemmas.{asked_waiting, pairs_are}
+use Rattle.plan_store_pairs.proofs.PartLemmas.{asked_waiting, pairs_are}
 use Rattle.daily_planning.proofs.WaitLemmas.{first_waits, more_done, none_waits, predecessor_lives}
 use Rattle.daily_planning.proofs.actions.waited_for.Goals as goal
 

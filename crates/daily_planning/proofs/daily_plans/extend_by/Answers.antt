@@ -1,5 +1,5 @@
 use Rattle.std.proofs.Common.{refl, subst}
-use Rattle.definition_records.proofs.ByNameLemmas.{IfOk-map}
+use Rattle.app_definition_records.proofs.ByNameLemmas.{IfOk-map}
 use Rattle.plan_store.specs.Views.{Shows}
 use Rattle.daily_planning.specs.DailyPlans.{IsEndBy, daily_need}
 use Rattle.daily_planning.proofs.DailyByLemmas.{to_end}

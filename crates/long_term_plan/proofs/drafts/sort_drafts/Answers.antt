@@ -4,7 +4,7 @@ use Rattle.std.proofs.lemmas.List.Sorted.{answers_always, Contains-permutation, 
 use Rattle.occurrences.proofs.KeyLemmas.{key_cmp_total, key_equal, key_ranks}
 use Rattle.occurrences.proofs.OrderLemmas.{answer_means}
 use Rattle.occurrences.specs.Key.{KeyBefore, key_cmp}
-use Rattle.keyed_lists.proofs.EditLemmas.{sorted_keyed}
+use Rattle.plan_store_lists.proofs.EditLemmas.{sorted_keyed}
 use Rattle.planner_machine.specs.declared.content.Draft.{Draft}
 use Rattle.long_term_plan.proofs.drafts.sort_drafts.Goals as goal
 

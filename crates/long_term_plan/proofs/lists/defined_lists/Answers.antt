@@ -1,7 +1,7 @@
 use Rattle.std.proofs.Common.{◌≡◌, ◌↔◌, ◌∙◌, ℕ, List, ap, map, subst, sym}
 use Rattle.std.specs.List.{Contains}
-use Rattle.definition_records.proofs.RisingLemmas.{Contains-map, Contains-map_back}
-use Rattle.definition_records.specs.declared.predecessors.Predecessor.{Predecessor}
+use Rattle.app_definition_records.proofs.RisingLemmas.{Contains-map, Contains-map_back}
+use Rattle.app_definition_records.specs.declared.predecessors.Predecessor.{Predecessor}
 use Rattle.external_dependencies.specs.Link.{AreNamedOnce, KeepsNames}
 use Rattle.external_dependencies.specs.declared.links.Link.{Link}
 use Rattle.external_dependencies.proofs.OrderLemmas.{keeps_all}

@@ -2,7 +2,7 @@ use Rattle.std.proofs.Common.{◌≡◌, ◌≢◌, ◌∙◌, List, ℕ, refl, 
 use Rattle.std.specs.Prelude.{IfOk}
 use Rattle.std.specs.List.{AllPairs}
 use Rattle.std.proofs.lemmas.Bool.{false≢true}
-use Rattle.definition_records.proofs.RisingLemmas.{own_names}
+use Rattle.app_definition_records.proofs.RisingLemmas.{own_names}
 use Rattle.external_dependencies.specs.declared.links.Link.{Link}
 use Rattle.planner_machine.specs.declared.content.Draft.{Draft}
 use Rattle.planner_machine.specs.declared.content.Bounds.{Bounds}

@@ -6,7 +6,7 @@ use Rattle.occurrences.specs.declared.reply.Reply.TheVariants.{Made}
 use Rattle.occurrences.specs.declared.row.Row.{Row}
 use Rattle.planner_machine.proofs.SoundLemmas.{rows_sound}
 use Rattle.plan_store.specs.Views.{with_hidden}
-use Rattle.plan_pairs.specs.Turns.{IsInLists, IsTouchOf}
+use Rattle.plan_store_pairs.specs.Turns.{IsInLists, IsTouchOf}
 use Rattle.long_term_plan.specs.Making.{numbered, planned_sets}
 use Rattle.long_term_plan.specs.Modifying.{HavePlanned}
 use Rattle.long_term_plan.proofs.HeldLemmas.{held, turn_seen}

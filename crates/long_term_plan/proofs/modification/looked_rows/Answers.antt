@@ -1,6 +1,6 @@
 use Rattle.std.proofs.Common.{ℕ, List, Option, subst, sym}
 use Rattle.occurrences.specs.declared.row.Row.{Row}
-use Rattle.keyed_lists.specs.Rows.{of_row}
+use Rattle.plan_store_lists.specs.Rows.{of_row}
 use Rattle.plan_store.specs.Views.{ListsSet, shown}
 use Rattle.long_term_plan.specs.Modifying.{Looks}
 use Rattle.long_term_plan.proofs.modification.looked_rows.Goals as goal

@@ -14,8 +14,8 @@ use Rattle.planner_machine.proofs.SoundLemmas.{rows_sound}
 use Rattle.plan_store.specs.Views.{with_hidden}
 use Rattle.plan_store.specs.declared.changes.Verdict.{Verdict}
 use Rattle.plan_store.specs.declared.changes.Verdict.TheVariants.{Done, Refused}
-use Rattle.plan_pairs.specs.LiveRows.{HasLists}
-use Rattle.plan_pairs.specs.Turns.{ArePlanned}
+use Rattle.plan_store_pairs.specs.LiveRows.{HasLists}
+use Rattle.plan_store_pairs.specs.Turns.{ArePlanned}
 use Rattle.long_term_plan.specs.Drafting.{AreNew, ArePlannedKeys, DraftsRise}
 use Rattle.long_term_plan.specs.Making.{numbered}
 use Rattle.long_term_plan.specs.Modifying.{AreChanged, AreMet, IsModifiedOrTooMany, ModifiesRows, NamesThen}

@@ -1,7 +1,7 @@
 use Rattle.std.proofs.Common.{◌≡◌, ◌∙◌, ℕ, true, false, refl, subst, sym, List, Option, None, Some, Result, Ok, Err}
 use Rattle.std.specs.Prelude.{IfNone, IfOk, IfSome, is_some}
 use Rattle.app_occurrences.specs.Active.{IsActive}
-use Rattle.definition_records.specs.declared.applications.Application.{Application}
+use Rattle.app_definition_records.specs.declared.applications.Application.{Application}
 use Rattle.app_definitions.specs.declared.definitions.Definitions.{Definitions}
 use Rattle.occurrences.specs.declared.refusal.Refusal.TheVariants.{Loop, NoActiveApplication}
 use Rattle.external_dependencies.specs.Loop.{IsLeastOnLoop}

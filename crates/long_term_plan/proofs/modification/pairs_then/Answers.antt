@@ -9,11 +9,11 @@ use Rattle.external_dependencies.specs.Touch.{MayReach}
 use Rattle.external_dependencies.specs.declared.links.Link.{Link}
 use Rattle.external_dependencies.specs.declared.rows.PlacedRow.{PlacedRow}
 use Rattle.planner_machine.specs.declared.content.Draft.{Draft}
-use Rattle.keyed_lists.specs.Rows.{of_row}
+use Rattle.plan_store_lists.specs.Rows.{of_row}
 use Rattle.plan_store.specs.Views.{IsAny, ListsSet, shown, with_hidden}
-use Rattle.plan_pairs.specs.ByApplications.{AreGathered}
-use Rattle.plan_pairs.specs.Planned.{IsOpenOfOne}
-use Rattle.plan_pairs.specs.Turns.{IsInLists, IsTouchOf}
+use Rattle.plan_store_pairs.specs.ByApplications.{AreGathered}
+use Rattle.plan_store_pairs.specs.Planned.{IsOpenOfOne}
+use Rattle.plan_store_pairs.specs.Turns.{IsInLists, IsTouchOf}
 use Rattle.long_term_plan.specs.Drafting.{DraftsRise}
 use Rattle.long_term_plan.specs.Modifying.{AreOf, outcome}
 use Rattle.long_term_plan.proofs.HeldLemmas.{app_held, gathered_are, gone_held, held, turn_seen}

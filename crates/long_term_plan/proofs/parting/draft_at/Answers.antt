@@ -7,7 +7,7 @@ use Rattle.std.proofs.lemmas.List.Sorted.{answers_always}
 use Rattle.occurrences.proofs.KeyLemmas.{key_cmp_total, key_equal, key_less}
 use Rattle.occurrences.specs.Key.{key_cmp}
 use Rattle.planner_machine.specs.declared.content.Draft.{Draft}
-use Rattle.keyed_lists.proofs.KeyLemmas.{found, missed, missed_all}
+use Rattle.plan_store_lists.proofs.KeyLemmas.{found, missed, missed_all}
 use Rattle.long_term_plan.proofs.parting.draft_at.Goals as goal
 
 pub returns-in-Ok : goal.returns-in-Ok

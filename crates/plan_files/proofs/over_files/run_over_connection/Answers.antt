@@ -2,7 +2,7 @@ use Rattle.std.proofs.Common.{arith, inl, inr, subst, sym}
 use Rattle.sqlite.specs.Files.{file_state}
 use Rattle.sqlite.specs.State.{HasCleanDisk}
 use Rattle.sqlite_store.specs.Laws.{settled_at}
-use Rattle.table_schema.proofs.ResultLemmas.{if_err, if_ok}
+use Rattle.plan_tables_schema.proofs.ResultLemmas.{if_err, if_ok}
 use Rattle.plan_files.specs.Unrun.{IsHindered, IsUnfit}
 use Rattle.plan_files.specs.Begun.{begun_of}
 use Rattle.plan_files.specs.declared.openings.Begun.{Begun}

@@ -2,8 +2,8 @@ use Rattle.std.proofs.Common.{◌∙◌, ap, sym}
 use Rattle.std.specs.Prelude.{not}
 use Rattle.sqlite.specs.Held.{state}
 use Rattle.sqlite.specs.State.{HasCleanDisk, IsUnchanged}
-use Rattle.table_opening.proofs.QueryLemmas.{commits_none, failed_by_device, refused_same, shown_same}
-use Rattle.table_opening.proofs.KeptLemmas.{kept_if_same}
+use Rattle.plan_tables_opening.proofs.QueryLemmas.{commits_none, failed_by_device, refused_same, shown_same}
+use Rattle.plan_tables_opening.proofs.KeptLemmas.{kept_if_same}
 use Rattle.plan_migrations.proofs.AskLemmas.{kept_by, third}
 use Rattle.plan_migrations.proofs.asking.ask.Goals as goal
 

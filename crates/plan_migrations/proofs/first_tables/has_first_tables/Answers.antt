@@ -1,6 +1,6 @@
 use Rattle.std.proofs.Common.{◌∙◌, subst, sym}
 use Rattle.sqlite.proofs.Callers.{memory_is_clean}
-use Rattle.table_remaking.specs.FirstSchema.{CanRemake}
+use Rattle.plan_migrations_remaking.specs.FirstSchema.{CanRemake}
 use Rattle.plan_migrations.proofs.FirstStanding.{remake_iff}
 use Rattle.plan_migrations.proofs.first_tables.has_first_tables.Goals as goal
 

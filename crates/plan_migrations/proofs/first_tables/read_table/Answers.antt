@@ -1,5 +1,5 @@
 use Rattle.std.proofs.Common.{sym, subst}
-use Rattle.table_opening.specs.Queries.{IsReading}
+use Rattle.plan_tables_opening.specs.Queries.{IsReading}
 use Rattle.plan_migrations.proofs.TextLemmas.{first_reads}
 use Rattle.plan_migrations.proofs.first_tables.read_table.Goals as goal
 

@@ -4,10 +4,10 @@ use Rattle.std.proofs.lemmas.List.Elements.{All-push}
 use Rattle.sqlite.specs.Held.{state}
 use Rattle.sqlite.proofs.Callers.{unchanged_then}
 use Rattle.sqlite.proofs.StateLemmas.{survives_then}
-use Rattle.table_schema.specs.declared.tables.Table.TheVariants.{Meta}
-use Rattle.table_remaking.specs.Remaking.{AreAllFirst, tables_in}
-use Rattle.table_remaking.specs.Types.{AreFirst}
-use Rattle.table_remaking.specs.declared.rows.FirstRows.{FirstRows}
+use Rattle.plan_tables_schema.specs.declared.tables.Table.TheVariants.{Meta}
+use Rattle.plan_migrations_remaking.specs.Remaking.{AreAllFirst, tables_in}
+use Rattle.plan_migrations_remaking.specs.Types.{AreFirst}
+use Rattle.plan_migrations_remaking.specs.declared.rows.FirstRows.{FirstRows}
 use Rattle.std.specs.Prelude.{◌≡◌, ◌+◌, List, take}
 use Rattle.sqlite.specs.State.{IsUnchanged}
 use Rattle.plan_migrations.specs.Migrating.{AreShown}

@@ -2,7 +2,7 @@ use Rattle.std.proofs.Common.{◌≡◌, false, take}
 use Rattle.std.specs.List.{All}
 use Rattle.sqlite.specs.State.{HasCleanDisk, IsUnchanged, Survives}
 use Rattle.sqlite.specs.Held.{state}
-use Rattle.table_remaking.specs.Remaking.{AreAllFirst, tables_in}
+use Rattle.plan_migrations_remaking.specs.Remaking.{AreAllFirst, tables_in}
 use Rattle.plan_migrations.specs.Migrating.{AreShown}
 use Rattle.plan_migrations.proofs.first_tables.read_tables.Given as goal
 

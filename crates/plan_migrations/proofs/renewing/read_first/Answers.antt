@@ -5,8 +5,8 @@ use Rattle.sqlite.specs.Held.{state}
 use Rattle.sqlite.specs.State.{HasCleanDisk, IsUnchanged}
 use Rattle.sqlite.proofs.Callers.{unchanged_then}
 use Rattle.sqlite.proofs.StateLemmas.{survives_then}
-use Rattle.table_schema.specs.Schema.{all_tables}
-use Rattle.table_remaking.specs.FirstSchema.{CanRemake}
+use Rattle.plan_tables_schema.specs.Schema.{all_tables}
+use Rattle.plan_migrations_remaking.specs.FirstSchema.{CanRemake}
 use Rattle.plan_migrations.specs.Migrating.{AreShown}
 use Rattle.plan_migrations.proofs.ReadLemmas.{are_read, failed_read, shown_again}
 use Rattle.plan_migrations.proofs.RowidLemmas.{staying, unread}

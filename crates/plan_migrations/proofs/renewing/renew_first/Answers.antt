@@ -4,7 +4,7 @@ use Rattle.sqlite.specs.Effect.{Database}
 use Rattle.sqlite.specs.Held.{state}
 use Rattle.sqlite.specs.State.{HasCleanDisk}
 use Rattle.sqlite.proofs.StateLemmas.{survives_then}
-use Rattle.table_remaking.specs.Remaking.{AreAllFirst, AreWhole, CanRemakeOf, RemakesTo}
+use Rattle.plan_migrations_remaking.specs.Remaking.{AreAllFirst, AreWhole, CanRemakeOf, RemakesTo}
 use Rattle.plan_migrations.specs.Migrating.{AreShown, HaveSound, MayRenew}
 use Rattle.plan_migrations.proofs.ReadLemmas.{are_read, can_remake_of, failed_hold, kept_by, renewed_by, renews}
 use Rattle.plan_migrations.proofs.ReadLemmas.{unrenewed_by}

@@ -5,8 +5,8 @@ use Rattle.sqlite.specs.Effect.{Database}
 use Rattle.sqlite.specs.Held.{state}
 use Rattle.sqlite.proofs.Callers.{unchanged_then}
 use Rattle.sqlite.proofs.StateLemmas.{survives_then}
-use Rattle.table_schema.specs.declared.tables.Table.TheVariants.{Meta}
-use Rattle.table_remaking.specs.FirstSchema.{CanRemake}
+use Rattle.plan_tables_schema.specs.declared.tables.Table.TheVariants.{Meta}
+use Rattle.plan_migrations_remaking.specs.FirstSchema.{CanRemake}
 use Rattle.plan_migrations.proofs.RowidLemmas.{HasRowids, rowids_on, rowids_stop}
 use Rattle.plan_migrations.proofs.rowids.check_rowids.Goals as goal
 

@@ -2,7 +2,7 @@ use Rattle.std.proofs.Common.{◌≡◌, false}
 use Rattle.std.specs.List.{AllWithin}
 use Rattle.sqlite.specs.State.{HasCleanDisk, IsUnchanged, Survives}
 use Rattle.sqlite.specs.Held.{state}
-use Rattle.table_remaking.specs.FirstSchema.{CanRemake}
+use Rattle.plan_migrations_remaking.specs.FirstSchema.{CanRemake}
 use Rattle.plan_migrations.proofs.RowidLemmas.{HasRowids}
 use Rattle.plan_migrations.proofs.rowids.check_rowids.Given as goal
 

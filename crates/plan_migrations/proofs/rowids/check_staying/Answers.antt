@@ -1,10 +1,10 @@
 use Rattle.std.proofs.Common.{◌∙◌, subst, sym, true≢false, ℕ, List, []}
 use Rattle.sqlite.specs.Held.{state}
 use Rattle.sqlite.specs.State.{Shown}
-use Rattle.table_schema.specs.Rows.{tables_of}
-use Rattle.table_reading.proofs.TableLemmas.{at_some}
-use Rattle.table_opening.specs.Foreign.{RefusesToShow}
-use Rattle.table_opening.specs.Queries.{IsReading}
+use Rattle.plan_tables_schema.specs.Rows.{tables_of}
+use Rattle.plan_tables_loading.proofs.TableLemmas.{at_some}
+use Rattle.plan_tables_opening.specs.Foreign.{RefusesToShow}
+use Rattle.plan_tables_opening.specs.Queries.{IsReading}
 use Rattle.plan_migrations.proofs.RowidLemmas.{reads_rowids, refused_rowids}
 use Rattle.plan_migrations.proofs.TextLemmas.{rowid_reads}
 use Rattle.plan_migrations.proofs.rowids.check_staying.Goals as goal

@@ -3,7 +3,7 @@ use Rattle.std.proofs.lemmas.List.{get_or_default}
 use Rattle.std.proofs.lemmas.List.Elements.{AllWithin-upto, All-from_all_within}
 use Rattle.sqlite.specs.Held.{state}
 use Rattle.sqlite.proofs.StateLemmas.{survives_then}
-use Rattle.table_schema.specs.declared.tables.Table.TheVariants.{Meta}
+use Rattle.plan_tables_schema.specs.declared.tables.Table.TheVariants.{Meta}
 use Rattle.plan_migrations.specs.Schemas.{IsOfSchema}
 use Rattle.plan_migrations.proofs.TurnLemmas.{same_if_of_schema, stops, turned}
 use Rattle.plan_migrations.proofs.tables.check_tables.Goals as goal

@@ -1,6 +1,6 @@
 use Rattle.std.proofs.Common.{sym, subst}
-use Rattle.table_opening.specs.Queries.{IsReading}
-use Rattle.table_opening.proofs.ForeignLemmas.{version_reads}
+use Rattle.plan_tables_opening.specs.Queries.{IsReading}
+use Rattle.plan_tables_opening.proofs.ForeignLemmas.{version_reads}
 use Rattle.plan_migrations.proofs.versions.shown_version.Goals as goal
 
 pub ask-requires-clause-reading : goal.ask-requires-clause-reading

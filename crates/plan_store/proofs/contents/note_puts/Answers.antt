@@ -1,6 +1,6 @@
 use Rattle.std.proofs.Common.{Result, Ok, Err, OnOk}
-use Rattle.keyed_lists.specs.Rows.{of_current, of_row}
-use Rattle.keyed_lists.proofs.SeatLemmas.{seats_stay}
+use Rattle.plan_store_lists.specs.Rows.{of_current, of_row}
+use Rattle.plan_store_lists.proofs.SeatLemmas.{seats_stay}
 use Rattle.plan_store.proofs.contents.note_puts.Goals as goal
 
 always : {T E : Type 0} (r : Result T E) (P : Type 0) → P → OnOk r P

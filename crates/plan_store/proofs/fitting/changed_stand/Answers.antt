@@ -1,7 +1,7 @@
 use Rattle.std.proofs.Common.{◌≡◌, Some, rules, tests}
 use Rattle.std.proofs.lemmas.Iterator.{YieldsList-from_slice, cases_from_all}
 use Rattle.external_dependencies.specs.Nearest.{arrival_of}
-use Rattle.keyed_lists.specs.Rows.{look_up}
+use Rattle.plan_store_lists.specs.Rows.{look_up}
 use Rattle.plan_store.proofs.FittingLemmas.{each_is, serial_of}
 use Rattle.plan_store.proofs.fitting.changed_stand.Goals as goal
 

@@ -1,4 +1,4 @@
-use Rattle.keyed_lists.specs.Rows.{look_up}
+use Rattle.plan_store_lists.specs.Rows.{look_up}
 use Rattle.plan_store.proofs.FittingLemmas.{fits_tested, refused, serial_of}
 use Rattle.plan_store.proofs.fitting.fits_set.Goals as goal
 

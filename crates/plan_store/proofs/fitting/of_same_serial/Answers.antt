@@ -1,6 +1,6 @@
 use Rattle.std.proofs.Common.{◌∙◌, ap}
 use Rattle.occurrences.specs.declared.row.Row.{Row}
-use Rattle.keyed_lists.specs.Rows.{look_up}
+use Rattle.plan_store_lists.specs.Rows.{look_up}
 use Rattle.plan_store.proofs.FittingLemmas.{found_is, serial_of}
 use Rattle.plan_store.proofs.fitting.of_same_serial.Goals as goal
 

@@ -1,6 +1,6 @@
 use Rattle.std.proofs.Common.{◌≡◌, None, rules, tests}
 use Rattle.std.proofs.lemmas.Iterator.{YieldsList-from_slice, cases_from_all}
-use Rattle.keyed_lists.specs.Rows.{look_up}
+use Rattle.plan_store_lists.specs.Rows.{look_up}
 use Rattle.plan_store.proofs.FittingLemmas.{each_is, serial_of}
 use Rattle.plan_store.proofs.fitting.put_are_new.Goals as goal
 

@@ -2,7 +2,7 @@ use Rattle.std.proofs.Common.{rules}
 use Rattle.std.specs.FinMap.{nat_cmp-IsAntisymmetric}
 use Rattle.std.proofs.lemmas.Cmp.{nat_cmp_total}
 use Rattle.std.proofs.lemmas.List.Sorted.{answers_always}
-use Rattle.keyed_lists.proofs.KeyLemmas.{found, missed}
+use Rattle.plan_store_lists.proofs.KeyLemmas.{found, missed}
 use Rattle.plan_store.proofs.JobLemmas.{number_of}
 use Rattle.plan_store.proofs.jobs.find_job.Goals as goal
 

@@ -4,10 +4,10 @@ use Rattle.std.specs.Result.{is_ok}
 use Rattle.std.specs.FinMap.{nat_cmp-IsAntisymmetric}
 use Rattle.std.proofs.lemmas.Bool.{cond-true}
 use Rattle.std.proofs.lemmas.Cmp.{nat_cmp_total}
-use Rattle.keyed_lists.proofs.KeyLemmas.{has_at}
-use Rattle.keyed_lists.proofs.EditLemmas.{insert_contains, insert_keyed}
+use Rattle.plan_store_lists.proofs.KeyLemmas.{has_at}
+use Rattle.plan_store_lists.proofs.EditLemmas.{insert_contains, insert_keyed}
 use Rattle.plan_store.proofs.JobLemmas.{look_kept, number_of, one_jobs}
-use Rattle.keyed_lists.proofs.LookLemmas.{look_none}
+use Rattle.plan_store_lists.proofs.LookLemmas.{look_none}
 use Rattle.plan_store.proofs.jobs.insert_job.Goals as goal
 
 pub returns-in-Ok-clause-kept : goal.returns-in-Ok-clause-kept

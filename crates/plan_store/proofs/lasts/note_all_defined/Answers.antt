@@ -1,7 +1,7 @@
 use Rattle.std.proofs.Common.{◌∙◌, ap, sym, subst, append_assoc, ℕ, List, [], ◌∷◌, ◌++◌}
 use Rattle.std.proofs.lemmas.List.{append-nil}
-use Rattle.definition_records.specs.ByName.{AreEntriesOf}
-use Rattle.definition_records.specs.declared.predecessors.Predecessor.{Predecessor}
+use Rattle.app_definition_records.specs.ByName.{AreEntriesOf}
+use Rattle.app_definition_records.specs.declared.predecessors.Predecessor.{Predecessor}
 use Rattle.plan_store.specs.Noted.{AskedByOne, IsAsked, Notes}
 use Rattle.plan_store.proofs.NotedLemmas.{AsksEntry, no_entries, notes_entries, notes_more}
 use Rattle.plan_store.proofs.lasts.note_all_defined.Goals as goal

@@ -1,5 +1,5 @@
 use Rattle.std.proofs.Common.{take}
-use Rattle.definition_records.specs.declared.predecessors.Predecessor.{Predecessor}
+use Rattle.app_definition_records.specs.declared.predecessors.Predecessor.{Predecessor}
 use Rattle.plan_store.specs.Noted.{AskedByOne, IsAsked, Notes}
 use Rattle.plan_store.proofs.lasts.note_named.Given as goal
 

@@ -7,9 +7,9 @@ use Rattle.std.proofs.lemmas.Fn.{filter_same}
 use Rattle.std.proofs.lemmas.List.Kept.{AllPairs-filter}
 use Rattle.external_dependencies.specs.Pair.{pair_cmp}
 use Rattle.external_dependencies.specs.declared.pairs.Pair.{Pair}
-use Rattle.keyed_lists.specs.Keyed.{holds_key}
+use Rattle.plan_store_lists.specs.Keyed.{holds_key}
 use Rattle.external_dependencies.proofs.PairLemmas.{pair_ties}
-use Rattle.keyed_lists.proofs.KeyLemmas.{contains_filter, filter_contains, holds_lacks}
+use Rattle.plan_store_lists.proofs.KeyLemmas.{contains_filter, filter_contains, holds_lacks}
 use Rattle.plan_store.specs.Changes.{pairs_after}
 use Rattle.plan_store.proofs.PairLemmas.{held_pair, is_new, itself, pair_total, pairs_after_contains}
 use Rattle.plan_store.proofs.PairLemmas.{pairs_after_rising, same_pairs}

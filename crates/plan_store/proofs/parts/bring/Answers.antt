@@ -1,4 +1,4 @@
-use Rattle.keyed_lists.proofs.SeatLemmas.{seats_stay}
+use Rattle.plan_store_lists.proofs.SeatLemmas.{seats_stay}
 use Rattle.plan_store.proofs.PartLemmas.{seats_put}
 use Rattle.plan_store.proofs.parts.bring.Goals as goal
 

@@ -1,7 +1,7 @@
 use Rattle.std.proofs.Common.{◌↔◌, ◌⊎◌, ◌∷◌, [], subst}
 use Rattle.std.specs.List.{Contains}
-use Rattle.keyed_lists.specs.Keyed.{LacksKey}
-use Rattle.keyed_lists.proofs.KeyLemmas.{one_is}
+use Rattle.plan_store_lists.specs.Keyed.{LacksKey}
+use Rattle.plan_store_lists.proofs.KeyLemmas.{one_is}
 use Rattle.plan_store.proofs.AlikeLemmas.{keyed_from, lacks_as}
 use Rattle.plan_store.proofs.PartLemmas.{comes, look_put, new_key, one_put}
 use Rattle.plan_store.proofs.parts.put_row.Given.{Over}

@@ -1,5 +1,5 @@
-use Rattle.keyed_lists.specs.Rows.{of_current, of_row}
-use Rattle.keyed_lists.proofs.SeatLemmas.{seats_stay}
+use Rattle.plan_store_lists.specs.Rows.{of_current, of_row}
+use Rattle.plan_store_lists.proofs.SeatLemmas.{seats_stay}
 use Rattle.plan_store.proofs.parts.seats_for.Goals as goal
 
 pub returns-clause-ltp : goal.returns-clause-ltp

@@ -3,7 +3,7 @@ use Rattle.std.proofs.lemmas.Bool.{ltb-true, lt-ltb}
 use Rattle.std.proofs.lemmas.List.Sorted.{IsPartitionPoint-from_clause}
 use Rattle.external_dependencies.specs.Arrival.{arrival_cmp}
 use Rattle.external_dependencies.specs.Nearest.{arrival_of}
-use Rattle.keyed_lists.proofs.SliceLemmas.{front, parted_before, take_keyed}
+use Rattle.plan_store_lists.proofs.SliceLemmas.{front, parted_before, take_keyed}
 use Rattle.plan_store.proofs.SliceLemmas.{arrivals_rise, filter_front}
 use Rattle.plan_store.proofs.slices.before.Goals as goal
 

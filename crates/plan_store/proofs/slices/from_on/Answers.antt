@@ -5,8 +5,8 @@ use Rattle.std.proofs.lemmas.List.{take_rest}
 use Rattle.std.proofs.lemmas.List.Sorted.{IsPartitionPoint-from_clause}
 use Rattle.external_dependencies.specs.Arrival.{arrival_cmp}
 use Rattle.external_dependencies.specs.Nearest.{arrival_of}
-use Rattle.keyed_lists.proofs.KeyLemmas.{contains_filter, filter_contains}
-use Rattle.keyed_lists.proofs.SliceLemmas.{drop_keyed, parted_before}
+use Rattle.plan_store_lists.proofs.KeyLemmas.{contains_filter, filter_contains}
+use Rattle.plan_store_lists.proofs.SliceLemmas.{drop_keyed, parted_before}
 use Rattle.plan_store.proofs.SliceLemmas.{arrivals_rise, filter_back}
 use Rattle.plan_store.proofs.slices.from_on.Goals as goal
 

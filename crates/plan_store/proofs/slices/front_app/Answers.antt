@@ -6,7 +6,7 @@ use Rattle.std.proofs.lemmas.Cmp.{nat_list_cmp_total}
 use Rattle.std.proofs.lemmas.List.Sorted.{IsPartitionPoint-from_clause}
 use Rattle.external_dependencies.specs.Arrival.{arrival_cmp}
 use Rattle.external_dependencies.specs.Nearest.{arrival_of}
-use Rattle.keyed_lists.proofs.SliceLemmas.{parted_upto, take_keyed}
+use Rattle.plan_store_lists.proofs.SliceLemmas.{parted_upto, take_keyed}
 use Rattle.plan_store.proofs.SliceLemmas.{apps_rise, one_of_first, some_of_first}
 use Rattle.plan_store.proofs.slices.front_app.Given.{Over}
 use Rattle.plan_store.proofs.slices.front_app.Goals as goal

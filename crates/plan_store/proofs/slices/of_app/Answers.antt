@@ -7,8 +7,8 @@ use Rattle.std.specs.Cmp.Lexicographic.{slice_cmp}
 use Rattle.std.specs.Ordering.{nat_cmp, is_lt, is_le}
 use Rattle.external_dependencies.specs.Arrival.{arrival_cmp}
 use Rattle.external_dependencies.specs.Nearest.{arrival_of}
-use Rattle.keyed_lists.proofs.SliceLemmas.{between, drop_keyed, name_ties, parted_below, parted_upto, rises_drop}
-use Rattle.keyed_lists.proofs.SliceLemmas.{take_keyed}
+use Rattle.plan_store_lists.proofs.SliceLemmas.{between, drop_keyed, name_ties, parted_below, parted_upto, rises_drop}
+use Rattle.plan_store_lists.proofs.SliceLemmas.{take_keyed}
 use Rattle.plan_store.proofs.SliceLemmas.{apps_rise}
 use Rattle.plan_store.proofs.slices.of_app.Goals as goal
 

@@ -7,7 +7,7 @@ use Rattle.std.specs.FinMap.{nat_cmp-IsAntisymmetric}
 use Rattle.std.specs.Ordering.{nat_cmp, is_lt, is_le}
 use Rattle.external_dependencies.specs.Arrival.{arrival_cmp}
 use Rattle.external_dependencies.specs.Nearest.{arrival_of}
-use Rattle.keyed_lists.proofs.SliceLemmas.{between, drop_keyed, parted_below, parted_upto, rises_drop, take_keyed}
+use Rattle.plan_store_lists.proofs.SliceLemmas.{between, drop_keyed, parted_below, parted_upto, rises_drop, take_keyed}
 use Rattle.plan_store.proofs.SliceLemmas.{arrivals_rise}
 use Rattle.occurrences.specs.declared.key.Key.{Key}
 use Rattle.plan_store.proofs.slices.of_key.Goals as goal

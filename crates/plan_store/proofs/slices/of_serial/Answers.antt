@@ -3,10 +3,10 @@ use Rattle.std.specs.List.{Contains}
 use Rattle.std.proofs.lemmas.List.{take_more, take_all}
 use Rattle.std.proofs.lemmas.List.Elements.{Contains-append_cases}
 use Rattle.occurrences.specs.declared.key.Key.{Key}
-use Rattle.keyed_lists.specs.Seats.{seat_of}
-use Rattle.keyed_lists.specs.declared.seats.Seat.{Seat}
-use Rattle.keyed_lists.proofs.KeyLemmas.{one_is}
-use Rattle.keyed_lists.proofs.SeatLemmas.{seat_held}
+use Rattle.plan_store_lists.specs.Seats.{seat_of}
+use Rattle.plan_store_lists.specs.declared.seats.Seat.{Seat}
+use Rattle.plan_store_lists.proofs.KeyLemmas.{one_is}
+use Rattle.plan_store_lists.proofs.SeatLemmas.{seat_held}
 use Rattle.plan_store.proofs.slices.of_serial.Goals as goal
 
 abbrev key_at : Seat → Key

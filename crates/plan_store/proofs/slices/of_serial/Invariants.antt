@@ -1,6 +1,6 @@
 use Rattle.std.proofs.Common.{◌≢◌, take}
 use Rattle.std.specs.List.{Contains}
-use Rattle.keyed_lists.specs.Seats.{seat_of}
+use Rattle.plan_store_lists.specs.Seats.{seat_of}
 use Rattle.plan_store.proofs.slices.of_serial.Given as goal
 
 -- no row that has one of the first seats has the serial

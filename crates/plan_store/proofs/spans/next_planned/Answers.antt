@@ -1,7 +1,7 @@
 use Rattle.std.proofs.Common.{◌+◌, ◌≤◌}
 use Rattle.occurrences.specs.declared.place.CurrentRow.{CurrentRow}
 use Rattle.occurrences.specs.declared.row.Row.{Row}
-use Rattle.keyed_lists.specs.Rows.{of_current, of_row}
+use Rattle.plan_store_lists.specs.Rows.{of_current, of_row}
 use Rattle.plan_store.proofs.SpanLemmas.{are_later, one_app, one_part, planned_is}
 use Rattle.plan_store.proofs.spans.next_planned.Goals as goal
 

@@ -2,7 +2,7 @@ use Rattle.std.proofs.Common.{◌≡◌, ℕ, ltb, ◌+◌, ◌≤◌, Option, s
 use Rattle.std.proofs.lemmas.Bool.{lt-ltb, ltb-true}
 use Rattle.std.proofs.lemmas.List.Sorted.{IsPartitionPoint-from_clause}
 use Rattle.external_dependencies.specs.Touch.{IsWithin}
-use Rattle.keyed_lists.proofs.SliceLemmas.{front, parted_before}
+use Rattle.plan_store_lists.proofs.SliceLemmas.{front, parted_before}
 use Rattle.plan_store.proofs.SliceLemmas.{arrivals_rise}
 use Rattle.plan_store.proofs.spans.up_to.Goals as goal
 

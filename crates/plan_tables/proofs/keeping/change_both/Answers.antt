@@ -5,7 +5,7 @@ use Rattle.sqlite.proofs.StateLemmas.{survives_then, survives_weaker}
 use Rattle.plan_store.specs.Contents.{content_of}
 use Rattle.plan_store.specs.Parts.{with_rest}
 use Rattle.plan_store.specs.declared.changes.Change.{Change}
-use Rattle.table_schema.specs.Rows.{tables_of}
+use Rattle.plan_tables_schema.specs.Rows.{tables_of}
 use Rattle.plan_tables.proofs.CauseLemmas.{failed_so, taken_rest}
 use Rattle.plan_tables.proofs.StoredLemmas.{left_fits, tables_after, tells_after}
 use Rattle.plan_tables.proofs.keeping.change_both.Goals as goal

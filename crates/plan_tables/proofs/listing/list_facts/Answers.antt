@@ -1,6 +1,6 @@
 use Rattle.std.specs.Prelude.{option_copied}
 use Rattle.plan_store.specs.Contents.{content_of}
-use Rattle.table_schema.specs.declared.tables.Table.TheVariants as table
+use Rattle.plan_tables_schema.specs.declared.tables.Table.TheVariants as table
 use Rattle.plan_tables.specs.declared.listing.Asked.TheVariants as asked
 use Rattle.plan_tables.proofs.ListLemmas.{lists_kept}
 use Rattle.plan_tables.proofs.listing.list_facts.Goals as goal

@@ -4,11 +4,11 @@ use Rattle.sqlite.specs.Held.{state}
 use Rattle.occurrences.specs.declared.place.Deletion.{Deletion}
 use Rattle.occurrences.specs.declared.row.Row.{Row}
 use Rattle.planner_machine.specs.Content.{Content}
-use Rattle.keyed_lists.specs.Rows.{of_deletion, of_row}
+use Rattle.plan_store_lists.specs.Rows.{of_deletion, of_row}
 use Rattle.plan_store.specs.Contents.{content_of}
 use Rattle.plan_store.specs.Parts.{ListsAll}
 use Rattle.plan_store.specs.declared.listings.What.TheVariants as Whats
-use Rattle.table_schema.specs.Rows.{tables_of}
+use Rattle.plan_tables_schema.specs.Rows.{tables_of}
 use Rattle.plan_tables_windows.specs.Gathering.{told_rest}
 use Rattle.plan_tables_queries.specs.declared.listing_faults.ListedFault.{ListedFault}
 use Rattle.plan_tables.specs.Listing.{ListsKept}

@@ -1,5 +1,5 @@
 use Rattle.planner_machine.specs.Content.{Content}
-use Rattle.keyed_lists.specs.Rows.{of_deletion, of_row}
+use Rattle.plan_store_lists.specs.Rows.{of_deletion, of_row}
 use Rattle.plan_store.specs.Parts.{ListsAll}
 use Rattle.plan_tables.proofs.ListLemmas.{finds_both, finds_not, finds_second}
 use Rattle.plan_tables.proofs.listing.read_rest.Goals as goal

@@ -1,9 +1,9 @@
 use Rattle.std.proofs.Common.{false, map}
 use Rattle.sqlite.specs.Held.{state}
 use Rattle.sqlite.specs.State.{HasCleanDisk}
-use Rattle.table_schema.specs.Rows.{shown, tables_of}
-use Rattle.table_schema.specs.Schema.{HasTables}
-use Rattle.table_reading.proofs.CollectLemmas.{kept_rows}
+use Rattle.plan_tables_schema.specs.Rows.{shown, tables_of}
+use Rattle.plan_tables_schema.specs.Schema.{HasTables}
+use Rattle.plan_tables_loading.proofs.CollectLemmas.{kept_rows}
 use Rattle.plan_tables_queries.proofs.CollectLemmas.{refused}
 use Rattle.plan_tables_queries.proofs.FindLemmas.{stops_for}
 use Rattle.plan_tables_queries.proofs.RowLemmas.{is_of_row, untold_of}

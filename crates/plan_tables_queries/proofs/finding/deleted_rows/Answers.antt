@@ -1,4 +1,4 @@
-use Rattle.keyed_lists.specs.Rows.{of_deletion}
+use Rattle.plan_store_lists.specs.Rows.{of_deletion}
 use Rattle.plan_tables_queries.proofs.AllLemmas.{lists_all, tells_each}
 use Rattle.plan_tables_queries.proofs.FindLemmas.{finds_told}
 use Rattle.plan_tables_queries.proofs.NumberLemmas.{deletions_numbered}

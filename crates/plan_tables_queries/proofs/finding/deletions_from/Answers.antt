@@ -1,6 +1,6 @@
 use Rattle.sqlite.specs.Held.{state}
-use Rattle.table_schema.specs.Rows.{tables_of}
-use Rattle.table_schema.proofs.ResultLemmas.{if_err, if_ok}
+use Rattle.plan_tables_schema.specs.Rows.{tables_of}
+use Rattle.plan_tables_schema.proofs.ResultLemmas.{if_err, if_ok}
 use Rattle.plan_tables_queries.proofs.DeletionLemmas.{are_gone_from, deletion_is_told}
 use Rattle.plan_tables_queries.proofs.FindLemmas.{finds_fact}
 use Rattle.plan_tables_queries.proofs.RowLemmas.{is_of_row}

@@ -1,6 +1,6 @@
 use Rattle.std.specs.Prelude.{Ok, Err, Some, None}
 use Rattle.sqlite.specs.Held.{state}
-use Rattle.table_schema.specs.Rows.{tables_of}
+use Rattle.plan_tables_schema.specs.Rows.{tables_of}
 use Rattle.plan_tables_queries.proofs.FindLemmas.{finds_fact}
 use Rattle.plan_tables_queries.proofs.LastLemmas.{last_is_told, last_row, none_last}
 use Rattle.plan_tables_queries.proofs.RowLemmas.{none_of_row}

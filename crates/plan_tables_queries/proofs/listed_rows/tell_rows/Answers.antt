@@ -1,9 +1,9 @@
 use Rattle.std.proofs.Common.{refl, rules, subst}
 use Rattle.sqlite.specs.Held.{state}
 use Rattle.sqlite.specs.Values.{bound}
-use Rattle.table_lookups.specs.Looks.{question}
-use Rattle.table_lookups.specs.Question.{Answers}
-use Rattle.table_schema.specs.Rows.{tables_of}
+use Rattle.plan_tables_lookups.specs.Looks.{question}
+use Rattle.plan_tables_lookups.specs.Question.{Answers}
+use Rattle.plan_tables_schema.specs.Rows.{tables_of}
 use Rattle.plan_tables_queries.specs.ListedRows.{TellsAll, TellsPart}
 use Rattle.plan_tables_queries.specs.declared.listing_faults.ListedFault.TheVariants.{Store}
 use Rattle.plan_tables_queries.proofs.TellLemmas.{told_all, told_before, told_part}

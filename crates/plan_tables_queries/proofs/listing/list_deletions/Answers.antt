@@ -2,7 +2,7 @@ use Rattle.std.proofs.Common.{None, Some, [], ◌∷◌, refl}
 use Rattle.sqlite.specs.declared.types.Value.TheVariants.{Text}
 use Rattle.planner_machine.specs.Content.{Content}
 use Rattle.planner_machine.specs.Shown.{InDeletions}
-use Rattle.table_lookups.specs.declared.looks.Look.TheVariants.{DeletionsListed, DeletionsOf}
+use Rattle.plan_tables_lookups.specs.declared.looks.Look.TheVariants.{DeletionsListed, DeletionsOf}
 use Rattle.plan_tables_queries.proofs.ListsLemmas.{lists}
 use Rattle.plan_tables_queries.proofs.SetLemmas.{all_deletions, deletions_of, deletions_read, deletions_shown}
 use Rattle.plan_tables_queries.proofs.listing.list_deletions.Goals as goal

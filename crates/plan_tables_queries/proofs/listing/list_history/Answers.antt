@@ -2,7 +2,7 @@ use Rattle.std.proofs.Common.{None, Some, [], ◌∷◌, refl}
 use Rattle.sqlite.specs.declared.types.Value.TheVariants.{Text}
 use Rattle.planner_machine.specs.Content.{Content}
 use Rattle.planner_machine.specs.Shown.{InHistory}
-use Rattle.table_lookups.specs.declared.looks.Look.TheVariants.{HistoryListed, HistoryOf}
+use Rattle.plan_tables_lookups.specs.declared.looks.Look.TheVariants.{HistoryListed, HistoryOf}
 use Rattle.plan_tables_queries.proofs.ListsLemmas.{lists}
 use Rattle.plan_tables_queries.proofs.SetLemmas.{all_history, history_of, history_read, history_shown}
 use Rattle.plan_tables_queries.proofs.listing.list_history.Goals as goal

@@ -1,7 +1,7 @@
 use Rattle.std.proofs.Common.{◌+◌, ◌∙◌, ap, sym, subst, append_assoc, ℕ, List, [], ◌∷◌, ◌++◌}
 use Rattle.std.proofs.lemmas.List.{append-nil}
-use Rattle.definition_records.specs.ByName.{AreEntriesOf}
-use Rattle.definition_records.specs.declared.predecessors.Predecessor.{Predecessor}
+use Rattle.app_definition_records.specs.ByName.{AreEntriesOf}
+use Rattle.app_definition_records.specs.declared.predecessors.Predecessor.{Predecessor}
 use Rattle.plan_store.specs.Noted.{AskedByOne, IsAsked}
 use Rattle.plan_tables_windows.specs.Asks.{AddsAsks}
 use Rattle.plan_tables_windows.proofs.AskLemmas.{AsksEntry, asks_entries, asks_more, no_entries}

@@ -1,6 +1,6 @@
 use Rattle.std.proofs.Common.{◌+◌, ◌++◌, ℕ, List}
-use Rattle.definition_records.specs.ByName.{AreEntriesOf}
-use Rattle.definition_records.specs.declared.predecessors.Predecessor.{Predecessor}
+use Rattle.app_definition_records.specs.ByName.{AreEntriesOf}
+use Rattle.app_definition_records.specs.declared.predecessors.Predecessor.{Predecessor}
 use Rattle.plan_store.specs.Noted.{AskedByOne}
 use Rattle.plan_tables_windows.specs.Asks.{AddsAsks}
 use Rattle.plan_tables_windows.proofs.AskLemmas.{AsksEntry}

@@ -1,6 +1,6 @@
 use Rattle.std.proofs.Common.{◌≡◌, ◌+◌, ◌++◌, ◌∷◌, ◌∙◌, List, [], take, sym, ap, subst, arith}
 use Rattle.std.proofs.lemmas.List.{take_all, take_more}
-use Rattle.definition_records.specs.declared.predecessors.Predecessor.{Predecessor}
+use Rattle.app_definition_records.specs.declared.predecessors.Predecessor.{Predecessor}
 use Rattle.plan_store.specs.Noted.{AskedByOne, IsAsked}
 use Rattle.plan_tables_windows.specs.Asks.{AddsAsks}
 use Rattle.plan_tables_windows.proofs.AskLemmas.{asks_more}

@@ -1,5 +1,5 @@
 use Rattle.std.proofs.Common.{◌+◌, take}
-use Rattle.definition_records.specs.declared.predecessors.Predecessor.{Predecessor}
+use Rattle.app_definition_records.specs.declared.predecessors.Predecessor.{Predecessor}
 use Rattle.plan_store.specs.Noted.{AskedByOne, IsAsked}
 use Rattle.plan_tables_windows.specs.Asks.{AddsAsks}
 use Rattle.plan_tables_windows.proofs.asks.add_named.Given as goal

@@ -1,7 +1,7 @@
 use Rattle.std.proofs.Common.{◌≡◌, ◌+◌, ◌++◌, ◌∷◌, ◌∙◌, ℕ, List, [], take, sym, ap, subst, arith}
 use Rattle.std.proofs.lemmas.List.{take_all, take_more}
 use Rattle.occurrences.specs.declared.place.Deletion.{Deletion}
-use Rattle.keyed_lists.specs.Rows.{of_deletion}
+use Rattle.plan_store_lists.specs.Rows.{of_deletion}
 use Rattle.plan_store.specs.Contents.{content_of}
 use Rattle.plan_tables_windows.specs.Unknown.{AddsUnsettled, IsSerialIn, is_settled_deletion}
 use Rattle.plan_tables_windows.proofs.UnknownLemmas.{adds_begin, adds_more}

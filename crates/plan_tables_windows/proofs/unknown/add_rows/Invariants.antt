@@ -1,5 +1,5 @@
 use Rattle.std.proofs.Common.{take}
-use Rattle.keyed_lists.specs.Rows.{of_row}
+use Rattle.plan_store_lists.specs.Rows.{of_row}
 use Rattle.plan_store.specs.Contents.{content_of}
 use Rattle.plan_tables_windows.specs.Unknown.{AddsUnsettled, IsSerialIn, is_settled}
 use Rattle.plan_tables_windows.proofs.unknown.add_rows.Given as goal

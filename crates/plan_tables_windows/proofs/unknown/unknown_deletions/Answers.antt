@@ -1,5 +1,5 @@
 use Rattle.std.proofs.Common.{ℕ, List, [], subst}
-use Rattle.keyed_lists.specs.Rows.{of_deletion}
+use Rattle.plan_store_lists.specs.Rows.{of_deletion}
 use Rattle.occurrences.specs.declared.place.Deletion.{Deletion}
 use Rattle.plan_store.specs.Contents.{content_of}
 use Rattle.plan_tables_windows.specs.Unknown.{AddsUnsettled, IsSerialIn, is_settled_deletion}

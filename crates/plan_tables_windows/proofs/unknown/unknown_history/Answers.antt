@@ -1,6 +1,6 @@
 use Rattle.std.proofs.Common.{ℕ, List, subst}
 use Rattle.external_dependencies.specs.declared.pairs.Pair.{Pair}
-use Rattle.keyed_lists.specs.Rows.{of_current, of_row}
+use Rattle.plan_store_lists.specs.Rows.{of_current, of_row}
 use Rattle.occurrences.specs.declared.place.CurrentRow.{CurrentRow}
 use Rattle.occurrences.specs.declared.row.Row.{Row}
 use Rattle.plan_store.specs.Contents.{content_of}

@@ -1,5 +1,5 @@
 use Rattle.std.proofs.Common.{◌∙◌, [], sym, subst, Err, Ok}
-use Rattle.definition_records.proofs.ByNameLemmas.{IfOk-map}
+use Rattle.app_definition_records.proofs.ByNameLemmas.{IfOk-map}
 use Rattle.occurrences.specs.declared.reply.Reply.TheVariants.{Rows}
 use Rattle.planner_machine.specs.Days.{ListsDays}
 use Rattle.planner_cli.specs.Outcomes.{answer_text, answering}

@@ -1,5 +1,5 @@
 use Rattle.std.proofs.Common.{◌∙◌, Some, ap, refl, sym, subst}
-use Rattle.definition_records.proofs.ByNameLemmas.{IfOk-map}
+use Rattle.app_definition_records.proofs.ByNameLemmas.{IfOk-map}
 use Rattle.planner_machine.specs.Content.{Content}
 use Rattle.daily_planning.specs.DailyPlans.{IsEndBy, plan_end_of}
 use Rattle.planner_cli.specs.Verdicts.{IsEnd}

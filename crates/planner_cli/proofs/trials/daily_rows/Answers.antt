@@ -1,4 +1,4 @@
-use Rattle.definition_records.proofs.ByNameLemmas.{IfOk-map}
+use Rattle.app_definition_records.proofs.ByNameLemmas.{IfOk-map}
 use Rattle.std.proofs.Common.{List, subst}
 use Rattle.plan_listings.specs.Report.{IsReport}
 use Rattle.plan_listings.specs.declared.report.Signed.{Signed}

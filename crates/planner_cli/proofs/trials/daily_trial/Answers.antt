@@ -1,4 +1,4 @@
-use Rattle.definition_records.proofs.ByNameLemmas.{IfOk-map}
+use Rattle.app_definition_records.proofs.ByNameLemmas.{IfOk-map}
 use Rattle.planner_cli.proofs.WindowLemmas.{lists_current}
 use Rattle.planner_cli.proofs.trials.daily_trial.Goals as goal
 

@@ -1,4 +1,4 @@
-use Rattle.definition_records.proofs.ByNameLemmas.{IfOk-map}
+use Rattle.app_definition_records.proofs.ByNameLemmas.{IfOk-map}
 use Rattle.planner_cli.proofs.trials.plan_trial.Goals as goal
 
 pub returns : goal.returns

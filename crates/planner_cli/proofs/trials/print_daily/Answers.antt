@@ -1,5 +1,5 @@
 use Rattle.std.proofs.Common.{[], Err, subst, sym}
-use Rattle.definition_records.proofs.ByNameLemmas.{IfOk-map}
+use Rattle.app_definition_records.proofs.ByNameLemmas.{IfOk-map}
 use Rattle.planner_cli.specs.Outcomes.{answering}
 use Rattle.planner_cli.specs.Changes.{daily_change}
 use Rattle.planner_cli.specs.Verdicts.{IsDone}

@@ -1,5 +1,5 @@
 use Rattle.std.proofs.Common.{[], Err}
-use Rattle.definition_records.proofs.ByNameLemmas.{IfOk-map}
+use Rattle.app_definition_records.proofs.ByNameLemmas.{IfOk-map}
 use Rattle.planner_cli.specs.Outcomes.{answering}
 use Rattle.planner_cli.specs.Changes.{plan_change}
 use Rattle.planner_cli.proofs.TrialServes.{plan_shown, trial_refused, trial_printed}

@@ -1,5 +1,5 @@
 use Rattle.std.proofs.Common.{sym}
-use Rattle.keyed_lists.specs.Rows.{of_current, of_deletion, of_row}
+use Rattle.plan_store_lists.specs.Rows.{of_current, of_deletion, of_row}
 use Rattle.plan_store.proofs.FittingLemmas.{last_test, of_items, refused}
 use Rattle.plan_store.proofs.contents.Content.admits.Goals as goal
 

@@ -1,6 +1,6 @@
 use Rattle.std.proofs.Common.{List, subst}
 use Rattle.external_dependencies.specs.declared.pairs.Pair.{Pair}
-use Rattle.keyed_lists.specs.Rows.{of_current, of_deletion, of_row}
+use Rattle.plan_store_lists.specs.Rows.{of_current, of_deletion, of_row}
 use Rattle.plan_store.specs.AppPairs.{AddsPairs}
 use Rattle.plan_store.specs.Contents.{content_of}
 use Rattle.plan_store.proofs.AppPairLemmas.{has_app_pairs, part_has}

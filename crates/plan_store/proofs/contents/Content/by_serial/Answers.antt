@@ -1,7 +1,7 @@
 use Rattle.std.proofs.Common.{◌≡◌, ◌∙◌, ◌++◌, Bor, ap, ap₂, map, rules}
 use Rattle.std.proofs.lemmas.List.Sorted.{answers_always}
 use Rattle.occurrences.specs.declared.row.Row.{Row}
-use Rattle.keyed_lists.specs.Rows.{of_current, of_deletion, of_row}
+use Rattle.plan_store_lists.specs.Rows.{of_current, of_deletion, of_row}
 use Rattle.plan_store.specs.Contents.{content_of}
 use Rattle.plan_store.specs.Parts.{with_rest}
 use Rattle.plan_store.proofs.SerialLemmas.{all_by_serial, all_rows, lists_set}

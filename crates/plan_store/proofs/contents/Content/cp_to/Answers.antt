@@ -3,7 +3,7 @@ use Rattle.std.specs.Prelude.{option_copied}
 use Rattle.occurrences.specs.Status.{status_letter}
 use Rattle.occurrences.specs.declared.place.CurrentRow.{CurrentRow}
 use Rattle.planner_machine.specs.Shown.{CurrentPlan}
-use Rattle.keyed_lists.specs.Rows.{of_current}
+use Rattle.plan_store_lists.specs.Rows.{of_current}
 use Rattle.plan_store.specs.Contents.{content_of}
 use Rattle.plan_store.specs.Listed.{ShowsSet}
 use Rattle.plan_store.specs.Listings.{ShowRows}

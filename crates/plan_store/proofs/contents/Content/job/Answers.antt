@@ -1,9 +1,9 @@
 use Rattle.std.proofs.Common.{◌∙◌, sym, ap}
 use Rattle.std.specs.FinMap.{nat_cmp-IsAntisymmetric}
 use Rattle.std.proofs.lemmas.Cmp.{nat_cmp_total}
-use Rattle.keyed_lists.proofs.KeyLemmas.{missed_all}
+use Rattle.plan_store_lists.proofs.KeyLemmas.{missed_all}
 use Rattle.plan_store.proofs.JobLemmas.{number_of, one_jobs}
-use Rattle.keyed_lists.proofs.LookLemmas.{look_at, look_lacks}
+use Rattle.plan_store_lists.proofs.LookLemmas.{look_at, look_lacks}
 use Rattle.plan_store.proofs.contents.Content.job.Goals as goal
 
 pub returns-in-Ok : goal.returns-in-Ok

@@ -1,7 +1,7 @@
 use Rattle.std.proofs.Common.{◌≡◌, List, ap}
 use Rattle.planner_machine.specs.Content.{Content}
 use Rattle.planner_machine.specs.declared.job.Job.{Job}
-use Rattle.keyed_lists.specs.Rows.{look_up}
+use Rattle.plan_store_lists.specs.Rows.{look_up}
 use Rattle.plan_store.specs.Contents.{content_of}
 use Rattle.plan_store.specs.Room.{no_jobs, with_job_set}
 use Rattle.plan_store.proofs.PartLemmas.{kept_jobs, kept_part}

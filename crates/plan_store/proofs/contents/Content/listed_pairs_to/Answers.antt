@@ -1,5 +1,5 @@
 use Rattle.std.proofs.Common.{refl}
-use Rattle.keyed_lists.specs.Rows.{of_deletion, of_row}
+use Rattle.plan_store_lists.specs.Rows.{of_deletion, of_row}
 use Rattle.plan_store.specs.Contents.{content_of}
 use Rattle.plan_store.specs.Parts.{rest_of}
 use Rattle.plan_store.proofs.AppPairLemmas.{has_own_ends}

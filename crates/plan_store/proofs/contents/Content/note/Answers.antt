@@ -1,5 +1,5 @@
-use Rattle.keyed_lists.specs.Rows.{of_current, of_deletion, of_row}
-use Rattle.keyed_lists.proofs.SeatLemmas.{seats_stay}
+use Rattle.plan_store_lists.specs.Rows.{of_current, of_deletion, of_row}
+use Rattle.plan_store_lists.proofs.SeatLemmas.{seats_stay}
 use Rattle.plan_store.proofs.contents.Content.note.Goals as goal
 
 pub invariant_of-self : goal.invariant_of-self

@@ -3,7 +3,7 @@ use Rattle.std.specs.List.{Contains}
 use Rattle.std.proofs.lemmas.List.{take_all, take_more}
 use Rattle.std.proofs.lemmas.List.Elements.{Contains-append_left, Contains-push, Contains-push_cases}
 use Rattle.external_dependencies.specs.declared.pairs.Pair.{Pair}
-use Rattle.keyed_lists.proofs.KeyLemmas.{nothing}
+use Rattle.plan_store_lists.proofs.KeyLemmas.{nothing}
 use Rattle.plan_store.specs.AppPairs.{with_others}
 use Rattle.plan_store.specs.Contents.{content_of}
 use Rattle.plan_store.specs.Listed.{row_at}

@@ -6,7 +6,7 @@ use Rattle.occurrences.specs.declared.place.Deletion.{Deletion}
 use Rattle.occurrences.specs.declared.row.Row.{Row}
 use Rattle.occurrences.specs.declared.status.Status.TheVariants.{C}
 use Rattle.planner_machine.specs.Shown.{InDeletions, InHistory}
-use Rattle.keyed_lists.specs.Rows.{of_deletion, of_row}
+use Rattle.plan_store_lists.specs.Rows.{of_deletion, of_row}
 use Rattle.plan_store.specs.Contents.{content_of}
 use Rattle.plan_store.specs.Listed.{ShowsSet}
 use Rattle.plan_store.specs.Listings.{ShowRows}

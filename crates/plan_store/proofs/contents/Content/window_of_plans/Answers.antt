@@ -1,4 +1,4 @@
-use Rattle.keyed_lists.specs.Rows.{of_deletion, of_row}
+use Rattle.plan_store_lists.specs.Rows.{of_deletion, of_row}
 use Rattle.plan_store.proofs.WindowLemmas.{no_rows, no_seats}
 use Rattle.plan_store.proofs.contents.Content.window_of_plans.Goals as goal
 

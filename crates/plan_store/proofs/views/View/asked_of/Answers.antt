@@ -1,7 +1,7 @@
 use Rattle.std.proofs.Common.{◌≡◌, true, sym, subst}
 use Rattle.external_dependencies.specs.declared.pairs.Pair.{Pair}
-use Rattle.keyed_lists.proofs.KeyLemmas.{contains_filter, filter_contains}
-use Rattle.keyed_lists.specs.Rows.{look_up}
+use Rattle.plan_store_lists.proofs.KeyLemmas.{contains_filter, filter_contains}
+use Rattle.plan_store_lists.specs.Rows.{look_up}
 use Rattle.plan_store.specs.Views.{asks_pairs, row_serial, shown}
 use Rattle.plan_store.proofs.views.View.asked_of.Goals as goal
 

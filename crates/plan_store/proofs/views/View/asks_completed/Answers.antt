@@ -1,8 +1,8 @@
 use Rattle.std.proofs.Common.{◌≡◌, ◌∙◌, Some, None, refl}
-use Rattle.keyed_lists.specs.Rows.{look_up}
+use Rattle.plan_store_lists.specs.Rows.{look_up}
 use Rattle.plan_store.specs.Views.{is_of_key, row_serial}
 use Rattle.plan_store.proofs.AskedLemmas.{some_kept}
-use Rattle.keyed_lists.proofs.LookLemmas.{look_at, look_lacks}
+use Rattle.plan_store_lists.proofs.LookLemmas.{look_at, look_lacks}
 use Rattle.plan_store.proofs.views.View.asks_completed.Goals as goal
 
 pub returns-in-Some : goal.returns-in-Some

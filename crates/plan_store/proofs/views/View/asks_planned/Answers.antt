@@ -1,9 +1,9 @@
 use Rattle.std.proofs.Common.{◌≡◌, ◌∙◌, Some, None, true, false, refl, sym}
 use Rattle.std.specs.Prelude.{is_some}
-use Rattle.keyed_lists.specs.Rows.{look_up, of_row}
+use Rattle.plan_store_lists.specs.Rows.{look_up, of_row}
 use Rattle.plan_store.specs.Views.{current_serial, is_asked, row_serial}
 use Rattle.plan_store.proofs.AskedLemmas.{some_kept}
-use Rattle.keyed_lists.proofs.LookLemmas.{look_at, look_lacks}
+use Rattle.plan_store_lists.proofs.LookLemmas.{look_at, look_lacks}
 use Rattle.plan_store.proofs.ViewLemmas.{found_is}
 use Rattle.plan_store.proofs.views.View.asks_planned.Goals as goal
 

@@ -1,5 +1,5 @@
 use Rattle.std.proofs.Common.{◌⊎◌, refl}
-use Rattle.keyed_lists.specs.Rows.{of_current, of_row}
+use Rattle.plan_store_lists.specs.Rows.{of_current, of_row}
 use Rattle.plan_store.specs.Arrivals.{IsGreatestOf, arrives, arrives_live}
 use Rattle.plan_store.specs.Views.{with_hidden}
 use Rattle.plan_store.proofs.ArrivalLemmas.{greatest_later, last_is, part_of}

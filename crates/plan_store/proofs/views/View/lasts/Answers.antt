@@ -1,4 +1,4 @@
-use Rattle.keyed_lists.specs.Rows.{of_row}
+use Rattle.plan_store_lists.specs.Rows.{of_row}
 use Rattle.plan_store.proofs.ViewLemmas.{lists_all}
 use Rattle.plan_store.proofs.views.View.lasts.Goals as goal
 

@@ -1,6 +1,6 @@
 use Rattle.std.proofs.Common.{◌≡◌}
 use Rattle.occurrences.specs.declared.row.Row.{Row}
-use Rattle.keyed_lists.specs.Rows.{of_row}
+use Rattle.plan_store_lists.specs.Rows.{of_row}
 use Rattle.plan_store.proofs.ViewLemmas.{lists_part}
 use Rattle.plan_store.proofs.views.View.lasts_of.Goals as goal
 

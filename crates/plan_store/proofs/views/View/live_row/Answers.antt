@@ -1,7 +1,7 @@
 use Rattle.occurrences.specs.declared.row.Row.{Row}
 use Rattle.plan_store.specs.Views.{shown, with_hidden}
 use Rattle.plan_store.proofs.ArrivalLemmas.{unshown_key}
-use Rattle.keyed_lists.proofs.LookLemmas.{look_has, look_some}
+use Rattle.plan_store_lists.proofs.LookLemmas.{look_has, look_some}
 use Rattle.plan_store.proofs.PlaceLemmas.{live_none, stands_cp, stands_history, stands_ltp}
 use Rattle.plan_store.proofs.views.View.live_row.Goals as goal
 

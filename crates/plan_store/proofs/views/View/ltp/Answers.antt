@@ -1,6 +1,6 @@
 use Rattle.std.proofs.Common.{refl}
 use Rattle.plan_store.specs.Views.{with_hidden}
-use Rattle.keyed_lists.specs.Rows.{of_row}
+use Rattle.plan_store_lists.specs.Rows.{of_row}
 use Rattle.plan_store.proofs.ViewLemmas.{lists_all, once_from_rows, size_listed, within_ltp}
 use Rattle.plan_store.proofs.views.View.ltp.Goals as goal
 

@@ -1,8 +1,8 @@
 use Rattle.std.proofs.Common.{◌≡◌, ◌∙◌, true, sym, subst}
 use Rattle.std.proofs.lemmas.Bool.{false≢true}
 use Rattle.external_dependencies.specs.declared.pairs.Pair.{Pair}
-use Rattle.keyed_lists.proofs.KeyLemmas.{contains_filter, nothing}
-use Rattle.keyed_lists.specs.Rows.{look_up}
+use Rattle.plan_store_lists.proofs.KeyLemmas.{contains_filter, nothing}
+use Rattle.plan_store_lists.specs.Rows.{look_up}
 use Rattle.plan_store.specs.Views.{asks_pairs, row_serial, shown}
 use Rattle.plan_store.proofs.views.View.pairs_of_successor.Goals as goal
 

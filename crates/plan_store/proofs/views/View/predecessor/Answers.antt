@@ -1,7 +1,7 @@
 use Rattle.std.proofs.Common.{◌∙◌, sym}
 use Rattle.occurrences.specs.declared.place.CurrentRow.{CurrentRow}
 use Rattle.plan_store.specs.Views.{row_serial, with_hidden}
-use Rattle.keyed_lists.proofs.LookLemmas.{look_at, look_lacks}
+use Rattle.plan_store_lists.proofs.LookLemmas.{look_at, look_lacks}
 use Rattle.plan_store.proofs.PlaceLemmas.{stands_cp, stands_history, stands_ltp}
 use Rattle.plan_store.proofs.views.View.predecessor.Goals as goal
 

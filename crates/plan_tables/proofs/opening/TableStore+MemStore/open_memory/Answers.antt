@@ -1,8 +1,8 @@
 use Rattle.std.proofs.Common.{refl, subst, sym, true}
 use Rattle.sqlite_trees.proofs.Doubt.{no_doubt}
-use Rattle.table_schema.specs.Free.{IsFree}
-use Rattle.table_schema.proofs.MadeLemmas.{nothing_is_free}
-use Rattle.table_schema.proofs.ResultLemmas.{if_ok}
+use Rattle.plan_tables_schema.specs.Free.{IsFree}
+use Rattle.plan_tables_schema.proofs.MadeLemmas.{nothing_is_free}
+use Rattle.plan_tables_schema.proofs.ResultLemmas.{if_ok}
 use Rattle.plan_tables.proofs.UnopenedLemmas.{only_memory}
 use Rattle.plan_tables.proofs.opening.TableStore+MemStore.open_memory.Goals as goal
 

@@ -2,8 +2,8 @@ use Rattle.std.proofs.Common.{subst, sym}
 use Rattle.sqlite.specs.Held.{state}
 use Rattle.sqlite.specs.State.{HasCleanDisk, Survives}
 use Rattle.plan_store.specs.Contents.{content_of}
-use Rattle.table_opening.specs.Opened.{MakesFirst}
-use Rattle.table_opening.specs.Opening.{IsOpened}
+use Rattle.plan_tables_opening.specs.Opened.{MakesFirst}
+use Rattle.plan_tables_opening.specs.Opening.{IsOpened}
 use Rattle.plan_tables.specs.Kept.{kept_in}
 use Rattle.plan_tables.proofs.StoredLemmas.{leaves_one}
 use Rattle.plan_tables.proofs.table_store.TableStore.adopt.Goals as goal

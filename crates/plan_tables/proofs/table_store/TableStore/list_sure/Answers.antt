@@ -8,7 +8,7 @@ use Rattle.plan_store.specs.Contents.{content_of}
 use Rattle.plan_store.specs.Faults.{MoreFailures}
 use Rattle.plan_store.specs.Listings.{HandsAll, HandsPart, IsListing}
 use Rattle.plan_store.specs.declared.listings.ListFault.TheVariants.{Device}
-use Rattle.table_schema.specs.Rows.{tables_of}
+use Rattle.plan_tables_schema.specs.Rows.{tables_of}
 use Rattle.plan_tables_windows.specs.Gathering.{told_rest}
 use Rattle.plan_tables.specs.Kept.{CanRead, kept_in}
 use Rattle.plan_tables.specs.Listing.{what_of}

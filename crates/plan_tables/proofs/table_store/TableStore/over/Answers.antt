@@ -4,7 +4,7 @@ use Rattle.sqlite.specs.Held.{state}
 use Rattle.planner_machine.specs.Sound.{IsSound}
 use Rattle.plan_store.specs.Contents.{content_of}
 use Rattle.plan_store.specs.Parts.{IsPartOf, Rest}
-use Rattle.table_opening.specs.Opened.{IsStored}
+use Rattle.plan_tables_opening.specs.Opened.{IsStored}
 use Rattle.plan_tables.proofs.StoredLemmas.{kept_part, stored_sound, told_kept}
 use Rattle.plan_tables.proofs.table_store.TableStore.over.Goals as goal
 

@@ -1,5 +1,5 @@
 use Rattle.sqlite.specs.Held.{state}
-use Rattle.table_opening.proofs.OpeningLemmas.{unmade_when}
+use Rattle.plan_tables_opening.proofs.OpeningLemmas.{unmade_when}
 use Rattle.plan_tables.proofs.table_store.TableStore.over_connection.Goals as goal
 
 pub returns-in-Err-clause-unmade : goal.returns-in-Err-clause-unmade

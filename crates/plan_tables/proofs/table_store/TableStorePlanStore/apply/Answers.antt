@@ -16,7 +16,7 @@ use Rattle.plan_store.specs.declared.stores.StoreFault.{StoreFault}
 use Rattle.plan_store.specs.declared.stores.StoreFault.TheVariants.{Device, Memory}
 use Rattle.plan_store.specs.declared.contents.Content.{Content as Kept}
 use Rattle.plan_tables_windows.specs.Changes.{KnowsNamed}
-use Rattle.table_schema.specs.Rows.{tables_of}
+use Rattle.plan_tables_schema.specs.Rows.{tables_of}
 use Rattle.plan_tables_windows.specs.Gathering.{told_rest}
 use Rattle.plan_tables.specs.Causes.{CountsOn}
 use Rattle.plan_tables.specs.Kept.{CanRead, LooksOn, kept_in}

@@ -1,0 +1,129 @@
+ghost use Rattle.std.specs.Prelude.{◌≡◌, ◌↔◌, Contains, IfOk, IsTrue, map};
+ghost use Rattle.std.specs.Cmp.Lexicographic.{slice_cmp};
+ghost use Rattle.std.specs.FinMap.{IsAntisymmetric};
+ghost use Rattle.std.specs.Ordering.{nat_cmp};
+ghost use Rattle.occurrences.specs.declared.row.Row.{Row as RowValue};
+ghost use Rattle.external_dependencies.specs.Rising.{IsRising};
+ghost use Rattle.external_dependencies.specs.Touch.{IsMoved};
+ghost use Rattle.external_dependencies.specs.declared.links.Link.{Link as LinkValue};
+ghost use Rattle.plan_store.specs.Views.{shown};
+ghost use Rattle.plan_store_pairs.specs.ByApplications.{AreGathered, HasReached};
+
+use crate::listing::{push_current, push_rows};
+use external_dependencies::{Link, Links, Rows, Touch};
+use occurrences::{Place, Row};
+use plan_store::View;
+use std::alloc::{AllocError, Global};
+use work_calendars::App;
+
+/// The applications whose rows hold what a change reaches: those with rows that were made or withdrawn, those whose
+/// lists changed, those whose lists name one with such rows, and all that the lists of these name. Looks at each link
+/// twice.
+pub fn reached_apps(alloc: Global, links: &Links, touch: &Touch) -> Result<Vec<App>, AllocError>
+    ensures { IfOk result (λ apps. HasReached touch.now links.now apps.items) }
+{
+    let touched = in_order(moved_apps(alloc, touch)?);
+    let mut reached = naming_apps(alloc, links.as_slice(), &touched)?;
+    reached.extend_from_slice(&touched)?;
+    reached.extend_from_slice(&touch.lists)?;
+    let reached = in_order(reached);
+    let mut apps = named_apps(alloc, links.as_slice(), &reached)?;
+    apps.extend_from_slice(&reached)?;
+    Ok(in_order(apps))
+}
+
+// The applications of the rows that were made or withdrawn.
+fn moved_apps(alloc: Global, touch: &Touch) -> Result<Vec<App>, AllocError>
+    ensures { IfOk result (λ apps. (row : RowValue) → IsMoved touch.now row
+        → Contains apps.items row.key.app) }
+{
+    let mut apps = apps_of(alloc, &touch.made)?;
+    let more = apps_of(alloc, &touch.withdrawn)?;
+    apps.extend_from_slice(&more)?;
+    Ok(apps)
+}
+
+// The applications of rows.
+fn apps_of(alloc: Global, rows: &[Row]) -> Result<Vec<App>, AllocError>
+    ensures { IfOk result (λ apps.
+        apps.items ≡ map (λ (row : RowValue). row.key.app) rows.now) }
+{
+    rows.iter().map(|row| row.key.app).collect(alloc)
+}
+
+// The applications whose lists name one of these, which rise.
+fn naming_apps(alloc: Global, links: &[Link], apps: &[App]) -> Result<Vec<App>, AllocError>
+    ensures { IsRising (slice_cmp nat_cmp) apps.now → IfOk result (λ naming. (link : LinkValue)
+        → Contains links.now link → Contains apps.now link.predecessor
+        → Contains naming.items link.app) }
+{
+    let mut naming = Vec::new(alloc);
+    for link in links {
+        if has_app(apps, &link.predecessor) {
+            naming.push(link.app)?;
+        }
+    }
+    Ok(naming)
+}
+
+// The applications that the lists of these name, which rise.
+fn named_apps(alloc: Global, links: &[Link], apps: &[App]) -> Result<Vec<App>, AllocError>
+    ensures { IsRising (slice_cmp nat_cmp) apps.now → IfOk result (λ named. (link : LinkValue)
+        → Contains links.now link → Contains apps.now link.app
+        → Contains named.items link.predecessor) }
+{
+    let mut named = Vec::new(alloc);
+    for link in links {
+        if has_app(apps, &link.app) {
+            named.push(link.predecessor)?;
+        }
+    }
+    Ok(named)
+}
+
+// Whether the application is one of these, which rise.
+fn has_app(apps: &[App], app: &App) -> bool
+    ensures { IsRising (slice_cmp nat_cmp) apps.now → IsTrue result ↔ Contains apps.now app.now }
+{
+    apps.binary_search(app).is_ok()
+}
+
+// The items in rising order, each once.
+fn in_order<T: Ord + Copy>(mut items: Vec<T>) -> Vec<T>
+    requires { IsAntisymmetric T.cmp }
+    ensures rising { IsRising T.cmp result.items }
+    ensures same { (x : T) → Contains result.items x ↔ Contains items.items x }
+{
+    items.sort_unstable();
+    items.dedup();
+    items
+}
+
+/// Whether these applications have at most half of the live rows, so that listing their rows apart is worth while.
+pub fn are_few(view: &View<'_>, apps: &[App]) -> bool {
+    let all = view.ltp().len() + view.cp().len() + view.lasts().len();
+    let mut count: usize = 0;
+    for app in apps {
+        let rows = view.ltp_of(app).len() + view.cp_of(app).len() + view.lasts_of(app).len();
+        count = count.saturating_add(rows);
+    }
+    count <= all / 2
+}
+
+/// The live occurrences of these applications, where these rows of them are the long-term plan's.
+pub fn live_rows_of(
+    alloc: Global,
+    view: &View<'_>,
+    apps: &[App],
+    planned: &[Row],
+) -> Result<Rows, AllocError>
+    ensures { IfOk result (λ rows. AreGathered (shown view.now).sets apps.now planned.now rows) }
+{
+    let mut rows = Vec::new(alloc);
+    push_rows(&mut rows, planned, Place::LongTerm)?;
+    for app in apps {
+        push_current(&mut rows, view.cp_of(app))?;
+        push_rows(&mut rows, view.lasts_of(app), Place::History)?;
+    }
+    Ok(Rows::from_vec(rows))
+}

@@ -1,0 +1,30 @@
+ghost use Rattle.std.specs.Prelude.{List, IfOk};
+ghost use Rattle.external_dependencies.specs.Reached.{HoldsReached};
+ghost use Rattle.external_dependencies.specs.declared.links.Link.{Link as LinkValue};
+ghost use Rattle.external_dependencies.specs.declared.pairs.Pair.{Pair as PairValue};
+ghost use Rattle.external_dependencies.specs.declared.rows.PlacedRow.{PlacedRow as PlacedValue};
+ghost use Rattle.planner_machine.specs.Content.{Sets};
+ghost use Rattle.planner_machine.specs.Pairs.{ArePairs};
+ghost use Rattle.plan_store.specs.Changes.{LeadsOn, pairs_after};
+ghost use Rattle.plan_store_pairs.specs.Turns.{IsTurn};
+
+use external_dependencies::{Links, PairChange, Pairs, Rows, Touch, resolve_touched};
+use std::alloc::{AllocError, Global};
+
+/// What leads from the pairs before a statement to those after it, and no more. The touch names all that the statement
+/// touches; the rows, and of the pairs before it these, hold what it reaches.
+pub fn pair_change(
+    alloc: Global,
+    pairs: &Pairs,
+    rows: &Rows,
+    links: &Links,
+    touch: &Touch,
+) -> Result<PairChange, AllocError>
+    ensures { IfOk result (λ change. (s s' : Sets) (was_links : List LinkValue)
+        (now : List PlacedValue) (old : List PairValue) → ArePairs old was_links s old
+        → IsTurn s s' was_links links.now touch.now now
+        → HoldsReached touch.now links.now now old rows.now pairs.now
+        → ArePairs old links.now s' (pairs_after change old) × LeadsOn old change) }
+{
+    resolve_touched(alloc, rows, links, pairs, touch)
+}

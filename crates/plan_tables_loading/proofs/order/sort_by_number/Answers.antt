@@ -1,0 +1,8 @@
+use Rattle.std.proofs.Common.{rules}
+use Rattle.std.proofs.lemmas.List.Sorted.{IsNonDecreasingBy-from_sort_by_key}
+use Rattle.plan_tables_loading.proofs.order.sort_by_number.Goals as goal
+
+pub returns-clause-sorted : goal.returns-clause-sorted
+returns-clause-sorted g c =
+    IsNonDecreasingBy-from_sort_by_key g.X.Numbered.number_of _ c.sort_unstable_by_key.ensures.sorted
+    (λ a r q k. search rules)

@@ -1,0 +1,155 @@
+// What moves in the tables of occurrences, pairs and links.
+
+ghost use Rattle.std.specs.Prelude.{◌≡◌, IfOk, Some, ⊤};
+ghost use Rattle.plan_tables_writing.specs.Taking.{AreKeysOf, TakesLinks, TakesMoves, TakesPairs};
+ghost use Rattle.plan_tables_writing.specs.Taking.{TakesRows, WritesTaking};
+ghost use Rattle.plan_tables_writing.specs.Writing.{AreStorable, StandAlone, moved_in, rows_moved, pairs_moved};
+ghost use Rattle.external_dependencies.specs.Pair.{pair_cmp};
+ghost use Rattle.external_dependencies.specs.Rising.{IsRising};
+ghost use Rattle.plan_store.specs.Changes.{is_among};
+ghost use Rattle.plan_tables_writing.specs.Writing.{beside, holds_link, links_moved, links_replaced, standing};
+
+use crate::facts::Fact;
+use crate::loops::{put_each, take_each};
+use crate::steps::{PutEach, Step, TakeEach};
+use external_dependencies::{Link, Links, Pair, PairChange};
+use plan_store::{Change, Moves};
+use plan_store_lists::has_key;
+use plan_tables_schema::Table;
+use sqlite::{Alter, Error, Transaction};
+use std::alloc::{AllocError, Global};
+
+// Makes the moves in the table of a set.
+fn write_moves<R: Fact, S: Alter>(
+    tx: &mut Transaction<'_, S>,
+    table: Table,
+    moves: &Moves<R>,
+) -> Result<(), Error>
+    ensures { WritesTaking (λ _. AreStorable table R.values × StandAlone table)
+        (λ all. (AreKeysOf table R.key × StandAlone table)
+        × TakesMoves table R.values R.key moves.now all)
+        S.Store tx.old tx.new result
+        (moved_in table R.values R.key moves.now) }
+{
+    let gone = TakeEach {
+        table,
+        facts: &moves.gone,
+    };
+    let old = TakeEach {
+        table,
+        facts: &moves.changed,
+    };
+    let new = PutEach {
+        table,
+        facts: &moves.changed,
+    };
+    let put = PutEach {
+        table,
+        facts: &moves.put,
+    };
+    (((gone, old), new), put).run(tx)
+}
+
+/// Makes the moves of a change in the four tables of occurrences.
+#[tactic(auto, using(crate::proofs::KindLemmas::kinds))]
+pub(crate) fn write_rows<S: Alter>(
+    tx: &mut Transaction<'_, S>,
+    change: &Change,
+) -> Result<(), Error>
+    ensures { WritesTaking (λ _. ⊤) (TakesRows change.now) S.Store tx.old tx.new result
+        (rows_moved change.now) }
+{
+    write_moves(tx, Table::LongTerm, &change.ltp)?;
+    write_moves(tx, Table::Current, &change.cp)?;
+    write_moves(tx, Table::History, &change.history)?;
+    write_moves(tx, Table::Deletion, &change.deletions)
+}
+
+// Whether the pair is one of these.
+fn has_pair(pairs: &[Pair], pair: &Pair) -> bool
+    ensures { IsRising pair_cmp pairs.now → result ≡ is_among pairs.now pair.now }
+{
+    has_key(pairs, pair)
+}
+
+// Those of the added pairs that are among these.
+fn standing(alloc: Global, pairs: &[Pair], added: &[Pair]) -> Result<Vec<Pair>, AllocError>
+    requires { IsRising pair_cmp pairs.now }
+    ensures { IfOk result (λ found. found.items ≡ standing pairs.now added.now) }
+{
+    added
+        .iter()
+        .copied()
+        .filter(|pair| has_pair(pairs, pair))
+        .collect(alloc)
+}
+
+/// Makes a change of the pairs. Added pairs that are already there are deleted first; usually there are none.
+#[tactic(auto, using(crate::proofs::KindLemmas::kinds))]
+pub(crate) fn write_pairs<S: Alter>(
+    tx: &mut Transaction<'_, S>,
+    alloc: Global,
+    old: &[Pair],
+    change: &PairChange,
+) -> Result<(), Error>
+    requires { IsRising pair_cmp old.now }
+    ensures { WritesTaking (λ _. ⊤) (TakesPairs old.now change.now) S.Store tx.old tx.new result
+        (pairs_moved old.now change.now) }
+{
+    let there = standing(alloc, old, change.added.as_slice())?;
+    take_each(tx, Table::Dependency, change.removed.as_slice())?;
+    take_each(tx, Table::Dependency, &there)?;
+    put_each(tx, Table::Dependency, change.added.as_slice())
+}
+
+// Whether the link is one of these, with the same limit.
+fn has_link(links: &Links, link: &Link) -> bool
+    ensures { result ≡ holds_link links.now link.now }
+{
+    links.contains(link)
+}
+
+// Those of the links that the others lack; a link with another limit is another.
+fn links_beside(alloc: Global, others: &Links, links: &Links) -> Result<Vec<Link>, AllocError>
+    ensures { IfOk result (λ found. found.items ≡ beside others.now links.now) }
+{
+    links
+        .as_slice()
+        .iter()
+        .copied()
+        .filter(|link| !has_link(others, link))
+        .collect(alloc)
+}
+
+// Replaces the lists in force: deletes the links that are no longer there, and inserts the new ones. A link whose
+// limit changed is deleted before it is inserted, because the table has at most one row of its names.
+fn replace_links<S: Alter>(
+    tx: &mut Transaction<'_, S>,
+    alloc: Global,
+    old: &Links,
+    new: &Links,
+) -> Result<(), Error>
+    ensures { WritesTaking (λ _. ⊤) (TakesLinks old.now (Some new.now)) S.Store tx.old tx.new result
+        (links_replaced old.now new.now) }
+{
+    let gone = links_beside(alloc, new, old)?;
+    let come = links_beside(alloc, old, new)?;
+    take_each(tx, Table::LinkInForce, &gone)?;
+    put_each(tx, Table::LinkInForce, &come)
+}
+
+/// Puts new lists in force in place of the old ones, if there are any.
+pub(crate) fn write_links<S: Alter>(
+    tx: &mut Transaction<'_, S>,
+    alloc: Global,
+    old: &Links,
+    new: &Option<Links>,
+) -> Result<(), Error>
+    ensures { WritesTaking (λ _. ⊤) (TakesLinks old.now new.now) S.Store tx.old tx.new result
+        (links_moved old.now new.now) }
+{
+    match new {
+        None => Ok(()),
+        Some(new) => replace_links(tx, alloc, old, new),
+    }
+}

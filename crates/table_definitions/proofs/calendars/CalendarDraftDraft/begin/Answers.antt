@@ -1,7 +1,0 @@
-use Rattle.std.proofs.Common.{subst}
-use Rattle.table_facts.specs.Facts.{IsCalendarRow}
-use Rattle.table_definitions.proofs.DraftLemmas.{no_entry}
-use Rattle.table_definitions.proofs.calendars.CalendarDraftDraft.begin.Goals as goal
-
-pub returns : goal.returns
-returns c name v is = no_entry name v (subst (λ l. IsCalendarRow name l v) c.new.ensures is)

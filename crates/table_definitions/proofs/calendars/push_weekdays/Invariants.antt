@@ -1,6 +1,0 @@
-use Rattle.table_definitions.specs.Adding.{Adds, IsUpTo}
-use Rattle.table_definitions.specs.Parts.{IsWeekdayRow}
-use Rattle.table_definitions.proofs.calendars.push_weekdays.Given as goal
-
-abbrev pub invariant-loop-place : goal.invariant-loop-place
-invariant-loop-place l = Adds 3 (IsUpTo (IsWeekdayRow l.name l.calendar) l.place) l.fn.rows.items l.rows.items

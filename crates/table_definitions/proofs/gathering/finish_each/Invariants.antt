@@ -1,7 +1,0 @@
-use Rattle.std.proofs.Common.{take}
-use Rattle.table_definitions.specs.Gathering.{IsGathered, Paired}
-use Rattle.table_definitions.proofs.gathering.finish_each.Given as goal
-
-abbrev pub invariant-loop-draft : goal.invariant-loop-draft
-invariant-loop-draft g l = Paired (λ name x d. IsGathered g.D.Draft.IsRow g.D.Draft.IsRead g.D.Draft.IsTold name x d)
-    (take l.draft-index l.drafts) l.entries.items

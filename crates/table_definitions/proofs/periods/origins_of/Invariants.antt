@@ -1,6 +1,0 @@
-use Rattle.std.proofs.Common.{◌≡◌, map, take}
-use Rattle.table_definitions.specs.DraftedPeriods.{listed_entry}
-use Rattle.table_definitions.proofs.periods.origins_of.Given as goal
-
-abbrev pub invariant-loop-entry : goal.invariant-loop-entry
-invariant-loop-entry l = map listed_entry l.origins.items ≡ take l.entry-index l.entries

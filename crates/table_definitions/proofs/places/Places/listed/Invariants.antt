@@ -1,5 +1,0 @@
-use Rattle.table_definitions.proofs.PlaceLemmas.{AreFirst}
-use Rattle.table_definitions.proofs.places.Places.listed.Given as goal
-
-abbrev pub invariant-loop-place : goal.invariant-loop-place
-invariant-loop-place g l = AreFirst l.xs.items l.place l.self

@@ -1,5 +1,0 @@
-use Rattle.table_facts.proofs.OneContent.{one_content}
-use Rattle.table_facts.proofs.tables_have_one_content.Goals as goal
-
-pub returns : goal.returns
-returns c = one_content c.rising_is_unique.ensures.pairs c.rising_is_unique.ensures.links

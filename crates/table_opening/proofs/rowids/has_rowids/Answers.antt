@@ -1,8 +1,0 @@
-use Rattle.sqlite.specs.Held.{state}
-use Rattle.table_schema.specs.Rows.{tables_of}
-use Rattle.table_opening.proofs.rowids.has_rowids.Goals as goal
-
-pub returns-clause-told : goal.returns-clause-told
-returns-clause-told g c clean has =
-    c.are_rowids.ensures (tables_of (state g.S.Store c.args.conn.now).now.trees c.args.table)
-    (c.in_ok-rows.ensures.rows clean has)

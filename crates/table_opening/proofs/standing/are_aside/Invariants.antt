@@ -1,6 +1,0 @@
-use Rattle.table_schema.specs.Free.{IsAsideOf}
-use Rattle.std.specs.List.{AllWithin}
-use Rattle.table_opening.proofs.standing.are_aside.Given as goal
-
-abbrev pub invariant-loop-reference : goal.invariant-loop-reference
-invariant-loop-reference l = AllWithin (IsAsideOf l.tables) l.child.references 0 l.reference-index

@@ -1,6 +1,0 @@
-use Rattle.table_opening.specs.Standing.{IsThere}
-use Rattle.std.specs.List.{AllWithin}
-use Rattle.table_opening.proofs.standing.are_there.Given as goal
-
-abbrev pub invariant-loop-table : goal.invariant-loop-table
-invariant-loop-table l = AllWithin (IsThere l.tables) l.made 0 l.table-index

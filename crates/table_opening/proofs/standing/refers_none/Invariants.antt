@@ -1,6 +1,0 @@
-use Rattle.table_schema.specs.Free.{AreAside}
-use Rattle.std.specs.List.{AllWithin}
-use Rattle.table_opening.proofs.standing.refers_none.Given as goal
-
-abbrev pub invariant-loop-child : goal.invariant-loop-child
-invariant-loop-child l = AllWithin (AreAside l.made) l.tables 0 l.child-index

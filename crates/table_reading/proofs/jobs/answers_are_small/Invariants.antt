@@ -1,7 +1,0 @@
-use Rattle.std.specs.List.{AllWithin}
-use Rattle.planner_machine.specs.declared.job.Job.{Job}
-use Rattle.table_facts.specs.Content.{IsSmall}
-use Rattle.table_reading.proofs.jobs.answers_are_small.Given as goal
-
-abbrev pub invariant-loop-job : goal.invariant-loop-job
-invariant-loop-job l = AllWithin (λ (job : Job). IsSmall job.reply) l.jobs 0 l.job-index

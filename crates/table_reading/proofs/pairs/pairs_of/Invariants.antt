@@ -1,6 +1,0 @@
-use Rattle.std.proofs.Common.{◌≡◌, map, take}
-use Rattle.table_reading.specs.Rowids.{pair_of}
-use Rattle.table_reading.proofs.pairs.pairs_of.Given as goal
-
-abbrev pub invariant-loop-row : goal.invariant-loop-row
-invariant-loop-row l = l.pairs.items ≡ map pair_of (take l.row-index l.told)

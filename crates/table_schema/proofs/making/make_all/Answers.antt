@@ -1,5 +1,0 @@
-use Rattle.table_schema.proofs.MakingLemmas.{makes_whole}
-use Rattle.table_schema.proofs.making.make_all.Goals as goal
-
-pub returns : goal.returns
-returns g c = makes_whole c.make_each.ensures
