@@ -8,9 +8,9 @@ use crate::arguments::Arguments;
 use crate::values::arguments_in;
 use crate::{
     ChangeStatement, DailyFunction, FunctionWord, KindWord, PlanFunction, Statement, Verb,
+    is_line_text, words_in,
 };
 use occurrences::{Action, Key};
-use crate::{is_line_text, words_in};
 use std::alloc::{AllocError, Global};
 use work_calendars::{LONGEST_SHORT_NAME, Name};
 

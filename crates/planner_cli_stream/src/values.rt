@@ -7,8 +7,7 @@ ghost use Rattle.planner_cli_stream.specs.Arguments.{HasArguments};
 
 use crate::arguments::Arguments;
 use crate::extension_days::days_from_text;
-use crate::{CountWord, FunctionWord, JobNumber, KindWord, WhatWord};
-use crate::Values;
+use crate::{CountWord, FunctionWord, JobNumber, KindWord, Values, WhatWord};
 use work_calendars::{App, Day, Moment, Name};
 
 /// All values that have their forms.
