@@ -101,7 +101,7 @@ def parser_of(name: str) -> words.Parser:
 
 
 def meant_text(word: str) -> str:
-    """` (is NAME meant?)` of a word that is no subcommand, where it is like one or another name for one; else
+    """` (did you mean NAME?)` of a word that is no subcommand, where it is like one or another name for one; else
     nothing."""
     from opcplan.rules import naming_words
 

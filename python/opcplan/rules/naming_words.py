@@ -54,7 +54,7 @@ def few(texts: Iterable[str], most: int = SHOWN) -> str:
 
 
 def meant_text(name: str, names: Iterable[str]) -> str:
-    """` (is NAME meant?)` where a known name is like one, else nothing."""
+    """` (did you mean NAME?)` where a known name is like one, else nothing."""
     found = difflib.get_close_matches(name, list(names), 1)
     return f" (did you mean {found[0]}?)" if found else ""
 

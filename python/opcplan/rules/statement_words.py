@@ -205,6 +205,6 @@ def cut(text: str, most: int = 40) -> str:
 
 
 def near(text: str, known: Iterable[str], before: str = "") -> str:
-    """` (is NAME meant?)` where a known word is like the text, else nothing."""
+    """` (did you mean NAME?)` where a known word is like the text, else nothing."""
     found = difflib.get_close_matches(text.lower(), list(known), 1)
     return f" (did you mean `{before}{found[0]}`?)" if found else ""
