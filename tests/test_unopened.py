@@ -166,9 +166,11 @@ class Unopened(unittest.TestCase):
             self.assertEqual(expected.of_file(path), whole)
 
     def test_the_pages_say_so(self):
-        for name in ("rules/TABLES.md", "use/GUIDE.md"):
+        for name, sentence in (("rules/TABLES.md", "A damaged log is served as an earlier plan, without a word"),
+                               ("use/GUIDE.md", "If the log is damaged, a run goes on from an earlier state of the plan"
+                                                " and reports nothing")):
             page = (plans.TOP / "docs" / name).read_text(encoding="utf-8")
-            self.assertTrue("damaged log is served as an earlier plan, without a word" in page, name)
+            self.assertTrue(sentence in page, name)
         for name in ("rules/TABLES.md", "use/GUIDE.md", "rules/REFUSALS.md"):
             for line in (plans.TOP / "docs" / name).read_text(encoding="utf-8").splitlines():
                 if re.search("(take|to) the (last )?backup", line):

@@ -198,7 +198,7 @@ class Weekend(desks.Case):
         entries = [json.loads(line) for line in self.served.asked("GET", "/journal")[2].splitlines()]
         self.check_runs(entries)
         self.check_calls()
-        self.assertEqual(said.getvalue().count("the agent tries again"), 1, said.getvalue())
+        self.assertEqual(said.getvalue().count("the watch tries again"), 1, said.getvalue())
         self.end(self.served)
 
     def check_runs(self, entries):
