@@ -471,7 +471,9 @@ class Watches(desks.Case):
         for words, status, reason in (
             (["--rules", self.rules], 2, "give --desk DESK"),
             (["--desk", "x y", "--rules", self.rules, "--once"], 2, "doesn't name a desk"),
-            (["--desk", "/x", "--rules", self.room / "nothing"], 1, "it can't be read: No such file"),
+            (["--desk", "/x", "--rules", self.room / "nothing"], 1,
+             "nothing: there is no such file; docs/use/MONITORING.md has an example"),
+            (["--desk", "/x", "--rules", self.room], 1, "it can't be read: Is a directory"),
             (["--desk", "/x", "--rules", self.plan], 2, "isn't text in UTF-8"),
             (["--desk", "/x", "--rules", self.rules, "--every", "0"], 2, "is not a number of seconds"),
             (["--desk", "/x", "--rules", self.rules, "--state", self.room / "no" / "x"], 1,

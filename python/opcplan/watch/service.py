@@ -201,6 +201,8 @@ def rules_of(path: str) -> Rulebook:
     try:
         with open(path, encoding="utf-8") as file:
             return rulebook.of_text(file.read(MOST_BYTES))
+    except FileNotFoundError:
+        raise WatchNotStarted(f"watch: {path}: there is no such file; docs/use/MONITORING.md has an example") from None
     except OSError as error:
         raise WatchNotStarted(f"watch: {path}: it can't be read: {error.strerror}") from None
     except UnicodeDecodeError:
