@@ -11,7 +11,7 @@ use Rattle.plan_store.specs.declared.stores.StoreFault.TheVariants.{Device, Memo
 
 -- a store before and after it is read, and what the call returns
 pub record ReadsStore {S T : Type 0} (is_honest : S → Type 0) (content : S → Content) (failures : S → ℕ)
-    (may_leave : S → Content → Type 0) (is_clean is_whole : S → Type 0) (before now : S)
+    (may_leave : S → Content → Type 0) (is_clean is_whole : S → Type 0) (has_failed : S → S → Type 0) (before now : S)
     (result : Result T StoreFault) (IsRight : T → Type 0) : Type 0 where
   -- an honest store returns what is right, and its content stays
   pub right : is_honest now → IfOk result IsRight
@@ -24,6 +24,11 @@ pub record ReadsStore {S T : Type 0} (is_honest : S → Type 0) (content : S →
   -- and once a failure is counted, no call returns anything else
   pub broken : 0 < failures before → result ≡ Err Device
   pub counts : failures before ≤ failures now
+  -- an answer and want of memory are no failures
+  pub still : OnOk result (failures now ≡ failures before)
+  pub steady : IfErr result (λ fault. fault ≡ Memory → failures now ≡ failures before)
+  -- what is read of a device that told no wrong answer is not blamed on it without a cause
+  pub caused : failures before ≡ 0 → is_clean now → IfErr result (λ fault. fault ≡ Device → has_failed before now)
   pub honest : is_honest now → is_honest before
   pub clean : is_clean now → is_clean before
   -- an honest store stays honest if its device gave no wrong answer, unless the device is blamed or in doubt
@@ -34,9 +39,11 @@ pub record ReadsStore {S T : Type 0} (is_honest : S → Type 0) (content : S →
 -- a reading call that lends its result: the store behind `lender` is so once the loan is given back
 abbrev pub LendsRead : {T : Type 0} (R : RattleType) (is_honest : R.Denot → Type 0) (content : R.Denot → Content)
     (failures : R.Denot → ℕ) (may_leave : R.Denot → Content → Type 0) (is_clean is_whole : R.Denot → Type 0)
-    (before : R.Denot) (lender : MutBor R.Denot) → Result T StoreFault → (T → Type 0) → Fml
-LendsRead R is_honest content failures may_leave is_clean is_whole before lender result IsRight =
-    Rests R lender (λ now. ReadsStore is_honest content failures may_leave is_clean is_whole before now result IsRight)
+    (has_failed : R.Denot → R.Denot → Type 0) (before : R.Denot) (lender : MutBor R.Denot) → Result T StoreFault
+    → (T → Type 0) → Fml
+LendsRead R is_honest content failures may_leave is_clean is_whole has_failed before lender result IsRight =
+    Rests R lender (λ now. ReadsStore is_honest content failures may_leave is_clean is_whole has_failed before now
+    result IsRight)
 
 -- a store before and after a change, and what the call returns
 pub record Applies {S : Type 0} (is_honest : S → Type 0) (content : S → Content) (failures : S → ℕ)
@@ -59,6 +66,9 @@ pub record Applies {S : Type 0} (is_honest : S → Type 0) (content : S → Cont
   -- and once a failure is counted, no call returns anything else
   pub broken : 0 < failures before → result ≡ Err Device
   pub counts : failures before ≤ failures now
+  -- an answer and want of memory are no failures
+  pub still : OnOk result (failures now ≡ failures before)
+  pub steady : IfErr result (λ fault. fault ≡ Memory → failures now ≡ failures before)
   pub honest : is_honest now → is_honest before
   pub clean : is_clean now → is_clean before
   -- an honest store stays honest if its device gave no wrong answer, unless the device is blamed or in doubt

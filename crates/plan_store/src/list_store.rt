@@ -73,6 +73,9 @@ impl PlanStore for ListStore {
 
     ghost is_whole = { λ _. ⊤ };
 
+    // lists have no device that could
+    ghost has_failed = { λ _ _. ⊥ };
+
     ghost left_is_clean = { λ _ _ _. tt };
 
     fn definitions(&mut self) -> Result<Definitions, StoreFault> {

@@ -62,7 +62,10 @@ impl From<AllocError> for StoreFault {
     }
 }
 
-/// What keeps a planner's content.
+/// What keeps a planner's content. It counts the failures of its device, and nothing else: the count stays if a call
+/// answers, and if memory is refused. A call that reads has a cause if it blames the device. The trait states both, and
+/// not one store alone: a window and a job are lent, and what is lent is known by these clauses only. Why a change is
+/// not made depends on what a store can take, so a store states the causes of its own `apply`.
 pub trait PlanStore {
     // the content
     ghost content: { Self → ContentValue };
@@ -82,31 +85,34 @@ pub trait PlanStore {
     // no failure was counted, and nothing of its device is in doubt
     ghost is_whole: { Self → Type 0 };
 
+    // its device failed between these two, or could be read no more before
+    ghost has_failed: { Self → Self → Type 0 };
+
     /// An owned copy of the definitions.
     fn definitions(&mut self) -> Result<Definitions, StoreFault>
-        ensures { ReadsStore is_honest content failures may_leave is_clean is_whole
+        ensures { ReadsStore is_honest content failures may_leave is_clean is_whole has_failed
             self.old self.new result (λ all. all ≡ (content self.old).definitions) };
 
     /// How far the plans reach; `None` before the long-term plan is created.
     fn bounds(&mut self) -> Result<Option<Bounds>, StoreFault>
-        ensures { ReadsStore is_honest content failures may_leave is_clean is_whole
+        ensures { ReadsStore is_honest content failures may_leave is_clean is_whole has_failed
             self.old self.new result (λ bounds. bounds ≡ (content self.old).sets.bounds) };
 
     /// An owned copy of the lists in force.
     fn links(&mut self) -> Result<Links, StoreFault>
-        ensures { ReadsStore is_honest content failures may_leave is_clean is_whole
+        ensures { ReadsStore is_honest content failures may_leave is_clean is_whole has_failed
             self.old self.new result (λ links. links ≡ (content self.old).in_force) };
 
     /// Lends a window that shows what the need names.
     fn read_window<'a>(&'a mut self, need: Need) -> Result<View<'a>, StoreFault>
         ensures* { sem 𝓛 (LendsRead Self.row is_honest content failures may_leave is_clean is_whole
-            self.old self.entry result
+            has_failed self.old self.entry result
             (λ view. Shows need view (content self.old))) };
 
     /// Lends the job that is kept under the number, if there is any.
     fn job<'a>(&'a mut self, number: u64) -> Result<Option<&'a Job>, StoreFault>
         ensures* { sem 𝓛 (LendsRead Self.row is_honest content failures may_leave is_clean is_whole
-            self.old self.entry result
+            has_failed self.old self.entry result
             (λ job. option_copied job ≡ (content self.old).jobs number)) };
 
     /// Passes the sink what a listing shows, in its order, of one application or of all, and returns how many items
@@ -131,6 +137,11 @@ pub trait PlanStore {
             → MoreFailures (failures self.old) (failures self.new) ⊎ (0 < failures self.old)) }
         ensures broken { 0 < failures self.old → result ≡ Err ListFault.Device }
         ensures counts { failures self.old ≤ failures self.new }
+        ensures still { OnOk result (failures self.new ≡ failures self.old) }
+        ensures steady { IfErr result (λ fault. fault ≡ ListFault.Memory
+            → failures self.new ≡ failures self.old) }
+        ensures caused { failures self.old ≡ 0 → is_clean self.new
+            → IfErr result (λ fault. fault ≡ ListFault.Device → has_failed self.old self.new) }
         ensures honest { is_honest self.new → is_honest self.old }
         ensures clean { is_clean self.new → is_clean self.old }
         ensures stays_honest { is_honest self.old → is_clean self.new

@@ -12,6 +12,8 @@ use Rattle.sqlite_trees.specs.declared.error.StoreError.{StoreError}
 use Rattle.sqlite_trees.specs.declared.error.StoreError.TheVariants.{OutOfMemory, Io, Corrupt, Full, Broken, Unstorable}
 use Rattle.external_dependencies.specs.declared.pairs.Pair.{Pair}
 use Rattle.planner_machine.specs.Content.{Content}
+use Rattle.plan_store.specs.declared.listings.ListFault.{ListFault}
+use Rattle.plan_store.specs.declared.listings.ListFault.TheVariants as list
 use Rattle.plan_store.specs.declared.stores.StoreFault.{StoreFault}
 use Rattle.plan_store.specs.declared.stores.StoreFault.TheVariants.{Device, Memory}
 use Rattle.plan_tables_opening.specs.Opened.{IsStored}
@@ -166,6 +168,23 @@ caused_since (Err fault) old mid new on h = λ is. ∥∥₁_map (h is) since
     since (inl more) = inl (inl (omega (arith, on.counts, more)))
     since (inr limit) = inl (inr (subst IsSome on.limit limit))
 
+-- so it is of a listing
+pub listed_since : {T : Type 0} (r : Result T ListFault) (old mid new : State) → CountsOn old mid
+    → IfErr r (λ fault. fault ≡ list.Device → ∥ HasFailed mid new ∥₁)
+    → IfErr r (λ fault. fault ≡ list.Device → ∥ HasFailed old new ⊎ (old.is_open ≡ false) ∥₁)
+listed_since (Ok v) old mid new on h = tt
+listed_since (Err fault) old mid new on h = λ is. ∥∥₁_map (h is) since
+  where
+    since : HasFailed mid new → HasFailed old new ⊎ (old.is_open ≡ false)
+    since (inl more) = inl (inl (omega (arith, on.counts, more)))
+    since (inr limit) = inl (inr (subst IsSome on.limit limit))
+
+-- a connection that was found shut, or whose device failed as it was asked
+pub shut_so : (old new : State) → MoreFaults old.faults new.faults ⊎ (old.is_open ≡ false)
+    → ∥ HasFailed old new ⊎ (old.is_open ≡ false) ∥₁
+shut_so old new (inl more) = ∣ (inl (inl more)) ∣₁
+shut_so old new (inr shut) = ∣ (inr shut) ∣₁
+
 pub counts_on : (old new : State) {P : Trees → Type 0} → Survives old new P → CountsOn old new
 counts_on old new survives = record { counts = survives.counts; limit = survives.limit }
 
@@ -201,12 +220,6 @@ pub told_kept : {T : Type 0} (r : Result T StoreFault) (e : StoreFault) (old new
     → KeepsSchema old new r
 told_kept (Ok v) e old new is h = absurd is
 told_kept (Err told) e old new is h = λ memory. h (sym is ∙ memory)
-
--- what is told of want of memory is told of the fault that is made of it
-pub told_memory : {T X : Type 0} (r : Result T StoreFault) (e : StoreFault) → IsErrAnd r (λ told. told ≡ e)
-    → (e ≡ Memory → X) → IfErr r (λ fault. fault ≡ Memory → X)
-told_memory (Ok v) e is h = tt
-told_memory (Err told) e is h = λ memory. h (sym is ∙ memory)
 
 -- a count that stays, since it stayed before
 pub steady_since : {T : Type 0} (r : Result T StoreFault) (a b d : ℕ) → IfErr r (λ fault. fault ≡ Memory → a ≡ b)

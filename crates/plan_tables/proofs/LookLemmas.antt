@@ -1,7 +1,7 @@
 -- A connection that is asked.
-use Rattle.std.proofs.Common.{◌≡◌, ◌∙◌, ◌≤◌, ◌^◌, ℕ, Bool, Err, Ok, Result, false, true, None, Option, Some, inl, inr, ap, arith, refl, subst, sym, true≢false}
+use Rattle.std.proofs.Common.{◌≡◌, ◌∙◌, ◌<◌, ◌≤◌, ◌^◌, ℕ, Bool, Err, Ok, Result, false, true, None, Option, Some, inl, inr, ap, arith, refl, subst, sym, true≢false}
 use Rattle.std.proofs.Math.Logic.{∥∥₁_elim, ∥∥₁_map}
-use Rattle.std.specs.Prelude.{IfErr, IfOk, IsTrue, OnOk}
+use Rattle.std.specs.Prelude.{IfErr, IfOk, IsErrAnd, IsTrue, OnOk}
 use Rattle.sqlite.specs.Effect.{Database}
 use Rattle.sqlite.specs.State.{HasCleanDisk, IsUnchanged, State, Survives}
 use Rattle.sqlite.specs.Tree.{Trees}
@@ -138,47 +138,104 @@ stopped_open old new fault is stops = (subst (StopsFor old new) is stops).0.is_o
 -- ---- what a call does that reads
 
 module _ {S T : Type 0} {is_honest : S → Type 0} {content : S → Content} {failures : S → ℕ}
-    {may_leave : S → Content → Type 0} {is_clean is_whole : S → Type 0} where
+    {may_leave : S → Content → Type 0} {is_clean is_whole : S → Type 0} {has_failed : S → S → Type 0} where
   -- by a store that had not failed
   pub read_so : (before now : S) (result : Result T StoreFault) (IsRight : T → Type 0)
       → (is_honest now → IfOk result IsRight) → (is_honest now → content now ≡ content before)
       → ((c : Content) → may_leave now c → may_leave before c)
       → IfErr result (λ fault. fault ≡ Device → MoreFailures (failures before) (failures now))
-      → failures before ≡ 0 → (is_honest now → is_honest before) → (is_clean now → is_clean before)
+      → failures before ≡ 0 → OnOk result (failures now ≡ failures before)
+      → IfErr result (λ fault. fault ≡ Memory → failures now ≡ failures before)
+      → (is_clean now → IfErr result (λ fault. fault ≡ Device → has_failed before now))
+      → (is_honest now → is_honest before) → (is_clean now → is_clean before)
       → (is_honest before → is_clean now → IfErr result (IsMild (is_whole now)) → is_honest now)
       → OnOk result (is_whole before → is_whole now)
-      → ReadsStore is_honest content failures may_leave is_clean is_whole before now result IsRight
-  read_so before now (Ok v) IsRight right same crash blames none honest clean stays whole = record {
-    right = right;
+      → ReadsStore is_honest content failures may_leave is_clean is_whole has_failed before now result IsRight
+  read_so before now (Ok v) IsRight right same crash blames none still steady caused honest clean stays whole
+      = record {
+        right = right;
+        same = same;
+        crash = crash;
+        blames = tt;
+        broken = λ some. absurd (let h : ⊥ = omega (arith, none, some) in h);
+        counts = omega (arith, none);
+        still = still;
+        steady = tt;
+        caused = λ _ _. tt;
+        honest = honest;
+        clean = clean;
+        stays_honest = stays;
+        whole = whole;
+      }
+  read_so before now (Err fault) IsRight right same crash blames none still steady caused honest clean stays whole
+      = record {
+        right = right;
+        same = same;
+        crash = crash;
+        blames = λ device. inl (blames device);
+        broken = λ some. absurd (let h : ⊥ = omega (arith, none, some) in h);
+        counts = omega (arith, none);
+        still = tt;
+        steady = steady;
+        caused = λ _. caused;
+        honest = honest;
+        clean = clean;
+        stays_honest = stays;
+        whole = whole;
+      }
+
+  -- where it could not be asked
+  pub read_not : (before now : S) (result : Result T StoreFault) (fault : StoreFault) (IsRight : T → Type 0)
+      → IsErrAnd result (λ told. told ≡ fault) → (is_honest now → content now ≡ content before)
+      → ((c : Content) → may_leave now c → may_leave before c)
+      → (fault ≡ Device → MoreFailures (failures before) (failures now)) → failures before ≡ 0
+      → (fault ≡ Memory → failures now ≡ failures before)
+      → (is_clean now → fault ≡ Device → has_failed before now)
+      → (is_honest now → is_honest before) → (is_clean now → is_clean before)
+      → (is_honest before → is_clean now → IsMild (is_whole now) fault → is_honest now)
+      → ReadsStore is_honest content failures may_leave is_clean is_whole has_failed before now result IsRight
+  read_not before now (Ok v) fault IsRight is same crash blames none steady caused honest clean stays = absurd is
+  read_not before now (Err told) fault IsRight is same crash blames none steady caused honest clean stays = record {
+    right = λ _. tt;
     same = same;
     crash = crash;
-    blames = tt;
+    blames = λ device. inl (blames (sym is ∙ device));
     broken = λ some. absurd (let h : ⊥ = omega (arith, none, some) in h);
     counts = omega (arith, none);
+    still = tt;
+    steady = λ memory. steady (sym is ∙ memory);
+    caused = λ _ calm device. caused calm (sym is ∙ device);
     honest = honest;
     clean = clean;
-    stays_honest = stays;
-    whole = whole;
+    stays_honest = λ was calm mild. stays was calm (subst (IsMild (is_whole now)) is mild);
+    whole = tt;
   }
-  read_so before now (Err fault) IsRight right same crash blames none honest clean stays whole = record {
-    right = right;
-    same = same;
-    crash = crash;
-    blames = λ device. inl (blames device);
-    broken = λ some. absurd (let h : ⊥ = omega (arith, none, some) in h);
-    counts = omega (arith, none);
-    honest = honest;
-    clean = clean;
-    stays_honest = stays;
-    whole = whole;
+
+  -- of a store that had failed
+  pub read_failed : (before : S) (IsRight : T → Type 0) → 0 < failures before
+      → ReadsStore is_honest content failures may_leave is_clean is_whole has_failed before before (Err Device) IsRight
+  read_failed before IsRight some = record {
+    right = λ _. tt;
+    same = λ _. refl;
+    crash = λ _ leaves. leaves;
+    blames = λ _. inr some;
+    broken = λ _. refl;
+    counts = omega arith;
+    still = tt;
+    steady = λ memory. absurd (let h : ⊥ = cc memory in h);
+    caused = λ none _ _. absurd (let h : ⊥ = omega (arith, none, some) in h);
+    honest = λ honest. honest;
+    clean = λ clean. clean;
+    stays_honest = λ was _ _. was;
+    whole = tt;
   }
 
 -- an answer that comes of another
 pub read_lent : {S T U : Type 0} {is_honest : S → Type 0} {content : S → Content} {failures : S → ℕ}
-    {may_leave : S → Content → Type 0} {is_clean is_whole : S → Type 0} (before now : S) (first : T) (second : U)
-    (IsRight : T → Type 0) (IsLent : U → Type 0) → (IsRight first → IsLent second)
-    → ReadsStore is_honest content failures may_leave is_clean is_whole before now (Ok first) IsRight
-    → ReadsStore is_honest content failures may_leave is_clean is_whole before now (Ok second) IsLent
+    {may_leave : S → Content → Type 0} {is_clean is_whole : S → Type 0} {has_failed : S → S → Type 0} (before now : S)
+    (first : T) (second : U) (IsRight : T → Type 0) (IsLent : U → Type 0) → (IsRight first → IsLent second)
+    → ReadsStore is_honest content failures may_leave is_clean is_whole has_failed before now (Ok first) IsRight
+    → ReadsStore is_honest content failures may_leave is_clean is_whole has_failed before now (Ok second) IsLent
 read_lent before now first second IsRight IsLent lent reads = record {
   right = λ honest. lent (reads.right honest);
   same = reads.same;
@@ -186,6 +243,9 @@ read_lent before now first second IsRight IsLent lent reads = record {
   blames = tt;
   broken = λ some. absurd (let no : Ok first ≡ Err Device = reads.broken some in let h : ⊥ = cc no in h);
   counts = reads.counts;
+  still = reads.still;
+  steady = tt;
+  caused = λ _ _. tt;
   honest = reads.honest;
   clean = reads.clean;
   stays_honest = reads.stays_honest;
@@ -199,6 +259,11 @@ pub mild_open : {A : Type 0} (r : Result A StoreFault) (b doubt : Bool) (W : Typ
 mild_open (Ok v) b doubt W opens memory mild = opens
 mild_open (Err Memory) b doubt W opens memory mild = memory refl (mild.1 refl).1
 mild_open (Err Device) b doubt W opens memory mild = absurd (mild.0 refl)
+
+pub no_mild : (fault : StoreFault) (doubt : Bool) (W : Type 0) → (fault ≡ Memory → doubt ≡ true)
+    → IsMild (W × (doubt ≡ false)) fault → ⊥
+no_mild Memory doubt W told mild = true≢false (sym (told refl) ∙ (mild.1 refl).1)
+no_mild Device doubt W told mild = mild.0 refl
 
 -- where the lists are the same, too
 pub looks_listed : (old new : State) (l k : Kept) → LooksOn old new (content_of l) (content_of l) → k ≡ l → CanRead new

@@ -18,7 +18,7 @@ AppliesBy g = Applies g.is_honest g.content g.failures g.may_leave g.is_clean g.
 
 -- a store before and after it is read, and what the call returns
 abbrev pub ReadsBy : {S T : Type 0} → Ghosts S → (before now : S) → Result T StoreFault → (T → Type 0) → Type 0
-ReadsBy g = ReadsStore g.is_honest g.content g.failures g.may_leave g.is_clean g.is_whole
+ReadsBy g = ReadsStore g.is_honest g.content g.failures g.may_leave g.is_clean g.is_whole g.has_failed
 
 -- a store before and after it lists, the sink before and after, and what the call returns
 pub record ListsBy {S K : Type 0} (g : Ghosts S) (before now : S) (Takes Refuses : K → Shown → K → Type 0) (old new : K)
@@ -31,7 +31,9 @@ pub record ListsBy {S K : Type 0} (g : Ghosts S) (before now : S) (Takes Refuses
   pub crash : (c : Content) → g.may_leave now c → g.may_leave before c
   pub blames : IfErr result (λ fault. fault ≡ list.Device → MoreFailures (g.failures before) (g.failures now))
   pub counts : g.failures before ≤ g.failures now
+  pub still : OnOk result (g.failures now ≡ g.failures before)
   pub steady : IfErr result (λ fault. fault ≡ list.Memory → g.failures now ≡ g.failures before)
+  pub caused : g.is_clean now → IfErr result (λ fault. fault ≡ list.Device → g.has_failed before now)
   pub honest : g.is_honest now → g.is_honest before
   pub clean : g.is_clean now → g.is_clean before
   pub stays_honest : g.is_honest before → g.is_clean now → IfErr result (IsMildListing (g.is_whole now))

@@ -286,8 +286,6 @@ impl<S: Alter + Drop> TableStore<S> {
         ensures schema { KeepsSchema (state S.Store self.old.conn)
             (state S.Store self.new.conn) result }
         ensures counted { CountsOn (state S.Store self.old.conn) (state S.Store self.new.conn) }
-        ensures steady { IfErr result (λ fault. fault ≡ Memory
-            → self.new.failures ≡ self.old.failures) }
     {
         self.make_sure()?;
         self.find_out(sought)
@@ -520,10 +518,11 @@ impl<S: Alter + Drop> TableStore<S> {
 }
 
 impl<S: Alter + Drop> PlanStore for TableStore<S> {
-    ghost use Rattle.std.specs.Prelude.{◌≡◌};
+    ghost use Rattle.std.specs.Prelude.{◌≡◌, ◌⊎◌, false};
     ghost use Rattle.sqlite.specs.State.{HasCleanDisk};
     ghost use Rattle.sqlite.specs.Held.{state};
     ghost use Rattle.plan_store.specs.Contents.{content_of};
+    ghost use Rattle.plan_tables.specs.Causes.{HasFailed};
     ghost use Rattle.plan_tables.specs.Kept.{CanRead, kept_in};
     ghost use Rattle.plan_tables.specs.Stored.{MayLeave};
 
@@ -541,6 +540,10 @@ impl<S: Alter + Drop> PlanStore for TableStore<S> {
     ghost is_clean = { λ store. HasCleanDisk (state S.Store store.conn) };
 
     ghost is_whole = { λ store. (store.failures ≡ 0) × (store.in_doubt ≡ false) };
+
+    // by the count of sqlite, or a limit on steps is set; or the connection was shut
+    ghost has_failed = { λ old new. ∥ HasFailed (state S.Store old.conn) (state S.Store new.conn)
+        ⊎ ((state S.Store old.conn).is_open ≡ false) ∥₁ };
 
     ghost left_is_clean = { λ _ _ left. left.0 };
 
@@ -619,9 +622,9 @@ impl<S: Alter + Drop> PlanStore for TableStore<S> {
         }
     }
 
-    // The clauses of every store, and why the device is blamed: over an open connection whose tables take the change it
-    // failed meanwhile, by the count of sqlite, or a limit on steps is set. They take each change that finds room, and
-    // keep their schema. Want of memory is never counted as a failure.
+    // The clauses of every store, and why the device is blamed: over an open connection whose tables accept the change
+    // it failed meanwhile, by the count of sqlite, or a limit on steps is set. The tables accept each change for which
+    // there is room, and keep their schema.
     fn apply(&mut self, alloc: Global, change: Change) -> Result<(), StoreFault>
         requires fits { CanRead (state S.Store self.old.conn) → Fits change
             (kept_in (state S.Store self.old.conn) (content_of self.old.lists)) }
@@ -641,8 +644,6 @@ impl<S: Alter + Drop> PlanStore for TableStore<S> {
             ⊎ ((state S.Store self.old.conn).is_open ≡ false) ∥₁) }
         ensures schema { KeepsSchema (state S.Store self.old.conn)
             (state S.Store self.new.conn) result }
-        ensures steady { IfErr result (λ fault. fault ≡ StoreFault.Memory
-            → self.new.failures ≡ self.old.failures) }
     {
         let prepared = self.prepared(alloc, &change)?;
         self.make_ready(Sought::Change(&change))?;

@@ -257,6 +257,9 @@ module _ {S : Type 0} (g : Ghosts S) where
       blames = tt;
       broken = λ failed. absurd (let no : Ok value ≡ Err Device = own.broken failed in let h : ⊥ = cc no in h);
       counts = own.counts;
+      still = own.still;
+      steady = tt;
+      caused = λ none clean. tt;
       honest = own.honest;
       clean = own.clean;
       stays_honest = λ honest clean fine. own.stays_honest honest clean tt;
@@ -274,6 +277,9 @@ module _ {S : Type 0} (g : Ghosts S) where
       blames = λ is. absurd (let no : Memory ≡ Device = sym memory ∙ is in let h : ⊥ = cc no in h);
       broken = λ failed. absurd (let no : Ok value ≡ Err Device = own.broken failed in let h : ⊥ = cc no in h);
       counts = own.counts;
+      still = tt;
+      steady = λ _. own.still;
+      caused = λ none clean is. absurd (let no : Memory ≡ Device = sym memory ∙ is in let h : ⊥ = cc no in h);
       honest = own.honest;
       clean = own.clean;
       stays_honest = λ honest clean fine. own.stays_honest honest clean tt;

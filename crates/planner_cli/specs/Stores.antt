@@ -23,7 +23,7 @@ LeavesOwn g s = LeavesOnly (g.may_leave s) (g.content s)
 
 -- a store before and after it is read
 abbrev pub ReadsBy : {S T : Type 0} → Ghosts S → (before now : S) → Result T StoreFault → (T → Type 0) → Type 0
-ReadsBy g = ReadsStore g.is_honest g.content g.failures g.may_leave g.is_clean g.is_whole
+ReadsBy g = ReadsStore g.is_honest g.content g.failures g.may_leave g.is_clean g.is_whole g.has_failed
 
 -- a store before and after a call, and what the call returns; of a change that it makes, what that would leave
 pub record Answering {S T : Type 0} (g : Ghosts S) (before now : S) (result : Result T StoreFault)

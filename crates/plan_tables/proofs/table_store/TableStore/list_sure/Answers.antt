@@ -12,7 +12,8 @@ use Rattle.plan_tables_schema.specs.Rows.{tables_of}
 use Rattle.plan_tables_windows.specs.Gathering.{told_rest}
 use Rattle.plan_tables.specs.Kept.{CanRead, kept_in}
 use Rattle.plan_tables.specs.Listing.{what_of}
-use Rattle.plan_tables.proofs.LookLemmas.{listed_open, listed_steady, looks_listed, no_mild_listing}
+use Rattle.plan_tables.proofs.CauseLemmas.{counts_on, listed_since, shut_so}
+use Rattle.plan_tables.proofs.LookLemmas.{listed_open, listed_steady, looks_listed, no_mild_listing, ok_since}
 use Rattle.plan_tables.proofs.table_store.TableStore.list_sure.Goals as goal
 
 pub returns-in-Ok : goal.returns-in-Ok
@@ -47,7 +48,9 @@ returns-in-Ok g c =
       blames = subst (λ n. IfErr c.list_asked.result (λ fault. fault ≡ Device → MoreFailures n now.failures)) still
           did.blames;
       counts = omega (arith, asked.counts, did.counts);
+      still = ok_since c.list_asked.result _ _ (λ whole. whole.0 ∙ sym c.requires) did.stays_whole;
       steady = listed_steady c.list_asked.result now.failures mid.failures before.failures did.steady still;
+      caused = λ calm. listed_since c.list_asked.result s0 s1 s2 (counts_on s0 s1 asked.survives) (did.caused calm);
       honest = λ honest. let can = first honest in (asked.looks.clean can.0, asked.looks.opens can.0 can.1);
       clean = λ calm. asked.looks.clean (clean calm);
       stays_honest = λ was calm mild. (calm, listed_open c.list_asked.result s2.is_open _ (did.opens calm) (did.mild calm) mild);
@@ -71,7 +74,9 @@ returns-in-Err-Memory g c =
       crash = asked.looks.crash;
       blames = λ device. absurd (let h : ⊥ = cc device in h);
       counts = asked.counts;
+      still = tt;
       steady = λ _. c.in-Err-Memory.ensures.steady c.in-Err-Memory.field-0-is;
+      caused = λ calm device. absurd (let h : ⊥ = cc device in h);
       honest = λ honest. (asked.looks.clean honest.0, asked.looks.opens honest.0 honest.1);
       clean = asked.looks.clean;
       stays_honest = λ was calm mild. absurd (no_mild_listing now.in_doubt (now.failures ≡ 0) (c.in-Err-Memory.ensures.doubt c.in-Err-Memory.field-0-is) mild);
@@ -95,7 +100,9 @@ returns-in-Err-Device g c =
       crash = asked.looks.crash;
       blames = λ device. c.in-Err-Device.ensures.blames c.in-Err-Device.field-0-is;
       counts = asked.counts;
+      still = tt;
       steady = λ memory. absurd (let h : ⊥ = cc memory in h);
+      caused = λ calm _. shut_so s0 s1 (c.in-Err-Device.ensures.shut calm c.in-Err-Device.field-0-is);
       honest = λ honest. (asked.looks.clean honest.0, asked.looks.opens honest.0 honest.1);
       clean = asked.looks.clean;
       stays_honest = λ was calm mild. absurd (mild.0 refl);

@@ -9,8 +9,8 @@ use Rattle.plan_store.specs.Parts.{Rest, rest_of}
 use Rattle.plan_store.specs.declared.stores.StoreFault.TheVariants.{Device}
 use Rattle.plan_tables.specs.Kept.{CanRead, kept_in}
 use Rattle.plan_tables.specs.Sought.{IsFoundFor}
-use Rattle.plan_tables.proofs.CauseLemmas.{caused_since, counts_on, counts_then, steady_since, told_kept, told_memory, told_shut}
-use Rattle.plan_tables.proofs.LookLemmas.{looks_listed, mild_open, ok_if, ok_since, read_so, schema_since}
+use Rattle.plan_tables.proofs.CauseLemmas.{caused_since, counts_on, counts_then, shut_so, steady_since, told_kept, told_shut}
+use Rattle.plan_tables.proofs.LookLemmas.{looks_listed, mild_open, no_mild, ok_if, ok_since, read_not, read_so, schema_since}
 use Rattle.plan_tables.proofs.StoredLemmas.{stays_so}
 use Rattle.plan_tables.proofs.table_store.TableStore.make_ready.Goals as goal
 
@@ -35,6 +35,9 @@ returns-clause-reads g c =
     (λ d both. asked.looks.crash d (did.looks.crash d both))
     (subst (λ n. IfErr c.find_out.result (λ fault. fault ≡ Device → MoreFailures n now.failures)) still did.blames)
     c.requires
+    (ok_since c.find_out.result _ _ (λ whole. whole.0 ∙ sym c.requires) did.whole)
+    (steady_since c.find_out.result now.failures mid.failures before.failures did.steady still)
+    (λ clean. caused_since c.find_out.result s0 s1 s2 (counts_on s0 s1 asked.survives) (did.caused clean))
     (λ honest. let can = first honest in (asked.looks.clean can.0, asked.looks.opens can.0 can.1))
     (λ clean. asked.looks.clean (did.looks.clean clean))
     (λ was clean mild. (
@@ -84,12 +87,17 @@ pub returns-in_err-make_sure-clause-counted : goal.returns-in_err-make_sure-clau
 returns-in_err-make_sure-clause-counted g c = counts_on (state g.S.Store c.args.self.now.conn)
     (state g.S.Store c.make_sure.new.self.conn) c.make_sure.ensures.survives
 
-pub returns-clause-steady : goal.returns-clause-steady
-returns-clause-steady g c =
-    steady_since c.find_out.result c.find_out.new.self.failures c.make_sure.new.self.failures c.args.self.now.failures
-    c.find_out.ensures.steady (c.in_ok-make_sure.ensures.whole ∙ sym c.requires)
-
-pub returns-in_err-make_sure-clause-steady : goal.returns-in_err-make_sure-clause-steady
-returns-in_err-make_sure-clause-steady g c =
-    told_memory c.from_residual.result c.in_err-make_sure.field-0.0 c.from_residual.ensures.1
-    c.in_err-make_sure.ensures.steady
+pub returns-in_err-make_sure-clause-reads : goal.returns-in_err-make_sure-clause-reads
+returns-in_err-make_sure-clause-reads g c =
+    let before = c.args.self.now in
+    let now = c.make_sure.new.self in
+    let asked = c.make_sure.ensures in
+    let s0 = state g.S.Store before.conn in
+    let s1 = state g.S.Store now.conn in
+    read_not before now c.from_residual.result c.in_err-make_sure.field-0.0 _ c.from_residual.ensures.1
+    (looks_listed s0 s1 before.lists now.lists asked.looks asked.lists) asked.looks.crash
+    c.in_err-make_sure.ensures.blames c.requires c.in_err-make_sure.ensures.steady
+    (λ clean device. shut_so s0 s1 (c.in_err-make_sure.ensures.shut clean device))
+    (λ honest. (asked.looks.clean honest.0, asked.looks.opens honest.0 honest.1)) asked.looks.clean
+    (λ was clean mild. absurd (no_mild c.in_err-make_sure.field-0.0 now.in_doubt (now.failures ≡ 0)
+    c.in_err-make_sure.ensures.doubt mild))

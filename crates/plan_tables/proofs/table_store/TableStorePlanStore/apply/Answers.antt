@@ -23,8 +23,8 @@ use Rattle.plan_tables.specs.Kept.{CanRead, LooksOn, kept_in}
 use Rattle.plan_tables.specs.Stored.{MayLeave}
 use Rattle.plan_tables.specs.Taken.{KeepsSchema}
 use Rattle.plan_tables.specs.declared.table_store.TableStore.{TableStore}
-use Rattle.plan_tables.proofs.CauseLemmas.{can_still, caused_since, merely_err, never_told, room_still, steady_since, told_kept, told_memory}
-use Rattle.plan_tables.proofs.LookLemmas.{looks_read, mild_open}
+use Rattle.plan_tables.proofs.CauseLemmas.{can_still, caused_since, merely_err, never_told, room_still, steady_since, told_kept}
+use Rattle.plan_tables.proofs.LookLemmas.{looks_read, mild_open, ok_since}
 use Rattle.plan_tables.proofs.StoredLemmas.{settled_so}
 use Rattle.plan_tables.proofs.table_store.TableStorePlanStore.apply.Goals as goal
 
@@ -35,11 +35,12 @@ module _ {S : Type 0} {is_honest : S → Type 0} {content : S → Content} {fail
       → (is_honest now → content now ≡ content before) → ((c : Content) → may_leave now c → may_leave before c)
       → (fault ≡ Device → MoreFailures (failures before) (failures now) ⊎ (0 < failures before))
       → (0 < failures before → fault ≡ Device) → failures before ≤ failures now
+      → (fault ≡ Memory → failures now ≡ failures before)
       → (is_honest now → is_honest before) → (is_clean now → is_clean before)
       → (is_honest before → is_clean now → IsMild (is_whole now) fault → is_honest now)
       → Applies is_honest content failures may_leave is_clean is_whole before now change result
-  unwritten (Ok v) fault is same leaves blames broken counts honest clean stays = absurd is
-  unwritten (Err told) fault is same leaves blames broken counts honest clean stays = record {
+  unwritten (Ok v) fault is same leaves blames broken counts steady honest clean stays = absurd is
+  unwritten (Err told) fault is same leaves blames broken counts steady honest clean stays = record {
     done = λ _. tt;
     unchanged = λ honest _. same honest;
     whole = λ honest. inl (same honest);
@@ -48,6 +49,8 @@ module _ {S : Type 0} {is_honest : S → Type 0} {content : S → Content} {fail
     blames = λ device. blames (sym is ∙ device);
     broken = λ some. ap Err (is ∙ broken some);
     counts = counts;
+    still = tt;
+    steady = λ memory. steady (sym is ∙ memory);
     honest = honest;
     clean = clean;
     stays_honest = λ was calm mild. stays was calm (subst (IsMild (is_whole now)) is mild);
@@ -61,11 +64,13 @@ module _ {S : Type 0} {is_honest : S → Type 0} {content : S → Content} {fail
       → OnOk result ((c : Content) → may_leave now c → c ≡ content now)
       → (is_honest before → (c : Content) → may_leave now c → may_leave before c ⊎ (c ≡ after change (content before)))
       → IfErr result (λ fault. fault ≡ Device → MoreFailures (failures before) (failures now))
-      → failures before ≡ 0 → (is_honest now → is_honest before) → (is_clean now → is_clean before)
+      → failures before ≡ 0 → OnOk result (failures now ≡ failures before)
+      → IfErr result (λ fault. fault ≡ Memory → failures now ≡ failures before)
+      → (is_honest now → is_honest before) → (is_clean now → is_clean before)
       → (is_honest before → is_clean now → IfErr result (IsMild (is_whole now)) → is_honest now)
       → OnOk result (is_whole now)
       → Applies is_honest content failures may_leave is_clean is_whole before now change result
-  written (Ok v) done same settled crash blames none honest clean stays ends_whole = record {
+  written (Ok v) done same settled crash blames none still steady honest clean stays ends_whole = record {
     done = done;
     unchanged = λ _. tt;
     whole = λ _. tt;
@@ -74,12 +79,14 @@ module _ {S : Type 0} {is_honest : S → Type 0} {content : S → Content} {fail
     blames = tt;
     broken = λ some. absurd (let h : ⊥ = omega (arith, none, some) in h);
     counts = omega (arith, none);
+    still = still;
+    steady = tt;
     honest = honest;
     clean = clean;
     stays_honest = stays;
     stays_whole = λ _. ends_whole;
   }
-  written (Err fault) done same settled crash blames none honest clean stays ends_whole = record {
+  written (Err fault) done same settled crash blames none still steady honest clean stays ends_whole = record {
     done = λ _. tt;
     unchanged = λ honest _. same honest;
     whole = λ honest. inl (same honest);
@@ -88,6 +95,8 @@ module _ {S : Type 0} {is_honest : S → Type 0} {content : S → Content} {fail
     blames = λ device. inl (blames device);
     broken = λ some. absurd (let h : ⊥ = omega (arith, none, some) in h);
     counts = omega (arith, none);
+    still = tt;
+    steady = steady;
     honest = honest;
     clean = clean;
     stays_honest = stays;
@@ -193,7 +202,8 @@ returns-clause-applies g c =
       | inr made ↦ inr (subst (λ (k : Content). d ≡ after c.args.change k) (met clean) made)
     ])
     (subst (λ n. IfErr result (λ fault. fault ≡ Device → MoreFailures n now.failures)) still did.blames)
-    none
+    none (ok_since result _ _ (λ whole. whole.0 ∙ sym none) did.ends_whole)
+    (steady_since result now.failures mid.failures before.failures did.steady still)
     (λ honest. (looks.clean (did.honest honest.0), looks.opens (did.honest honest.0) (did.was_open honest.0)))
     (λ clean. looks.clean (did.honest clean))
     (λ was clean mild. (
@@ -246,7 +256,7 @@ returns-in_err-prepared-clause-applies g c =
     c.from_residual.ensures.1 (λ _. refl) (λ d both. both)
     (λ device. inr (c.in_err-prepared.ensures.blames device))
     (λ some. let h = c.in_err-prepared.ensures.broken some in cc h)
-    (omega arith) (λ honest. honest) (λ clean. clean) (λ was clean mild. was)
+    (omega arith) (λ _. refl) (λ honest. honest) (λ clean. clean) (λ was clean mild. was)
 
 pub returns-in_err-make_ready-clause-applies : goal.returns-in_err-make_ready-clause-applies
 returns-in_err-make_ready-clause-applies g c =
@@ -257,7 +267,7 @@ returns-in_err-make_ready-clause-applies g c =
     unwritten before now c.args.change c.from_residual-in_err-make_ready.result c.in_err-make_ready.field-0.0
     c.from_residual-in_err-make_ready.ensures.1 reads.same reads.crash reads.blames
     (λ some. absurd (let h : ⊥ = omega (arith, none, some) in h))
-    reads.counts reads.honest reads.clean reads.stays_honest
+    reads.counts reads.steady reads.honest reads.clean reads.stays_honest
 
 pub returns-in_err-make_ready-clause-caused : goal.returns-in_err-make_ready-clause-caused
 returns-in_err-make_ready-clause-caused g c none clean can =
@@ -298,6 +308,8 @@ returns-in_err-admit-clause-applies g c =
     (c.in_err-admit.ensures.blames device)))
     (λ some. absurd (let h : ⊥ = omega (arith, none, some) in h))
     (omega (arith, none))
+    (λ memory. absurd (let told : Memory ≡ Device = sym memory ∙ c.in_err-admit.ensures.refused.0 in
+    let h : ⊥ = cc told in h))
     (λ honest. (looks.clean honest.0, looks.opens honest.0 honest.1)) looks.clean
     (λ was clean mild. subst (λ (conn : Held _). CanRead (state g.S.Store conn)) (sym c.admit.ensures.conn)
     (reads.stays_honest was (subst (λ (conn : Held _). HasCleanDisk (state g.S.Store conn)) c.admit.ensures.conn clean)
@@ -324,28 +336,6 @@ returns-in_err-admit-clause-schema g c =
     (∥∥₁_map (c.in_ok-make_ready.ensures.same (subst (λ (conn : Held _). HasCleanDisk (state g.S.Store conn))
     c.admit.ensures.conn clean)) (ap (λ (db : Database). db.schema))))
 
-pub returns-in_err-make_ready-clause-steady : goal.returns-in_err-make_ready-clause-steady
-returns-in_err-make_ready-clause-steady g c =
-    told_memory c.from_residual-in_err-make_ready.result c.in_err-make_ready.field-0.0
-    c.from_residual-in_err-make_ready.ensures.1 c.in_err-make_ready.ensures.steady
-
-pub returns-in_err-admit-clause-steady : goal.returns-in_err-admit-clause-steady
-returns-in_err-admit-clause-steady g c =
-    told_memory c.from_residual-in_err-admit.result c.in_err-admit.field-0.0 c.from_residual-in_err-admit.ensures.1
-    (λ memory. absurd (let told : Memory ≡ Device = sym memory ∙ c.in_err-admit.ensures.refused.0 in
-    let h : ⊥ = cc told in h))
-
-pub returns-clause-steady : goal.returns-clause-steady
-returns-clause-steady g c =
-    steady_since c.change_so.result c.change_so.new.self.failures c.admit.new.self.failures c.args.self.now.failures
-    c.change_so.ensures.steady (ap (λ (s : TableStore _ _). s.failures) c.in_ok-admit.ensures.ok
-    ∙ c.in_ok-make_ready.ensures.whole ∙ sym c.in_ok-prepared.ensures.whole)
-
-pub returns-in_err-prepared-clause-steady : goal.returns-in_err-prepared-clause-steady
-returns-in_err-prepared-clause-steady g c =
-    told_memory c.from_residual.result c.in_err-prepared.field-0.0
-    c.from_residual.ensures.1 (λ _. refl)
-
 -- where memory is refused as the change is tested, nothing is written
 
 pub returns-in_err-is_fit-clause-applies : goal.returns-in_err-is_fit-clause-applies
@@ -359,7 +349,7 @@ returns-in_err-is_fit-clause-applies g c =
     (λ device. absurd (let told : Memory ≡ Device = sym c.in_err-is_fit.ensures.memory ∙ device in
     let h : ⊥ = cc told in h))
     (λ some. absurd (let h : ⊥ = omega (arith, none, some) in h))
-    reads.counts reads.honest reads.clean (λ was clean mild. reads.stays_honest was clean tt)
+    reads.counts (λ _. reads.still) reads.honest reads.clean (λ was clean mild. reads.stays_honest was clean tt)
 
 pub returns-in_err-is_fit-clause-caused : goal.returns-in_err-is_fit-clause-caused
 returns-in_err-is_fit-clause-caused g c none clean can =
@@ -376,8 +366,3 @@ returns-in_err-is_fit-clause-schema g c =
     told_kept c.from_residual-in_err-is_fit.result c.in_err-is_fit.field-0.0 (state g.S.Store c.args.self.now.conn)
     (state g.S.Store c.make_ready.new.self.conn) c.from_residual-in_err-is_fit.ensures.1
     (λ memory clean opens. ∥∥₁_map (c.in_ok-make_ready.ensures.same clean) (ap (λ (db : Database). db.schema)))
-
-pub returns-in_err-is_fit-clause-steady : goal.returns-in_err-is_fit-clause-steady
-returns-in_err-is_fit-clause-steady g c =
-    told_memory c.from_residual-in_err-is_fit.result c.in_err-is_fit.field-0.0 c.from_residual-in_err-is_fit.ensures.1
-    (λ _. c.in_ok-make_ready.ensures.whole ∙ sym c.in_ok-prepared.ensures.whole)

@@ -41,6 +41,9 @@ returns g c =
           blames = tt;
           broken = λ some. absurd (let no : Ok tt ≡ Err Device = reads.broken some in let h : ⊥ = cc no in h);
           counts = reads.counts;
+          still = reads.still;
+          steady = tt;
+          caused = λ none clean. tt;
           honest = reads.honest;
           clean = reads.clean;
           stays_honest = λ was clean mild. reads.stays_honest was clean tt;

@@ -1,4 +1,4 @@
-use Rattle.std.proofs.Common.{[], refl}
+use Rattle.std.proofs.Common.{[], arith, refl}
 use Rattle.std.specs.Prelude.{option_copied}
 use Rattle.sqlite.specs.Held.{state}
 use Rattle.plan_tables_schema.specs.Rows.{tables_of}
@@ -11,6 +11,10 @@ returns-then-self-gt0-clause-part g c honest either numbered =
     (told_rest (tables_of (state g.S.Store c.args.self.now.conn).now.trees)) numbered c.args.what
     (option_copied c.args.app) in
     record { done = []; rest = items; whole = is; ends = refl }
+
+pub returns-then-self-gt0-clause-caused : goal.returns-then-self-gt0-clause-caused
+returns-then-self-gt0-clause-caused g c none clean _ =
+    absurd (let h : ⊥ = omega (arith, none, c.if-self-gt0.true) in h)
 
 pub returns-in-Ltp-clause-all : goal.returns-in-Ltp-clause-all
 returns-in-Ltp-clause-all g c honest numbered =
