@@ -1,9 +1,9 @@
 -- What the tables show after a change of the plans.
-use Rattle.std.proofs.Common.{◌≡◌, ◌↔◌, ◌&&◌, ℕ, Bool, true, false, cond, List, [], ◌∷◌, ◌⊎◌, inl, inr, refl, sym, ap}
+use Rattle.std.proofs.Common.{◌≡◌, ◌↔◌, ℕ, Bool, true, false, cond, List, [], ◌∷◌, ◌⊎◌, inl, inr, refl, sym, ap}
 use Rattle.std.proofs.Common.{subst, ◌∙◌, Option, Some, None}
 use Rattle.std.specs.Prelude.{nat_eq}
 use Rattle.std.specs.List.{Contains}
-use Rattle.std.proofs.lemmas.Bool.{false≢true, not-true, eqb-true, eq-eqb}
+use Rattle.std.proofs.lemmas.Bool.{and_from, and_parts, false_from_ne_true, false≢true, not-true, eqb-true, eq-eqb}
 use Rattle.sqlite.specs.Order.{Row as Values}
 use Rattle.sqlite.specs.Rowids.TheVariants.{Chosen}
 use Rattle.sqlite_rules.specs.Edit.{with_rowid}
@@ -36,31 +36,19 @@ use Rattle.plan_tables_constraints.proofs.Held.{text_itself}
 use Rattle.plan_tables_constraints.proofs.SetMoves.{shows_cells, shows_with, shows_without}
 use Rattle.plan_tables_content.proofs.Told.{is_some as same_some, none_some}
 
-pub and_both : (a b : Bool) → (a && b) ≡ true → (a ≡ true) × (b ≡ true)
-and_both true b h = (refl, h)
-and_both false b h = absurd (false≢true h)
-
-pub and_true : (a b : Bool) → a ≡ true → b ≡ true → (a && b) ≡ true
-and_true true b e h = h
-and_true false b e h = absurd (false≢true e)
-
-pub apart : (b : Bool) → (b ≡ true → ⊥) → b ≡ false
-apart true h = absurd (h refl)
-apart false h = refl
-
 -- ---- pairs
 
-pairs_told : (p q : Pair) → matched table.Dependency (pair_values p) (pair_values q) ≡ true → p ≡ q
+pub pairs_told : (p q : Pair) → matched table.Dependency (pair_values p) (pair_values q) ≡ true → p ≡ q
 pairs_told p q h =
-    let k = and_both (same_cell (natural q.successor) (natural p.successor)) _ h in
-    let l = and_both (same_cell (natural q.predecessor) (natural p.predecessor)) _ k.1 in
+    let k = and_parts (same_cell (natural q.successor) (natural p.successor)) _ h in
+    let l = and_parts (same_cell (natural q.predecessor) (natural p.predecessor)) _ k.1 in
     let a : p.successor ≡ q.successor = sym (one_natural q.successor p.successor k.0) in
     let b : p.predecessor ≡ q.predecessor = sym (one_natural q.predecessor p.predecessor l.0) in
     λ i. record { successor = a i; predecessor = b i }
 
 pub pair_itself : (p : Pair) → matched table.Dependency (pair_values p) (pair_values p) ≡ true
-pair_itself p = and_true _ _ (natural_itself p.successor p.successor refl)
-    (and_true _ _ (natural_itself p.predecessor p.predecessor refl) refl)
+pair_itself p = and_from _ _ (natural_itself p.successor p.successor refl)
+    (and_from _ _ (natural_itself p.predecessor p.predecessor refl) refl)
 
 pub pair_shows : (p : Pair) (rows : List Values) → shown table.Dependency (with_rowid Chosen rows
     (stored table.Dependency (pair_values p))) ≡ pair_values p
@@ -68,7 +56,7 @@ pair_shows p rows = refl
 
 pair_apart : (xs : List Pair) (p : Pair) → (Contains xs p → ⊥) → (q : Pair) → Contains xs q
     → matched table.Dependency (pair_values q) (pair_values p) ≡ false
-pair_apart xs p lacks q has = apart _ (λ e. lacks (subst (Contains xs) (pairs_told q p e) has))
+pair_apart xs p lacks q has = false_from_ne_true _ (λ e. lacks (subst (Contains xs) (pairs_told q p e) has))
 
 pair_lacks : (xs : List Pair) (p : Pair) (v : Values) → v ≡ pair_values p
     → ((q : Pair) → Contains xs q → matched table.Dependency (pair_values q) v ≡ false) → Contains xs p → ⊥
@@ -133,7 +121,7 @@ pairs_shown change pairs all held v = (
 -- ---- links
 
 pub link_itself : (l : Link) → matched table.LinkInForce (link_key l) (link_values l) ≡ true
-link_itself l = and_true _ _ (text_itself l.app l.app refl) (and_true _ _
+link_itself l = and_from _ _ (text_itself l.app l.app refl) (and_from _ _
     (text_itself l.predecessor l.predecessor refl) refl)
 
 pub link_shows : (l : Link) (rows : List Values)
@@ -143,8 +131,8 @@ link_shows l rows = refl
 -- a key tells the names, and not the limit
 links_told : (l m : Link) → matched table.LinkInForce (link_key l) (link_values m) ≡ true → HaveSameNames l m
 links_told l m h =
-    let k = and_both (same_cell (Text m.app) (Text l.app)) _ h in
-    let n = and_both (same_cell (Text m.predecessor) (Text l.predecessor)) _ k.1 in
+    let k = and_parts (same_cell (Text m.app) (Text l.app)) _ h in
+    let n = and_parts (same_cell (Text m.predecessor) (Text l.predecessor)) _ k.1 in
     let a : l.app ≡ m.app = sym (one_text m.app l.app k.0) in
     let b : l.predecessor ≡ m.predecessor = sym (one_text m.predecessor l.predecessor n.0) in
     (a, b)
@@ -179,7 +167,7 @@ links_shown old new rising all held v = (
       (shows_with table.LinkInForce link_values link_shows (beside old new) _ v).1 (elim (link_among old l) [
         | inl stood ↦ inr ((shows_without table.LinkInForce link_key (beside new old) all v).1 (
           (held v).1 (l, stood, is),
-          λ m gone. apart _ (λ hit.
+          λ m gone. false_from_ne_true _ (λ hit.
               let was = contains_filter (lacked_by new) old m gone in
               let same : m ≡ l = named_once old rising m l was.0 stood
               (links_told m l (subst (λ w. matched table.LinkInForce (link_key m) w ≡ true) is hit)) in
@@ -210,7 +198,8 @@ pub job_shown : (job : Job) (jobs : ℕ → Option Job) (all : Tables) → jobs 
 job_shown job jobs all new held v = (forth, back)
   where
     other : (n : ℕ) (j : Job) → jobs n ≡ Some j → nat_eq job.number n ≡ false
-    other n j at = apart _ (λ e. none_some (jobs job.number) j new (ap jobs (eqb-true job.number n e) ∙ at))
+    other n j at = false_from_ne_true _ (λ e.
+        none_some (jobs job.number) j new (ap jobs (eqb-true job.number n e) ∙ at))
 
     forth : Shows table.Job (job_put job all table.Job) v → IsOfSet job_values (jobs_after (Some job) jobs) v
     forth there = elim ((shows_cells table.Job job_values job_shows job all v).0 there) [
@@ -244,7 +233,7 @@ meta_shows (Some b) issued options rows = refl
 
 pub meta_key : (bounds : Option Bounds) (issued : ℕ) (options : Options)
     → matched table.Meta (natural 1 ∷ []) (meta_values bounds issued options) ≡ true
-meta_key bounds issued options = and_true _ _ (natural_itself 1 1 refl) refl
+meta_key bounds issued options = and_from _ _ (natural_itself 1 1 refl) refl
 
 pub meta_shown : (bounds : Option Bounds) (issued : ℕ) (options : Options) (was : Values) (all : Tables)
     → matched table.Meta (natural 1 ∷ []) was ≡ true

@@ -1,9 +1,9 @@
 -- A change that fits a content is taken by its tables, where they have room and the content after it is sound.
 use Rattle.std.proofs.Common.{◌≡◌, ◌↔◌, ◌≤◌, ◌<◌, ◌^◌, ◌∙◌, ◌||◌, ℕ, Bool, true, false, cond, List, [], ◌∷◌, length}
 use Rattle.std.proofs.Common.{filter, get_or, inl, inr, refl, sym, ap, subst, Option, Some, None, arith}
-use Rattle.std.specs.Prelude.{⊤, IfSome, is_some, unwrap_or, MatchBool}
+use Rattle.std.specs.Prelude.{⊤, IfSome, pos, is_some, unwrap_or, MatchBool}
 use Rattle.std.specs.List.{AllPairs, Contains}
-use Rattle.std.proofs.lemmas.Bool.{eq-eqb, false≢true}
+use Rattle.std.proofs.lemmas.Bool.{and_from, eq-eqb, false≢true}
 use Rattle.std.proofs.lemmas.Cmp.{tied_itself}
 use Rattle.std.proofs.lemmas.List.Kept.{AllPairs-filter}
 use Rattle.sqlite.specs.Order.{Row as Values, column}
@@ -60,21 +60,24 @@ use Rattle.plan_tables_writing.proofs.KindLemmas.{job_storable, links_storable, 
 use Rattle.plan_tables_constraints.specs.Room.{CanBeStored, HaveRoom}
 use Rattle.plan_tables_constraints.specs.Taken.{FindKind, FindMoves, FindsRoom, FittingIsTaken}
 use Rattle.plan_tables_constraints.proofs.ChangeLemmas.{lacked_by, link_among, link_itself, link_lacks, link_shows, meta_key}
-use Rattle.plan_tables_constraints.proofs.ChangeLemmas.{pair_itself, pair_shows}
+use Rattle.plan_tables_constraints.proofs.ChangeLemmas.{pair_itself, pair_shows, pairs_told}
 use Rattle.plan_tables_constraints.proofs.ContentAfter.{current_shows, deletion_shows, history_shows, row_shows}
-use Rattle.plan_tables_constraints.proofs.ContentAfter.{links_other, meta_other, number_tells, number_told, pairs_other, rows_other}
+use Rattle.plan_tables_constraints.proofs.ContentAfter.{links_other, meta_other, number_tells, number_told, pairs_other}
+use Rattle.plan_tables_constraints.proofs.ContentAfter.{rows_other}
 use Rattle.plan_tables_constraints.proofs.ContentAfter.{IsApart, told_other}
 use Rattle.plan_tables_constraints.proofs.DefinitionFacts.{cycles_other, redefined_content, renewed_other}
-use Rattle.plan_tables_constraints.proofs.EachTaken.{RoomFor, StandBeside, each_taken, no_rows, room_for_one, room_for_rest, room_without}
-use Rattle.plan_tables_constraints.proofs.Held.{Shows, matched}
+use Rattle.plan_tables_constraints.proofs.EachTaken.{RoomFor, StandBeside, each_taken, no_rows, room_for_one, room_for_rest}
+use Rattle.plan_tables_constraints.proofs.EachTaken.{room_without}
+use Rattle.plan_tables_constraints.proofs.Held.{Shows, matched, one_text}
 use Rattle.plan_tables_constraints.proofs.NameTables.{each_overlaid}
 use Rattle.plan_tables_constraints.proofs.NamedTaken.{applications_taken, calendars_taken, cycles_taken, periods_taken}
 use Rattle.plan_tables_constraints.proofs.NamedTaken.{found_rows, predecessors_taken}
-use Rattle.plan_tables_constraints.proofs.ShortRows.{applications_short, calendars_short, cycles_short, offsets_short, periods_short}
-use Rattle.plan_tables_constraints.proofs.ShortRows.{predecessors_short}
+use Rattle.plan_tables_constraints.proofs.DefinitionCells.{applications_cells, calendars_cells, cycles_cells, offsets_cells}
+use Rattle.plan_tables_constraints.proofs.DefinitionCells.{periods_cells}
+use Rattle.plan_tables_constraints.proofs.DefinitionCells.{predecessors_cells}
 use Rattle.plan_tables_constraints.proofs.MovedSets.{moved_other}
-use Rattle.plan_tables_constraints.proofs.RowTakes.{HasOtherNumber, IsOtherLink, IsOtherPair, each_shown, job_taken, link_taken, meta_taken}
-use Rattle.plan_tables_constraints.proofs.RowTakes.{pair_taken}
+use Rattle.plan_tables_constraints.proofs.FormRows.{HaveSameKey, each_shown, natural_or_null, next_taken, number_cell, text_cell}
+use Rattle.plan_tables_constraints.proofs.RowTakes.{HasOtherNumber, job_taken, meta_taken}
 use Rattle.plan_tables_constraints.proofs.SetMoves.{at_itself, shows_without}
 use Rattle.plan_tables_constraints.proofs.SetsTaken.{cp_one, deletion_one, history_one, ltp_one, moves_taken}
 
@@ -106,10 +109,11 @@ one_pair : (x : Pair) (xs : List Pair) (now : Tables) → AnyPair x → RoomFor 
     → TakesRow table.Dependency (pair_values x) now
 one_pair x xs now so room beside =
     let (n, le, has) = room_for_one x xs (now table.Dependency) room in
-    pair_taken now x n has (pairs_storable x) (each_shown (IsOtherPair x) table.Dependency (now table.Dependency)
-    (λ v there.
+    next_taken table.Dependency refl now n has (pair_values x)
+    (number_cell (pos x.successor), (number_cell (pos x.predecessor), tt)) (pairs_storable x) (λ v there same.
     let (y, shows, any, far) = beside v there in
-    record { other = y; shows = shows; apart = far x (contains_first x []) }))
+    let cells = subst (λ w. HaveSameKey table.Dependency w (pair_values x)) shows same in
+    far x (contains_first x []) (sym (pairs_told x y (and_from _ _ cells.0 (and_from _ _ cells.1.0 refl))))) tt
 
 less_pair : (x : Pair) (xs : List Pair) (now : Tables) → RoomFor (x ∷ xs) (now table.Dependency)
     → RoomFor xs (with_cells table.Dependency (pair_values x) now table.Dependency)
@@ -169,10 +173,14 @@ module _ (old new : List Link) (rising : IsRising link_cmp new) (are : (l : Link
       → TakesRow table.LinkInForce (link_values x) now
   one_link x xs now so room beside =
       let (n, le, has) = room_for_one x xs (now table.LinkInForce) room in
-      link_taken now x n has (are x so) (links_storable x) (each_shown (IsOtherLink x) table.LinkInForce
-      (now table.LinkInForce) (λ v there.
+      next_taken table.LinkInForce refl now n has (link_values x) (
+        text_cell x.app (omega (arith, (are x so).0.fits)),
+        (text_cell x.predecessor (omega (arith, (are x so).1.fits)), (natural_or_null x.within, tt)),
+      ) (links_storable x) (λ v there same.
       let (y, shows, any, far) = beside v there in
-      record { other = y; shows = shows; apart = far x (contains_first x []) }))
+      let cells = subst (λ w. HaveSameKey table.LinkInForce w (link_values x)) shows same in
+      far x (contains_first x [])
+      (one_text y.app x.app cells.0, one_text y.predecessor x.predecessor cells.1.0)) tt
 
   less_link : (x : Link) (xs : List Link) (now : Tables) → RoomFor (x ∷ xs) (now table.LinkInForce)
       → RoomFor xs (with_cells table.LinkInForce (link_values x) now table.LinkInForce)
@@ -426,32 +434,32 @@ module _ (all : Tables) (c : Content) (change : Change) (is : IsContentOf all c)
       let old = c.definitions.applications in
       applications_taken moves.names.items moves.rows.items all old more are (held_by table.Application)
       (found_rows table.Application IsApplicationRow old more moves.names.items moves.rows.items all are
-      (applications_short (overlaid old more) sounds.applications) found)
+      (applications_cells (overlaid old more) sounds.applications) found)
   block_taken (block.Calendars more) sounds are tellable found =
       let old = c.definitions.calendars in
       calendars_taken moves.names.items moves.rows.items all old more are (held_by table.CalendarEntry)
       (found_rows table.CalendarEntry IsCalendarRow old more moves.names.items moves.rows.items all are
-      (calendars_short (overlaid old more) sounds.calendars) found)
+      (calendars_cells (overlaid old more) sounds.calendars) found)
   block_taken (block.Periods more) sounds are tellable found =
       let old = c.definitions.periods in
       periods_taken moves.names.items moves.rows.items all old more are (held_by table.Period)
       (found_rows table.Period IsPeriodRow old more moves.names.items moves.rows.items all are
-      (periods_short (overlaid old more) sounds.periods) found)
+      (periods_cells (overlaid old more) sounds.periods) found)
   block_taken (block.Predecessors more) sounds are tellable found =
       let old = c.definitions.predecessors in
       predecessors_taken moves.names.items moves.rows.items all old more (each_overlaid (IsNamed (λ (p : Predecessor). p.name)) old
       more is.tellable.predecessors tellable) are (held_by table.Predecessor)
       (found_rows table.Predecessor IsPredecessorRow old more moves.names.items moves.rows.items all are
-      (predecessors_short (overlaid old more) sounds.predecessors) found)
+      (predecessors_cells (overlaid old more) sounds.predecessors) found)
   block_taken (block.RunCycles more) sounds are tellable found =
       let old = c.definitions.run_cycles in
       cycles_taken moves all old more
       (each_overlaid (IsNamed (λ (cycle : RunCycle). cycle.name)) old more is.tellable.run_cycles tellable) are.0 are.1
       (held_by table.RunCycle) (held_by table.Offset)
       (found_rows table.RunCycle IsCycleRow old more moves.names.items moves.rows.items all are.0
-      (cycles_short (overlaid old more) sounds.run_cycles) found.0)
+      (cycles_cells (overlaid old more) sounds.run_cycles) found.0)
       (found_rows table.Offset IsOffsetRow old more moves.names.items moves.offsets.items all are.1
-      (offsets_short (overlaid old more) sounds.run_cycles) found.1)
+      (offsets_cells (overlaid old more) sounds.run_cycles) found.1)
   block_taken (block.Options given) sounds are tellable found = meta
 
   kind_taken : (d : DefinitionChange) → AreDefinitions (redefined d c.definitions) → AreMovesOf d moves

@@ -2,7 +2,7 @@
 use Rattle.std.proofs.Common.{◌≡◌, ◌↔◌, ◌==◌, ◌||◌, ◌&&◌, ℕ, Bool, true, false, cond, List, [], ◌∷◌, refl, sym, ap}
 use Rattle.std.proofs.Common.{subst, ◌∙◌, Option, Some, None}
 use Rattle.std.specs.Prelude.{is_some, if◌then◌else◌, unwrap_or, nat_eq, IfSome}
-use Rattle.std.proofs.lemmas.Bool.{eqb-true, false≢true}
+use Rattle.std.proofs.lemmas.Bool.{and_from, and_parts, eqb-true, false≢true}
 use Rattle.sqlite.specs.Order.{Row as Values}
 use Rattle.sqlite.specs.Rowids.TheVariants.{Chosen}
 use Rattle.sqlite_rules.specs.Edit.{with_rowid}
@@ -40,7 +40,7 @@ use Rattle.run_cycles.specs.declared.cycles.RunCycle.{RunCycle}
 use Rattle.app_definition_records.specs.declared.predecessors.Predecessor.{Predecessor}
 use Rattle.plan_tables_writing.specs.Writing.{IsTellableChange, job_kept, links_moved, meta_moved, meta_told, pairs_moved}
 use Rattle.plan_tables_writing.specs.Writing.{beside, rows_moved, plans_written, standing}
-use Rattle.plan_tables_constraints.proofs.ChangeLemmas.{and_both, and_true, job_shown, links_shown, meta_key, meta_shown}
+use Rattle.plan_tables_constraints.proofs.ChangeLemmas.{job_shown, links_shown, meta_key, meta_shown}
 use Rattle.plan_tables_constraints.proofs.ChangeLemmas.{pairs_shown}
 use Rattle.plan_tables_constraints.proofs.Held.{Shows, natural_itself, one_natural, same_cell}
 use Rattle.plan_tables_constraints.proofs.MovedSets.{moved_other, moved_own, set_moved}
@@ -55,11 +55,11 @@ IsApart u t = (place u == place t) ≡ false
 module _ {X : Type 0} (number_of : X → ℕ) where
   pub number_told : (x y : X) (rest : Bool) → (same_cell (natural (number_of y)) (natural
       (number_of x)) && rest) ≡ true → number_of x ≡ number_of y
-  number_told x y rest h = sym (one_natural (number_of y) (number_of x) (and_both _ rest h).0)
+  number_told x y rest h = sym (one_natural (number_of y) (number_of x) (and_parts _ rest h).0)
 
   pub number_tells : (x y : X) (rest : Bool) → rest ≡ true → number_of x ≡ number_of y
       → (same_cell (natural (number_of y)) (natural (number_of x)) && rest) ≡ true
-  number_tells x y rest e same = and_true _ rest (natural_itself (number_of y) (number_of x) (sym same)) e
+  number_tells x y rest e same = and_from _ rest (natural_itself (number_of y) (number_of x) (sym same)) e
 
 pub row_shows : (x : Row) (rows : List Values) → shown table.LongTerm (with_rowid Chosen rows (stored table.LongTerm
     (row_values x))) ≡ row_values x

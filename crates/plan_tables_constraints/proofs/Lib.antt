@@ -1,5 +1,6 @@
 mod Held
 mod RowFits
+mod FormRows
 mod RowTakes
 mod SetMoves
 mod MovedSets
@@ -11,7 +12,7 @@ pub mod DefinitionFacts
 mod EachTaken
 mod SetsTaken
 mod ChangeTaken
-mod DefinitionTakes
+mod OffsetParents
 mod OneRow
-mod ShortRows
+mod DefinitionCells
 mod NamedTaken

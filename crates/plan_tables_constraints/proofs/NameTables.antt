@@ -8,7 +8,7 @@ use Rattle.std.specs.Cmp.Lexicographic.{nat_list_cmp_total, slice_cmp}
 use Rattle.std.specs.Ordering.{nat_cmp, eq_by_cmp, is_eq}
 use Rattle.std.specs.FinMap as maps
 use Rattle.std.specs.FinMap.{get-remove, slice_cmp-IsAntisymmetric, nat_cmp-IsAntisymmetric}
-use Rattle.std.proofs.lemmas.Bool.{false≢true}
+use Rattle.std.proofs.lemmas.Bool.{and_from, and_parts, false_from_ne_true, false≢true}
 use Rattle.std.proofs.lemmas.Cmp.{tied_itself}
 use Rattle.sqlite.specs.Order.{Row as Values, column}
 use Rattle.sqlite.specs.Rowids.TheVariants.{Chosen}
@@ -22,7 +22,6 @@ use Rattle.plan_tables_schema.specs.declared.tables.Table.{Table}
 use Rattle.plan_tables_content.specs.Content.{AreEach, ByName, IsOfSome}
 use Rattle.plan_tables_writing.specs.Redefining.{AreRowsOf, name_key, rows_of}
 use Rattle.plan_tables_writing.specs.Writing.{with_each, without_each}
-use Rattle.plan_tables_constraints.proofs.ChangeLemmas.{and_both, and_true, apart}
 use Rattle.plan_tables_constraints.proofs.Held.{Shows, equal_from, matched, one_text, same_cell, text_itself}
 use Rattle.plan_tables_constraints.proofs.SetMoves.{shows_cells, shows_without}
 use Rattle.plan_tables_content.proofs.Told.{none_some}
@@ -121,11 +120,11 @@ pub named_told : (name other : List ℕ) (v : Values) → HasName other v → by
 named_told name other v (rest, is) h =
     let k : (same_cell (Text other) (Text name) && true) ≡ true = subst (λ w. by_name
     (name_key name) w ≡ true) is h in
-    sym (one_text other name (and_both (same_cell (Text other) (Text name)) true k).0)
+    sym (one_text other name (and_parts (same_cell (Text other) (Text name)) true k).0)
 
 pub named_tells : (name : List ℕ) (v : Values) → HasName name v → by_name (name_key name) v ≡ true
 named_tells name v (rest, is) = subst (λ w. by_name (name_key name) w ≡ true) (sym is)
-    (and_true (same_cell (Text name) (Text name)) true (text_itself name name refl) refl)
+    (and_from (same_cell (Text name) (Text name)) true (text_itself name name refl) refl)
 
 -- ---- a table of them
 
@@ -147,7 +146,7 @@ module _ {D : Type 0} (t : Table) (IsRow : List ℕ → D → Values → Type 0)
     (λ there.
         let k = (shows_without t name_key (name ∷ []) all v).0 there in
         let (other, d, at, is) = (held v).0 k.0 in
-        let no : eq_by_cmp (slice_cmp nat_cmp) other name ≡ false = apart _ (λ e.
+        let no : eq_by_cmp (slice_cmp nat_cmp) other name ≡ false = false_from_ne_true _ (λ e.
         false≢true (sym (k.1 name (contains_first name []))
         ∙ subst (λ n. matched t (name_key n) v ≡ true) (same_text other name e) (tells other d v is))) in (
           other,
@@ -168,7 +167,7 @@ module _ {D : Type 0} (t : Table) (IsRow : List ℕ → D → Values → Type 0)
       go other d is true e at = none_some None d refl at
       go other d is false e at = (shows_without t name_key (name ∷ []) all v).1 (
         (held v).1 (other, d, at, is),
-        λ n has. apart _ (λ hit.
+        λ n has. false_from_ne_true _ (λ hit.
             let named_so : name ≡ n = one_is name n has in
             let same : n ≡ other = told n other d v is hit in
             false≢true (sym e ∙ text_is other name (sym (named_so ∙ same)))),
@@ -197,7 +196,7 @@ module _ {D : Type 0} (t : Table) (IsRow : List ℕ → D → Values → Type 0)
           | inl new ↦ inl ((are.rows_are v).1 (name, d, new, is))
           | inr stood ↦ inr (subst (λ w. Shows t w v) (sym gone) ((shows_without t name_key names all v).1 (
             (held v).1 (name, d, stood.1, is),
-            λ n has. apart _ (λ hit. named_none n name (told n name d v is hit) has stood.0),
+            λ n has. false_from_ne_true _ (λ hit. named_none n name (told n name d v is hit) has stood.0),
           )))
         ]),
   )

@@ -31,9 +31,10 @@ use Rattle.plan_tables_writing.specs.Taking.{TakesMoves}
 use Rattle.plan_tables_writing.specs.Writing.{with_each, without_each}
 use Rattle.plan_tables_writing.proofs.KindLemmas.{cp_storable, deletions_storable, history_storable, ltp_storable}
 use Rattle.plan_tables_constraints.proofs.EachTaken.{StandBeside, each_taken}
+use Rattle.plan_tables_constraints.proofs.FormRows.{each_shown}
 use Rattle.plan_tables_constraints.proofs.Held.{Shows, matched}
 use Rattle.plan_tables_constraints.proofs.MovedSets.{is_changed, is_put, is_rest, lacking, not_put, one_each}
-use Rattle.plan_tables_constraints.proofs.RowTakes.{HasOtherNumber, IsOtherRow, current_taken, deletion_taken, each_shown, history_taken}
+use Rattle.plan_tables_constraints.proofs.RowTakes.{HasOtherNumber, IsOtherRow, current_taken, deletion_taken, history_taken}
 use Rattle.plan_tables_constraints.proofs.RowTakes.{ltp_taken}
 use Rattle.plan_tables_constraints.proofs.SetMoves.{shows_with, shows_without}
 

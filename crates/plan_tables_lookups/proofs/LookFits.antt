@@ -1,6 +1,7 @@
 -- What is asked of each table fits it.
 use Rattle.std.proofs.Common.{◌≡◌, ℕ, zero, ◌+◌, ◌^◌, ◌==◌, nat_le, Bool, true, false, find, List, [], ◌∷◌, length, map}
 use Rattle.std.proofs.Common.{refl, slice_get, Option, Some, None, is_some, ◌&&◌, ◌<◌, arith, pos}
+use Rattle.std.specs.List.{AllByRecursion}
 use Rattle.sqlite.specs.Query.{Query, inner, end}
 use Rattle.sqlite.specs.Term.{col, lit}
 use Rattle.sqlite.specs.Order.{Row}
@@ -127,141 +128,69 @@ few_own : (t : Table) → length (column_names t) < 1000
 few_own Meta = omega arith
 few_own t = omega arith
 
+-- and shows them, each under its name
+own_terms : (tree : ℕ) (t : Table)
+    → map (λ o. o.term) (map (shown_as (table_at tree t)) (column_names t)) ≡ select_terms t
+unfolding everything
+own_terms tree Meta = refl
+own_terms tree t = refl
+
+own_names : (tree : ℕ) (t : Table)
+    → map (λ o. o.name) (map (shown_as (table_at tree t)) (column_names t)) ≡ column_names t
+unfolding everything
+own_names tree Meta = refl
+own_names tree t = refl
+
+-- so a question fits its table where its tests and its order do
+fits : (tree : ℕ) (q : Question)
+    → AllByRecursion (λ (t : Test). IsTested (table_at tree q.table) t (tested q t)) q.tests
+    → AllByRecursion (λ (b : By). IsPlaced (table_at tree q.table)
+    (map (shown_as (table_at tree q.table)) (column_names q.table)) b (placed q b)) q.order
+    → length q.order < 1000 → Fits tree q
+fits tree q tests order short = record {
+  about = record {
+    has = all_there (table_at tree q.table) (column_names q.table) (has_own tree q.table);
+    few = few_own q.table;
+    tests = tests;
+    order = order;
+    short = short;
+  };
+  terms = own_terms tree q.table;
+  names = own_names tree q.table;
+}
+
 pub look_fits : (tree : ℕ) (look : Look) → Fits tree (question look)
 unfolding everything
-look_fits tree InHistory = record {
-  about = record {
-    has = (tt, (tt, (tt, (tt, (tt, tt)))));
-    few = omega arith;
-    tests = (is_tested 0 _ refl refl refl refl refl refl, tt);
-    order = tt;
-    short = omega arith;
-  };
-  terms = refl;
-  names = refl;
-}
-look_fits tree InDeletions = record {
-  about = record {
-    has = (tt, (tt, (tt, (tt, (tt, (tt, tt))))));
-    few = omega arith;
-    tests = (is_tested 0 _ refl refl refl refl refl refl, tt);
-    order = tt;
-    short = omega arith;
-  };
-  terms = refl;
-  names = refl;
-}
-look_fits tree LastOf = record {
-  about = record {
-    has = (tt, (tt, (tt, (tt, (tt, tt)))));
-    few = omega arith;
-    tests = (is_tested 1 _ refl refl refl refl refl refl, (is_tested 2 _ refl refl refl refl refl refl, tt));
-    order = (is_placed 2 _ refl refl refl refl refl, tt);
-    short = omega arith;
-  };
-  terms = refl;
-  names = refl;
-}
-look_fits tree DeletedFrom = record {
-  about = record {
-    has = (tt, (tt, (tt, (tt, (tt, (tt, tt))))));
-    few = omega arith;
-    tests = (is_tested 5 _ refl refl refl refl refl refl, (is_tested 2 _ refl refl refl refl refl refl, tt));
-    order = tt;
-    short = omega arith;
-  };
-  terms = refl;
-  names = refl;
-}
-look_fits tree JobOf = record {
-  about = record {
-    has = (tt, (tt, (tt, tt)));
-    few = omega arith;
-    tests = (is_tested 0 _ refl refl refl refl refl refl, tt);
-    order = tt;
-    short = omega arith;
-  };
-  terms = refl;
-  names = refl;
-}
-look_fits tree HistoryListed = record {
-  about = record {
-    has = (tt, (tt, (tt, (tt, (tt, tt)))));
-    few = omega arith;
-    tests = tt;
-    order = (
-      is_placed 2 _ refl refl refl refl refl,
-      (is_placed 1 _ refl refl refl refl refl, (is_placed 0 _ refl refl refl refl refl, tt)),
-    );
-    short = omega arith;
-  };
-  terms = refl;
-  names = refl;
-}
-look_fits tree HistoryOf = record {
-  about = record {
-    has = (tt, (tt, (tt, (tt, (tt, tt)))));
-    few = omega arith;
-    tests = (is_tested 1 _ refl refl refl refl refl refl, tt);
-    order = (
-      is_placed 2 _ refl refl refl refl refl,
-      (is_placed 1 _ refl refl refl refl refl, (is_placed 0 _ refl refl refl refl refl, tt)),
-    );
-    short = omega arith;
-  };
-  terms = refl;
-  names = refl;
-}
-look_fits tree DeletionsListed = record {
-  about = record {
-    has = (tt, (tt, (tt, (tt, (tt, (tt, tt))))));
-    few = omega arith;
-    tests = tt;
-    order = (
-      is_placed 2 _ refl refl refl refl refl,
-      (is_placed 1 _ refl refl refl refl refl, (is_placed 0 _ refl refl refl refl refl, tt)),
-    );
-    short = omega arith;
-  };
-  terms = refl;
-  names = refl;
-}
-look_fits tree DeletionsOf = record {
-  about = record {
-    has = (tt, (tt, (tt, (tt, (tt, (tt, tt))))));
-    few = omega arith;
-    tests = (is_tested 1 _ refl refl refl refl refl refl, tt);
-    order = (
-      is_placed 2 _ refl refl refl refl refl,
-      (is_placed 1 _ refl refl refl refl refl, (is_placed 0 _ refl refl refl refl refl, tt)),
-    );
-    short = omega arith;
-  };
-  terms = refl;
-  names = refl;
-}
-look_fits tree (Whole Meta) = record {
-  about = record {
-    has = all_there (table_at tree Meta) (column_names Meta) (has_own tree Meta);
-    few = few_own Meta;
-    tests = tt;
-    order = tt;
-    short = omega arith;
-  };
-  terms = refl;
-  names = refl;
-}
-look_fits tree (Whole t) = record {
-  about = record {
-    has = all_there (table_at tree t) (column_names t) (has_own tree t);
-    few = few_own t;
-    tests = tt;
-    order = tt;
-    short = omega arith;
-  };
-  terms = refl;
-  names = refl;
-}
+look_fits tree InHistory = fits tree (question InHistory) (is_tested 0 _ refl refl refl refl refl refl, tt)
+    tt (omega arith)
+look_fits tree InDeletions = fits tree (question InDeletions) (is_tested 0 _ refl refl refl refl refl refl, tt)
+    tt (omega arith)
+look_fits tree LastOf = fits tree (question LastOf)
+    (is_tested 1 _ refl refl refl refl refl refl, (is_tested 2 _ refl refl refl refl refl refl, tt))
+    (is_placed 2 _ refl refl refl refl refl, tt) (omega arith)
+look_fits tree DeletedFrom = fits tree (question DeletedFrom)
+    (is_tested 5 _ refl refl refl refl refl refl, (is_tested 2 _ refl refl refl refl refl refl, tt))
+    tt (omega arith)
+look_fits tree JobOf = fits tree (question JobOf) (is_tested 0 _ refl refl refl refl refl refl, tt)
+    tt (omega arith)
+look_fits tree HistoryListed = fits tree (question HistoryListed) tt (
+  is_placed 2 _ refl refl refl refl refl,
+  (is_placed 1 _ refl refl refl refl refl, (is_placed 0 _ refl refl refl refl refl, tt)),
+) (omega arith)
+look_fits tree HistoryOf = fits tree (question HistoryOf) (is_tested 1 _ refl refl refl refl refl refl, tt) (
+  is_placed 2 _ refl refl refl refl refl,
+  (is_placed 1 _ refl refl refl refl refl, (is_placed 0 _ refl refl refl refl refl, tt)),
+) (omega arith)
+look_fits tree DeletionsListed = fits tree (question DeletionsListed) tt (
+  is_placed 2 _ refl refl refl refl refl,
+  (is_placed 1 _ refl refl refl refl refl, (is_placed 0 _ refl refl refl refl refl, tt)),
+) (omega arith)
+look_fits tree DeletionsOf = fits tree (question DeletionsOf) (is_tested 1 _ refl refl refl refl refl refl, tt) (
+  is_placed 2 _ refl refl refl refl refl,
+  (is_placed 1 _ refl refl refl refl refl, (is_placed 0 _ refl refl refl refl refl, tt)),
+) (omega arith)
+look_fits tree (Whole t) = fits tree (question (Whole t)) tt
+    tt (omega arith)
 
 pub look_accepted : (schema : Schema) (tree : ℕ) (look : Look) → nat_le (2 ^ 31) tree ≡ false
     → find (λ o. o.tree == tree) schema.tables ≡ Some (table_at tree (question look).table)
