@@ -5,7 +5,7 @@
 //!
 //! ```text
 //! let mut calendars: ByName<Calendar> = ByName::new(alloc);
-//! gather_all(alloc, b"C,SAT,FREE\nC,SUN,FREE\nD,2024-12-24,FREE\n", &mut calendars)?;
+//! collect_records(alloc, b"C,SAT,FREE\nC,SUN,FREE\nD,2024-12-24,FREE\n", &mut calendars)?;
 //! assert_eq!(rt; calendars.len(), 2);
 //! ```
 #![tactic(auto)]
@@ -25,4 +25,4 @@ pub use by_name::{ByName, Definition};
 pub use cycle_records::RunCycles;
 pub use periods::DefinedPeriod;
 pub use predecessors::{Predecessor, Predecessors};
-pub use records::{BlockFault, LONGEST_BLOCK, gather_all};
+pub use records::{BlockFault, LONGEST_BLOCK, collect_records};

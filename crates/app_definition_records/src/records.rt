@@ -38,7 +38,7 @@ fn fault_of(error: &Error, number: usize) -> BlockFault
 }
 
 /// Gathers the records of a block.
-pub fn gather_all<D: Definition>(
+pub fn collect_records<D: Definition>(
     alloc: Global,
     text: &[u8],
     into: &mut ByName<D>,

@@ -1,4 +1,4 @@
 pub mod OptionLemmas
 pub mod OneBlock
 pub mod BlockNames
-pub mod TakenBack
+pub mod RolledBack

@@ -1,6 +1,6 @@
 //! Laws of the definitions: each is the contract of a function that does nothing.
 
-ghost use Rattle.app_definitions.specs.Laws.{IsFaultyOnce, MergeIsTakenBack, ReadsAsOne, ReadsOrIsFaulty};
+ghost use Rattle.app_definitions.specs.Laws.{IsFaultyOnce, MergeIsRolledBack, ReadsAsOne, ReadsOrIsFaulty};
 
 /// A text reads as one block of a kind at most.
 pub fn reads_as_one()
@@ -19,6 +19,6 @@ pub fn is_faulty_once()
 
 /// Once a block is merged, what its names had before can be restored, and then the definitions are those before the
 /// merge.
-pub fn merge_is_taken_back()
-    ensures { MergeIsTakenBack }
+pub fn merge_is_rolled_back()
+    ensures { MergeIsRolledBack }
 {}

@@ -25,7 +25,7 @@ use Rattle.external_dependencies.specs.Nearest.{arrival_of}
 use Rattle.external_dependencies.specs.declared.rows.PlacedRow.{PlacedRow}
 use Rattle.planner_machine.specs.Act.{ActionRefused, Acts, IsCurrent, IsUncompleted, acted, acted_status, action_move}
 use Rattle.planner_machine.specs.Act.{cp_action}
-use Rattle.planner_machine.specs.Content.{Content, Seat, Sets, StandsAt, seat}
+use Rattle.planner_machine.specs.Content.{Content, Seat, Sets, IsOnlyAt, seat}
 use Rattle.planner_machine.specs.Fate.{place_after_action}
 use Rattle.planner_machine.specs.InForce.{PutsNone}
 use Rattle.planner_machine.specs.Moves.{each, has_key, or_else}
@@ -101,11 +101,11 @@ module _ (c : Content) (sound : IsSound c) (action : Action) (changed : CurrentR
       ap (λ (b : Bool). if b then acted_status action is.was else is.was) same ∙ ap (λ o. unwrap_or o is.was) is.allowed
 
   -- a row under another serial stays where it is
-  pub place_stays : (serial : ℕ) (p : PlacedRow) → serial ≢ changed.row.serial → StandsAt c.sets serial p
+  pub place_stays : (serial : ℕ) (p : PlacedRow) → serial ≢ changed.row.serial → IsOnlyAt c.sets serial p
       → place_after_action key action p.row p.place ≡ p.place
   place_stays serial p other there = at p.row p.place there
     where
-      at : (row : Row) (place : Place) → StandsAt c.sets serial (record { row = row; place = place })
+      at : (row : Row) (place : Place) → IsOnlyAt c.sets serial (record { row = row; place = place })
           → place_after_action key action row place ≡ place
       at row LongTerm there = refl
       at row (Current status) there = ap Current (other_stays serial (record { row = row; status = status })
@@ -156,7 +156,7 @@ module _ (c : Content) (sound : IsSound c) (action : Action) (changed : CurrentR
 
   -- a row that is deleted lives no more
   deleted_gone : changed.status ≡ D → (place : Place) (row : Row)
-      → StandsAt sets' changed.row.serial (record { row = row; place = place }) → IsLive place → ⊥
+      → IsOnlyAt sets' changed.row.serial (record { row = row; place = place }) → IsLive place → ⊥
   deleted_gone deleted LongTerm row at live =
       let no : None ≡ Some changed = sym (ap (λ (x : Seat). x.cp) at) ∙ at_own in cc
   deleted_gone deleted (Current status) row at live =

@@ -3,7 +3,7 @@ pub mod ChangeLemmas
 pub mod PairLemmas
 pub mod DailyLemmas
 pub mod StatusLemmas
-pub mod AskedLemmas
+pub mod ReadLemmas
 pub mod ActLemmas
 pub mod ResetLemmas
 pub mod WaitLemmas

@@ -22,7 +22,7 @@ use Rattle.external_dependencies.specs.declared.live.Arrival.{Arrival}
 use Rattle.external_dependencies.specs.declared.pairs.Pair.{Pair}
 use Rattle.external_dependencies.specs.declared.rows.PlacedRow.{PlacedRow}
 use Rattle.planner_machine.specs.Act.{acted_status, action_move}
-use Rattle.planner_machine.specs.Content.{Content, Sets, StandsAt, alone}
+use Rattle.planner_machine.specs.Content.{Content, Sets, IsOnlyAt, alone}
 use Rattle.planner_machine.specs.Fate.{place_after_action}
 use Rattle.planner_machine.specs.Moves.{each, has_key}
 use Rattle.planner_machine.specs.Pairs.{ArePairs, IsKeptPair, IsOpenPair, LiveAt}
@@ -88,10 +88,10 @@ module _ (c : Content) (sound : IsSound c) (changed : CurrentRow) (is : IsActedO
   abbrev sets' : Sets
   sets' = each (action_move key Reset) c.sets
 
-  on : (n : ℕ) (p : PlacedRow) → StandsAt c.sets n p → StandsAt sets' n (go p)
+  on : (n : ℕ) (p : PlacedRow) → IsOnlyAt c.sets n p → IsOnlyAt sets' n (go p)
   on = stands_after (action_move key Reset) go (action_is_move key Reset) c.sets rows c.sets.bounds
 
-  back : (n : ℕ) (q : PlacedRow) → StandsAt sets' n q → (p : PlacedRow) × StandsAt c.sets n p × (go p ≡ q)
+  back : (n : ℕ) (q : PlacedRow) → IsOnlyAt sets' n q → (p : PlacedRow) × IsOnlyAt c.sets n p × (go p ≡ q)
   back = stood_before (action_move key Reset) go (action_is_move key Reset) c.sets rows c.sets.bounds
 
   live_on : (a : Arrival) → LiveAt c.sets a → LiveAt sets' a
@@ -108,17 +108,17 @@ module _ (c : Content) (sound : IsSound c) (changed : CurrentRow) (is : IsActedO
       )
 
   -- a row under another serial stays where it is
-  other_on : (n : ℕ) (p : PlacedRow) → n ≢ serial → StandsAt c.sets n p → StandsAt sets' n p
+  other_on : (n : ℕ) (p : PlacedRow) → n ≢ serial → IsOnlyAt c.sets n p → IsOnlyAt sets' n p
   other_on n p other there =
       let same : place_after_action key Reset p.row p.place ≡ p.place =
       place_stays c sound Reset changed is n p other there in
       on n p there ∙ ap (alone p.row) same
 
-  other_back : (n : ℕ) (q : PlacedRow) → n ≢ serial → StandsAt sets' n q → StandsAt c.sets n q
+  other_back : (n : ℕ) (q : PlacedRow) → n ≢ serial → IsOnlyAt sets' n q → IsOnlyAt c.sets n q
   other_back n q other there =
       let (p, was, at) = back n q there in
       let same : q ≡ p = one_place sets' n q p there (other_on n p other was) in
-      subst (StandsAt c.sets n) (sym same) was
+      subst (IsOnlyAt c.sets n) (sym same) was
 
   -- the row itself waits
   abbrev own : PlacedRow
@@ -127,15 +127,15 @@ module _ (c : Content) (sound : IsSound c) (changed : CurrentRow) (is : IsActedO
   waiting : changed.status ≡ W
   waiting = was_in_error is.was changed.status is.allowed
 
-  own_stands : StandsAt sets' serial own
+  own_stands : IsOnlyAt sets' serial own
   own_stands =
       let was : CurrentRow = record { row = changed.row; status = is.was } in
       let there = on serial (record { row = changed.row; place = Current is.was })
       (stands_in_cp c.sets rows serial was is.stands) in
       there ∙ ap (λ (s : Status). alone changed.row (Current s)) (own_status c sound Reset changed is ∙ waiting)
 
-  is_own : (n : ℕ) (q : PlacedRow) → n ≡ serial → StandsAt sets' n q → own ≡ q
-  is_own n q same there = one_place sets' serial own q own_stands (subst (λ m. StandsAt sets' m q) same there)
+  is_own : (n : ℕ) (q : PlacedRow) → n ≡ serial → IsOnlyAt sets' n q → own ≡ q
+  is_own n q same there = one_place sets' serial own q own_stands (subst (λ m. IsOnlyAt sets' m q) same there)
 
   module _ (change : PairChange) (row_leads : LeadsToRowPairs c changed.row change) where
     abbrev pairs : List Pair
@@ -233,7 +233,7 @@ module _ (c : Content) (sound : IsSound c) (changed : CurrentRow) (is : IsActedO
         row_on : IsRowPair c.in_force c.sets changed.row pair → IsOpenPair c.in_force sets' pair
         row_on r = record {
           placed = own;
-          stands = subst (λ n. StandsAt sets' n own) r.successor own_stands;
+          stands = subst (λ n. IsOnlyAt sets' n own) r.successor own_stands;
           waits = refl;
           app = r.app;
           within = r.within;

@@ -21,7 +21,7 @@ use Rattle.external_dependencies.specs.declared.pairs.Pair.{Pair}
 use Rattle.external_dependencies.specs.declared.rows.PlacedRow.{PlacedRow}
 use Rattle.external_dependencies.proofs.LexLemmas.{pairs_ordered}
 use Rattle.planner_machine.specs.Act.{IsLeastUncompleted, IsUncompleted}
-use Rattle.planner_machine.specs.Content.{Content, Seat, Sets, StandsAt, alone, seat}
+use Rattle.planner_machine.specs.Content.{Content, Seat, Sets, IsOnlyAt, alone, seat}
 use Rattle.planner_machine.specs.Pairs.{IsCompleteAt, pair_of}
 use Rattle.planner_machine.specs.Sound.{IsSound}
 use Rattle.planner_machine.proofs.SeatLemmas.{one_place}
@@ -112,11 +112,11 @@ predecessor_lives c sound row waits pair there own = elim ((sound.pairs.settled.
       let (serial, p, stands, live, arrives) = is.nearest.live in
       let same : serial ≡ pair.predecessor = sym (sound.serials.numbered serial p stands)
       ∙ ap (λ (a : Arrival). a.serial) arrives ∙ is.predecessor in
-      (p, subst (λ n. StandsAt c.sets n p) same stands, live)
+      (p, subst (λ n. IsOnlyAt c.sets n p) same stands, live)
   | inr is ↦
       let at = stands_cp c.sets sound.serials row.serial (record { row = row; status = W }) waits in
       let one = one_place c.sets row.serial (record { row = row; place = Current W }) is.placed at
-      (subst (λ n. StandsAt c.sets n is.placed) own is.stands) in
+      (subst (λ n. IsOnlyAt c.sets n is.placed) own is.stands) in
       absurd (is.waits_no_more (subst (λ (p : PlacedRow). IsOpen p.place) one refl))
 ]
 

@@ -13,7 +13,7 @@ use Rattle.external_dependencies.specs.declared.change.PairChange.{PairChange}
 use Rattle.external_dependencies.specs.declared.pairs.Pair.{Pair}
 use Rattle.external_dependencies.specs.declared.rows.PlacedRow.{PlacedRow}
 use Rattle.planner_machine.specs.Act.{IsLeastUncompleted, IsUncompleted, action_move}
-use Rattle.planner_machine.specs.Content.{Content, Sets, StandsAt}
+use Rattle.planner_machine.specs.Content.{Content, Sets, IsOnlyAt}
 use Rattle.planner_machine.specs.Moves.{each}
 use Rattle.planner_machine.specs.Pairs.{ArePairs}
 use Rattle.plan_store.specs.Changes.{LeadsOn, MovesNothing, pairs_after}
@@ -23,7 +23,7 @@ use Rattle.plan_store.specs.declared.changes.DefinitionChange.TheVariants.{AsBef
 
 -- the occurrence of the serial is live
 abbrev pub LivesAt : Sets → ℕ → Type 0
-LivesAt s serial = (p : PlacedRow) × StandsAt s serial p × IsLive p.place
+LivesAt s serial = (p : PlacedRow) × IsOnlyAt s serial p × IsLive p.place
 
 -- the predecessor that forbids the action on the occurrence of the serial: the least that isn't complete, which only a
 -- start reads; or that there is none

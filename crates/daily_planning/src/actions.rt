@@ -5,7 +5,7 @@ ghost use Rattle.planner_machine.specs.Pairs.{IsCompleteAt};
 ghost use Rattle.planner_machine.specs.Sound.{IsSound};
 ghost use Rattle.plan_store.specs.Changes.{LeadsOn, pairs_after};
 ghost use Rattle.plan_store.specs.Verdicts.{VerdictIs};
-ghost use Rattle.plan_store.specs.Views.{Behind, BehindPairs, IsCurrentRow, Shows, shown};
+ghost use Rattle.plan_store.specs.Views.{HoldsOfSound, HoldsOfPairs, IsCurrentRow, Shows, shown};
 ghost use Rattle.daily_planning.specs.Actions.{ArePairsActed, ChangesStatus, IsActedOn, IsLiveCurrent, LeadsToRowPairs};
 ghost use Rattle.daily_planning.specs.Actions.{LivesAt, WaitsFor};
 
@@ -45,7 +45,7 @@ fn act(
     action: Action,
     current: &CurrentRow,
 ) -> Result<Verdict, AllocError>
-    ensures { IfOk result (λ verdict. Behind (Need.Key current.now.row.key) view.now (λ c.
+    ensures { IfOk result (λ verdict. HoldsOfSound (Need.Key current.now.row.key) view.now (λ c.
         c.sets.bounds ≢ None → IsCurrentRow c.sets current.now.row.key (Some current.now)
         → VerdictIs (decided current.now.row.key action) c verdict)) }
 {
@@ -71,7 +71,7 @@ fn act(
 
 // The predecessor that forbids the action on a row of the current plan, which waits if it is to be started.
 fn waited_for(view: &View<'_>, action: Action, current: &CurrentRow) -> Option<Serial>
-    ensures { Behind (Need.Key current.now.row.key) view.now (λ c.
+    ensures { HoldsOfSound (Need.Key current.now.row.key) view.now (λ c.
         c.sets.cp current.now.row.serial ≡ Some current.now
         → (action ≡ Action.Start → current.now.status ≡ Status.W)
         → WaitsFor c action current.now.row.serial result) }
@@ -97,7 +97,7 @@ fn is_start(action: Action) -> bool
 // Whether the predecessor of a pair that is shown is complete. It is live, so it is in a plan or in history.
 fn is_complete(view: &View<'_>, pair: &Pair) -> bool
     requires { Contains (shown view.now).pairs pair.now }
-    ensures { BehindPairs view.now (λ c. LivesAt c.sets pair.now.predecessor
+    ensures { HoldsOfPairs view.now (λ c. LivesAt c.sets pair.now.predecessor
         → IsTrue result ↔ IsCompleteAt c.sets pair.now.predecessor) }
 {
     match view.predecessor(pair) {
@@ -113,7 +113,7 @@ fn status_change(
     action: Action,
     changed: &CurrentRow,
 ) -> Result<Change, AllocError>
-    ensures { IfOk result (λ change. Behind (Need.Key changed.now.row.key) view.now (λ c.
+    ensures { IfOk result (λ change. HoldsOfSound (Need.Key changed.now.row.key) view.now (λ c.
         IsActedOn c action changed.now → ChangesStatus c action changed.now change)) }
 {
     let rows = single(alloc, *changed)?;
@@ -131,10 +131,10 @@ fn acted_pairs(
     action: Action,
     changed: &CurrentRow,
 ) -> Result<PairChange, AllocError>
-    ensures pairs { IfOk result (λ change. Behind (Need.Key changed.now.row.key) view.now (λ c.
+    ensures pairs { IfOk result (λ change. HoldsOfSound (Need.Key changed.now.row.key) view.now (λ c.
         IsActedOn c action changed.now
         → ArePairsActed c action changed.now (pairs_after change c.pairs))) }
-    ensures leads { IfOk result (λ change. Behind (Need.Key changed.now.row.key) view.now (λ c.
+    ensures leads { IfOk result (λ change. HoldsOfSound (Need.Key changed.now.row.key) view.now (λ c.
         IsActedOn c action changed.now → LeadsOn c.pairs change)) }
 {
     match action {
@@ -150,7 +150,7 @@ fn acted_pairs(
 // The change of the pairs, where the live row of the current plan waits again: from those that it had to those with its
 // nearest predecessors. No pair of another row is looked at.
 fn reset_pairs(alloc: Global, view: &View<'_>, row: &Row) -> Result<PairChange, AllocError>
-    ensures { IfOk result (λ change. Behind (Need.Key row.now.key) view.now (λ c.
+    ensures { IfOk result (λ change. HoldsOfSound (Need.Key row.now.key) view.now (λ c.
         IsLiveCurrent c.sets row.now → LeadsToRowPairs c row.now change)) }
 {
     let mut had = Vec::new(alloc);

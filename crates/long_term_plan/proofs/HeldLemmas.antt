@@ -17,7 +17,7 @@ use Rattle.plan_store_lists.specs.Rows.{of_current, of_row}
 use Rattle.planner_machine.specs.Content.{Content, Sets}
 use Rattle.planner_machine.specs.InForce.{PutsAll, PutsOne}
 use Rattle.planner_machine.specs.Sound.{IsSound}
-use Rattle.plan_store.specs.Asked.{AsksPlan}
+use Rattle.plan_store.specs.HistoryReads.{ReadsPlan}
 use Rattle.plan_store.specs.Views.{Hidden, IsAny, ListsSet, Sees, shown, with_hidden}
 use Rattle.plan_store.specs.declared.views.View.{View}
 use Rattle.plan_store_pairs.specs.ByApplications.{HasReached, HasWithList}
@@ -33,7 +33,7 @@ use Rattle.long_term_plan.specs.Modifying.{AreOf, HavePlanned}
 use Rattle.long_term_plan.proofs.TurnedLemmas.{turned}
 
 module _ (h : Hidden) (view : View) (sound : IsSound (with_hidden h view))
-    (sees : Sees None (AsksPlan (with_hidden h view)) h view) (links : List Link)
+    (sees : Sees None (ReadsPlan (with_hidden h view)) h view) (links : List Link)
     (known : AreKnownLinks (with_hidden h view) links) (rows : List Row)
     (lists : ListsSet of_row (shown view).sets.ltp IsAny rows) (current : List CurrentRow)
     (current_are : ListsSet of_current (shown view).sets.cp IsAny current) (lasts : List Row)

@@ -3,7 +3,7 @@ ghost use Rattle.planner_machine.specs.Content.{Content};
 ghost use Rattle.planner_machine.specs.Delete.{ltp_delete};
 ghost use Rattle.planner_machine.specs.Sound.{IsSound};
 ghost use Rattle.plan_store.specs.Verdicts.{VerdictIs};
-ghost use Rattle.plan_store.specs.Views.{Behind, Shows};
+ghost use Rattle.plan_store.specs.Views.{HoldsOfSound, Shows};
 ghost use Rattle.long_term_plan.specs.Deletes.{DeletesRow};
 
 use occurrences::{Deletion, Key, Reason, Refusal, Reply, Row};
@@ -29,7 +29,7 @@ pub fn delete(alloc: Global, view: &View<'_>, key: &Key) -> Result<Verdict, Allo
 
 // The row leaves the long-term plan for the deletions.
 fn delete_row(alloc: Global, view: &View<'_>, row: &Row) -> Result<Verdict, AllocError>
-    ensures { IfOk result (λ verdict. Behind (Need.Key row.now.key) view.now (λ c.
+    ensures { IfOk result (λ verdict. HoldsOfSound (Need.Key row.now.key) view.now (λ c.
         c.sets.ltp row.now.serial ≡ Some row.now → DeletesRow c row.now verdict)) }
 {
     let gone = single(alloc, *row)?;

@@ -7,7 +7,7 @@ ghost use Rattle.planner_machine.specs.declared.content.Draft.{Draft as DraftVal
 ghost use Rattle.planner_machine.specs.Content.{midnight};
 ghost use Rattle.planner_machine.specs.Drafts.{AreDrafts, draft_of};
 ghost use Rattle.planner_machine.specs.Sound.{AreDefinitions};
-ghost use Rattle.plan_store.specs.Views.{BehindAny, ShowsDeleted};
+ghost use Rattle.plan_store.specs.Views.{HoldsOfAny, ShowsDeleted};
 ghost use Rattle.long_term_plan.specs.Drafting.{AddsDrafts, AreNew, ArePlannedKeys, DraftsRise, HaveOwnKeys};
 ghost use Rattle.long_term_plan.specs.Drafting.{IsNewKey, IsPlannedKey, NamesFor, drafts_from};
 
@@ -115,7 +115,7 @@ pub(crate) fn new_drafts(
     view: &View<'_>,
     named: &[Draft],
 ) -> Result<Vec<Draft>, AllocError>
-    ensures { IfOk result (λ new. BehindAny view.now (λ c.
+    ensures { IfOk result (λ new. HoldsOfAny view.now (λ c.
         ((draft : DraftValue) → Contains named.now draft → ShowsDeleted c view.now draft.key)
         → AreNew c.sets named.now new.items)) }
 {
@@ -130,7 +130,7 @@ pub(crate) fn new_drafts(
 
 // Whether a planning statement is allowed to make the key.
 fn is_new(view: &View<'_>, key: &Key) -> bool
-    ensures { BehindAny view.now (λ c. ShowsDeleted c view.now key.now
+    ensures { HoldsOfAny view.now (λ c. ShowsDeleted c view.now key.now
         → IsTrue result ↔ IsNewKey c.sets key.now) }
 {
     view.ltp_row(key).is_none() && !view.is_deleted_by_operator(key)
@@ -145,7 +145,7 @@ pub(crate) fn unmet_drafts(
     met: &[bool],
 ) -> Result<Vec<Draft>, AllocError>
     requires { length met.now ≡ length named.now }
-    ensures { IfOk result (λ new. BehindAny view.now (λ c.
+    ensures { IfOk result (λ new. HoldsOfAny view.now (λ c.
         ((draft : DraftValue) → Contains named.now draft → ShowsDeleted c view.now draft.key)
         → ArePlannedKeys c.sets named.now met.now → AreNew c.sets named.now new.items)) }
 {
@@ -160,7 +160,7 @@ pub(crate) fn unmet_drafts(
 
 // Whether a planning statement may make the key, where it is known whether a row of the long-term plan has it.
 fn is_unmet(view: &View<'_>, key: &Key, met: bool) -> bool
-    ensures { BehindAny view.now (λ c. ShowsDeleted c view.now key.now
+    ensures { HoldsOfAny view.now (λ c. ShowsDeleted c view.now key.now
         → (IsTrue met ↔ IsPlannedKey c.sets key.now) → IsTrue result ↔ IsNewKey c.sets key.now) }
 {
     !met && !view.is_deleted_by_operator(key)

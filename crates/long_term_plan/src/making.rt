@@ -7,7 +7,7 @@ ghost use Rattle.planner_machine.specs.declared.limits.TheConstants.{MOST_PLANNE
 ghost use Rattle.planner_machine.specs.Moves.{numbered_row};
 ghost use Rattle.planner_machine.specs.Plans.{HoldTooMany};
 ghost use Rattle.planner_machine.specs.Sound.{IsSound};
-ghost use Rattle.plan_store.specs.Views.{Behind, BehindAny, ShowsDeleted, shown};
+ghost use Rattle.plan_store.specs.Views.{HoldsOfSound, HoldsOfAny, ShowsDeleted, shown};
 ghost use Rattle.plan_store_pairs.specs.Turns.{AreKnownLinks};
 ghost use Rattle.occurrences.specs.declared.key.Key.{Key as KeyValue};
 ghost use Rattle.long_term_plan.specs.Making.{AddsDays, AreDaysAdded, KeepsRowsSound, MakesDrafts, numbered};
@@ -31,7 +31,7 @@ pub(crate) fn add_days(
     first: Moment,
 ) -> Result<Verdict, AllocError>
     requires { bounds.now.last_day ≤ last_kept_day }
-    ensures { IfOk result (λ verdict. Behind Need.LongTerm view.now (λ c. AreKnownLinks c links
+    ensures { IfOk result (λ verdict. HoldsOfSound Need.LongTerm view.now (λ c. AreKnownLinks c links
         → ((key : KeyValue) → first ≤ key.ia → ShowsDeleted c view.now key)
         → ((new : List DraftValue) → AreDaysAdded c bounds.now first new
         → KeepsRowsSound c bounds.now new) → AddsDays c bounds.now first links verdict)) }
@@ -49,7 +49,7 @@ pub(crate) fn add_days(
 
 // Whether the plans would hold too many rows, or too many serials were issued.
 fn would_hold_too_many(view: &View<'_>, bounds: &Bounds, new: &[Draft]) -> bool
-    ensures too_many { BehindAny view.now (λ c. IsSound c
+    ensures too_many { HoldsOfAny view.now (λ c. IsSound c
         → IsTrue result ↔ HoldTooMany (planned_sets bounds.now new.now c.sets)) }
     ensures serials { result ≡ false → (shown view.now).sets.issued + length new.now
         ≤ GREATEST_SERIAL }
@@ -68,7 +68,7 @@ fn make_drafts(
     new: Vec<Draft>,
 ) -> Result<Verdict, AllocError>
     requires { (shown view.now).sets.issued + length new.items ≤ GREATEST_SERIAL }
-    ensures { IfOk result (λ verdict. Behind Need.LongTerm view.now (λ c. AreKnownLinks c links
+    ensures { IfOk result (λ verdict. HoldsOfSound Need.LongTerm view.now (λ c. AreKnownLinks c links
         → KeepsRowsSound c bounds.now new.items
         → MakesDrafts c bounds.now links new.items verdict)) }
 {

@@ -15,7 +15,7 @@ ghost use Rattle.planner_machine.specs.Sound.{IsSound};
 ghost use Rattle.plan_store_lists.specs.Rows.{of_row};
 ghost use Rattle.plan_store.specs.Changes.{LeadsOn, pairs_after};
 ghost use Rattle.plan_store.specs.Verdicts.{VerdictIs};
-ghost use Rattle.plan_store.specs.Views.{Behind, BehindAny, IsAny, ListsSet, Shows, ShowsDeleted, shown};
+ghost use Rattle.plan_store.specs.Views.{HoldsOfSound, HoldsOfAny, IsAny, ListsSet, Shows, ShowsDeleted, shown};
 ghost use Rattle.occurrences.specs.declared.key.Key.{Key as KeyValue};
 ghost use Rattle.plan_store_pairs.specs.Turns.{AreKnownLinks, ArePlanned};
 ghost use Rattle.long_term_plan.specs.Early.{IsRefusedEarly};
@@ -109,7 +109,7 @@ fn modify(
     only: &Option<App>,
     links: Links,
 ) -> Result<Verdict, AllocError>
-    ensures { IfOk result (λ verdict. Behind Need.LongTerm view.now (λ c. AreKnownLinks c links
+    ensures { IfOk result (λ verdict. HoldsOfSound Need.LongTerm view.now (λ c. AreKnownLinks c links
         → c.sets.bounds ≡ Some bounds.now
         → ((key : KeyValue) → bounds.now.plan_end ≤ key.ia → ShowsDeleted c view.now key)
         → ModifiesPlan c only.now links verdict)) }
@@ -157,7 +157,7 @@ fn last_planned(bounds: &Bounds) -> Day
 // Whether the plans would hold too many rows once rows are removed and the new ones made, or too many serials were
 // issued.
 fn are_too_many(view: &View<'_>, gone: &[Row], new: &[Draft]) -> bool
-    ensures too_many { BehindAny view.now (λ c. IsSound c → (kept : ℕ)
+    ensures too_many { HoldsOfAny view.now (λ c. IsSound c → (kept : ℕ)
         → kept + length gone.now ≡ size c.sets.ltp c.sets.issued
         → IsTrue result ↔ AreTooMany c.sets kept (length new.now)) }
     ensures serials { result ≡ false → (shown view.now).sets.issued + length new.now
@@ -181,7 +181,7 @@ fn pairs_then(
     links: &Links,
 ) -> Result<PairChange, AllocError>
     ensures { DraftsRise named.items → ListsSet of_row (shown view.now).sets.ltp IsAny rows.now
-        → IfOk result (λ change. Behind Need.LongTerm view.now (λ c. AreKnownLinks c links.now
+        → IfOk result (λ change. HoldsOfSound Need.LongTerm view.now (λ c. AreKnownLinks c links.now
         → (s : Sets)
         → ArePlanned rows.now (filter_map (outcome only.now named.items) rows.now) gone.now put.now
         → HavePlanned c.sets (filter_map (outcome only.now named.items) rows.now ++ put.now) s
@@ -269,7 +269,7 @@ fn change_rows(
     put: Vec<Row>,
 ) -> Result<Verdict, AllocError>
     requires { (shown view.now).sets.issued + length put.items ≤ GREATEST_SERIAL }
-    ensures { IfOk result (λ verdict. BehindAny view.now (λ c. IsSound c
+    ensures { IfOk result (λ verdict. HoldsOfAny view.now (λ c. IsSound c
         → (only : Option (List ℕ)) (named new : List DraftValue)
         → AreModifying c.sets only named new gone.items changed.items put.items
         → ArePairs c.pairs links (modified_sets only named new c.sets) (pairs_after pairs c.pairs)

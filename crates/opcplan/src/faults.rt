@@ -1,6 +1,6 @@
 //! Faults: the line before a run on standard output, and what each means on standard error.
 
-use planner_cli::{Part, RunFault, Tally};
+use planner_cli::{FaultSource, RunFault, Tally};
 
 /// The exit status after a fault, and after wrong arguments.
 pub const FAILED: u8 = 8;
@@ -65,7 +65,7 @@ fn meaning_in_doubt(fault: &RunFault) -> &'static str {
             "opcplan: fault 40: memory was refused. Every answered statement is done, and the next one may be. Run the whole stream again"
         }
         RunFault::Device {
-            part: Part::Reader,
+            part: FaultSource::Reader,
             ..
         } => {
             "opcplan: fault 41: standard input failed. Every answered statement is done, and the next one may be. Run the whole stream again"
@@ -81,13 +81,13 @@ fn meaning(fault: &RunFault) -> &'static str {
             "opcplan: fault 40: memory was refused. Every answered statement is done. Run the whole stream again"
         }
         RunFault::Device { part, .. } => match part {
-            Part::Store => {
+            FaultSource::Store => {
                 "opcplan: fault 41: the plan's disk failed, or an index or row of yours in the file leaves no room for a row (docs/rules/REFUSALS.md). Every answered statement is done. Mend the cause, then run the whole stream again"
             }
-            Part::Reader => {
+            FaultSource::Reader => {
                 "opcplan: fault 41: standard input failed. Every answered statement is done. Run the whole stream again"
             }
-            Part::Writer => {
+            FaultSource::Writer => {
                 "opcplan: fault 41: standard output failed or was closed. Every answered statement is done"
             }
         },

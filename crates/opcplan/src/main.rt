@@ -2,7 +2,7 @@
 #![tactic(auto)]
 
 use std::process::ExitCode;
-use words::Asked;
+use words::Request;
 
 mod endings;
 mod faults;
@@ -18,12 +18,12 @@ mod words;
 
 fn main(rt: HostRuntime) -> ExitCode {
     ExitCode::from(match words::read_words(&rt) {
-        Asked::Run(Some(file)) => over_file::answer_over_file(&rt, &file),
-        Asked::Run(None) => {
+        Request::Run(Some(file)) => over_file::answer_over_file(&rt, &file),
+        Request::Run(None) => {
             terminal::greet(&rt, terminal::OVER_LISTS);
             over_lists::answer_over_lists(&rt, terminal::is_typed(&rt))
         }
-        Asked::Answered(status) => status,
-        Asked::Memory => faults::report(&rt, faults::MEMORY),
+        Request::Answered(status) => status,
+        Request::Memory => faults::report(&rt, faults::MEMORY),
     })
 }

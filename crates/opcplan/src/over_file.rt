@@ -10,7 +10,7 @@ use crate::refusals::report_refusal;
 use crate::terminal::{OVER_FILE, announce_large, greet, is_typed};
 use crate::watch::{SeesFiles, Watch, Watched};
 use crate::words::NamedFile;
-use plan_files::{Begun, FileOpener, Opening, Unrun, run_over_files};
+use plan_files::{FileOpener, Opening, StartingPlan, Unrun, run_over_files};
 use planner_cli::{RunFault, Tally, exit_status};
 use sqlite::{Error, FileFrom, Leftover, Start, Unknown};
 use std::alloc::Global;
@@ -26,13 +26,13 @@ struct Greeting<'a> {
 impl Opening for Greeting<'_> {
     ghost reports = { λ old _ new. new ≡ old };
 
-    fn opened(&mut self, begun: Begun) {
+    fn opened(&mut self, begun: StartingPlan) {
         let message = match begun {
-            Begun::AsItWas => None,
-            Begun::New => Some(
+            StartingPlan::AsItWas => None,
+            StartingPlan::New => Some(
                 "the file held no plan, so a new one was made in it. If it should have had one, check the name",
             ),
-            Begun::Migrated => Some(
+            StartingPlan::Migrated => Some(
                 "the plan was migrated from schema 1 to schema 2. An index that you had made on predecessor or link_in_force is gone",
             ),
         };
@@ -109,7 +109,7 @@ fn run_over_file<
 {
     match run_over_files(alloc, opener, start, opening, reader, writer) {
         Ok(ended) => {
-            let closed = match ended.let_go.copied {
+            let closed = match ended.closed.copied {
                 Ok(()) => Closed::Whole,
                 Err(fault) => Closed::after(fault),
             };

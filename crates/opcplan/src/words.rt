@@ -22,7 +22,7 @@ pub struct NamedFile {
 
 /// What the arguments request.
 #[derive(Debug, Drop)]
-pub enum Asked {
+pub enum Request {
     /// To answer the stream, over this database file or, where none is named, over lists.
     Run(Option<NamedFile>),
     /// Nothing more: help was printed, or what is wrong with the arguments. This is the exit status.
@@ -89,22 +89,22 @@ fn command<'a>(alloc: Global) -> Result<Command<'a>, AllocError> {
 
 /// Reads the arguments. Help goes to standard output, what is wrong with the arguments to standard error. Arguments
 /// that are not text are wrong.
-pub fn read_words<R: Env + AllocGlobal + Print + Eprint>(rt: &R) -> Asked {
+pub fn read_words<R: Env + AllocGlobal + Print + Eprint>(rt: &R) -> Request {
     let words = match env::args(rt) {
         Ok(words) => words,
-        Err(error) if error.kind() == io::ErrorKind::OutOfMemory => return Asked::Memory,
+        Err(error) if error.kind() == io::ErrorKind::OutOfMemory => return Request::Memory,
         Err(_) => return not_text(rt),
     };
     match words.collect::<Vec<String>>(rt.alloc()) {
-        Ok(words) => what_is_asked(rt, &words),
-        Err(_) => Asked::Memory,
+        Ok(words) => requested(rt, &words),
+        Err(_) => Request::Memory,
     }
 }
 
 /// What the arguments request, the first of which is the program's name.
-fn what_is_asked<R: AllocGlobal + Print + Eprint>(rt: &R, words: &[String]) -> Asked {
+fn requested<R: AllocGlobal + Print + Eprint>(rt: &R, words: &[String]) -> Request {
     let Ok(command) = command(rt.alloc()) else {
-        return Asked::Memory;
+        return Request::Memory;
     };
     match command.try_get_matches_from(words) {
         Ok(matches) => file_named(rt.alloc(), &matches),
@@ -113,32 +113,32 @@ fn what_is_asked<R: AllocGlobal + Print + Eprint>(rt: &R, words: &[String]) -> A
 }
 
 /// The file that the arguments name, if they name one.
-fn file_named(alloc: Global, matches: &ArgMatches<'_>) -> Asked
+fn file_named(alloc: Global, matches: &ArgMatches<'_>) -> Request
     ensures { IsNamed (first_value (found_of matches.now) (codes "db"))
         (one_text (found_of matches.now) (codes "sums")) result }
 {
     let Some(path) = matches.get_str("db") else {
-        return Asked::Run(None);
+        return Request::Run(None);
     };
     let new_has_sums = matches.get_flag("sums");
     match String::from_str(alloc, path) {
-        Ok(path) => Asked::Run(Some(NamedFile { path, new_has_sums })),
-        Err(_) => Asked::Memory,
+        Ok(path) => Request::Run(Some(NamedFile { path, new_has_sums })),
+        Err(_) => Request::Memory,
     }
 }
 
 /// Prints help, or what is wrong with the arguments.
-fn print_answer<R: Print + Eprint>(rt: &R, error: &Error, words: &[String]) -> Asked {
+fn print_answer<R: Print + Eprint>(rt: &R, error: &Error, words: &[String]) -> Request {
     if error.kind() == ErrorKind::OutOfMemory {
-        return Asked::Memory;
+        return Request::Memory;
     }
     match error.print(rt) {
-        Ok(()) if !error.use_stderr() => Asked::Answered(0),
+        Ok(()) if !error.use_stderr() => Request::Answered(0),
         _ => {
             if error.kind() == ErrorKind::UnknownArgument {
                 suggest_db(rt, words);
             }
-            Asked::Answered(FAILED)
+            Request::Answered(FAILED)
         }
     }
 }
@@ -162,7 +162,7 @@ fn suggest_db(rt: &impl Eprint, words: &[String]) {
 }
 
 /// Reports that an argument is no text.
-fn not_text(rt: &impl Eprint) -> Asked {
+fn not_text(rt: &impl Eprint) -> Request {
     let _ = rt.eprintln("error: a word is not valid UTF-8");
-    Asked::Answered(FAILED)
+    Request::Answered(FAILED)
 }

@@ -15,8 +15,8 @@ use Rattle.plan_tables_loading.specs.Reading.{HasPlan}
 use Rattle.plan_tables_opening.specs.Opened.{HasRoom, IsToldBy}
 use Rattle.plan_migrations.specs.Older.{IsFoundAs}
 use Rattle.plan_migrations.specs.declared.versions.TheConstants.{FIRST_VERSION}
-use Rattle.plan_files.specs.Begun.{IsBegunIn, IsBegunOn, begun_of}
-use Rattle.plan_files.specs.declared.openings.Begun.{Begun}
+use Rattle.plan_files.specs.StartingPlan.{IsBegunIn, IsBegunOn, begun_of}
+use Rattle.plan_files.specs.declared.openings.StartingPlan.{StartingPlan}
 use Rattle.plan_files.proofs.OlderLemmas.{first_told}
 
 module _ (old mid : State) (found : Option ℕ) where
@@ -40,7 +40,7 @@ module _ (old mid : State) (found : Option ℕ) where
       ]
 
 -- of a database that was found in files
-pub begun_in : (image : Image) (s : State) (begun : Begun) (c : Content) → Opens s → IsLive s → FindsIn image s
+pub begun_in : (image : Image) (s : State) (begun : StartingPlan) (c : Content) → Opens s → IsLive s → FindsIn image s
     → IsBegunOn begun s.now c → IsBegunIn image begun c
 begun_in image s begun c opens live found was = record {
   found = s.now;

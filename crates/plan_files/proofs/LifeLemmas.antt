@@ -6,7 +6,7 @@ use Rattle.external_dependencies.specs.declared.rows.PlacedRow.{PlacedRow}
 use Rattle.occurrences.specs.declared.place.Place.{Place}
 use Rattle.occurrences.specs.declared.place.Place.TheVariants.{LongTerm, Current, History, Deleted}
 use Rattle.occurrences.specs.declared.row.Row.{Row}
-use Rattle.planner_machine.specs.Content.{Content, Seat, StandsAt, alone, empty_seat, nothing_known}
+use Rattle.planner_machine.specs.Content.{Content, Seat, IsOnlyAt, alone, empty_seat, nothing_known}
 use Rattle.planner_machine.specs.Sound.{IsSound}
 use Rattle.planner_machine.specs.Statement.{Answer, Statement}
 use Rattle.planner_machine.specs.Stream.{Goes, IsStatement, Lives, Runs, RunsByFate, RunsSound}

@@ -20,7 +20,7 @@ use Rattle.plan_tables.proofs.AgainLemmas.{holds_plan, moved_tables, same_tables
 use Rattle.plan_tables.proofs.FoundLemmas.{told_again}
 use Rattle.plan_files.specs.FileRuns.{AreFileRuns, FilesLive, Leaves}
 use Rattle.plan_files.specs.Left.{HoldsLed}
-use Rattle.plan_files.specs.Next.{BytesLive, FindsNext, GoesOn, HandsOn, HoldsNext, MayFind, PassesOn, WholeLife}
+use Rattle.plan_files.specs.Next.{BytesLive, FindsNext, GoesOn, CarriesOn, HoldsNext, MayFind, PassesOn, WholeLife}
 use Rattle.plan_files.specs.Unrun.{IsSpared}
 use Rattle.plan_files.proofs.OlderLemmas.{never_both}
 
@@ -57,8 +57,8 @@ goes_on one image left c run found = record {
   leaves = finds one left run.ends run.outcome c run.holds found;
 }
 
-pub hands_on : {D : Type 0} (g : disk.Ghosts D) → HandsOn g
-hands_on g image ends outcome is_whole go over honest left out = ∥∥₁_map (over.runs.holds honest left out) (λ held. record {
+pub carries_on : {D : Type 0} (g : disk.Ghosts D) → CarriesOn g
+carries_on g image ends outcome is_whole go over honest left out = ∥∥₁_map (over.runs.holds honest left out) (λ held. record {
   ends = ends;
   outcome = outcome;
   ran = over.runs.ran honest;

@@ -24,7 +24,7 @@ use Rattle.planner_cli.specs.Stores.{LeavesOnly}
 use Rattle.planner_cli.specs.declared.faults.RunFault.{RunFault}
 use Rattle.planner_cli.specs.declared.tally.Tally.{Tally}
 use Rattle.plan_files_closing.specs.Closing.{HoldsLeft, HoldsLeftAlone}
-use Rattle.plan_files_closing.specs.declared.closing.LetGo.{LetGo}
+use Rattle.plan_files_closing.specs.declared.closing.ClosedFiles.{ClosedFiles}
 use Rattle.plan_tables_schema.specs.Rows.{tables_of}
 use Rattle.plan_tables_content.specs.Content.{HaveOneContent}
 use Rattle.plan_tables_opening.specs.Opened.{IsStored}
@@ -156,7 +156,7 @@ kept_so ends now one tell db told =
     ∥∥₁_map (tell db told.left) (λ tells. one (tables_of db) told.content ends.after told.told.content tells.content)
 
 -- what is said of a connection that was let go, is said of the same one
-pub let_go_of : {D : Type 0} {g : disk.Ghosts D} (held own : Held (FileStore D g)) → held ≡ own → (go : LetGo D)
+pub let_go_of : {D : Type 0} {g : disk.Ghosts D} (held own : Held (FileStore D g)) → held ≡ own → (go : ClosedFiles D)
     → (AreHonest g go.files → HasCleanDisk (file_state held))
     → (AreHonest g go.files → (left : Image) → outcomes g go.files.log go.files.db left → ∥ HoldsLeft left (file_state held) ∥₁)
     → OnOk go.copied (AreHonest g go.files → (left : Image) → outcomes g go.files.log go.files.db left
@@ -173,7 +173,7 @@ let_go_of {D} {g} held own same go honest holds alone =
 
 -- a run and the letting go of its files: the content after it is what the store has, or after a fault what such a run may
 -- leave
-module _ {D : Type 0} {g : disk.Ghosts D} (ends : Ends) (now : State) (is_whole : Bool) (go : LetGo D)
+module _ {D : Type 0} {g : disk.Ghosts D} (ends : Ends) (now : State) (is_whole : Bool) (go : ClosedFiles D)
     (known : IsTrue is_whole → AreHonest g go.files → IsTrue now.is_open × ((db : Trees) → now.may_leave db → ∥ Tells db ends.after ∥₁))
     (one : HaveOneContent)
     (honest : AreHonest g go.files → HasCleanDisk now)

@@ -6,4 +6,4 @@ pub mod Over
 pub mod Unrun
 pub mod Numbers
 pub mod Next
-pub mod Begun
+pub mod StartingPlan

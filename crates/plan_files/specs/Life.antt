@@ -1,7 +1,7 @@
 -- The life of a plan: what runs make of it, each on what the one before it left.
 use Rattle.std.specs.Prelude.{◌≡◌, ℕ, ◌≤◌, List, [], ◌∷◌, All, flat_map}
 use Rattle.external_dependencies.specs.declared.rows.PlacedRow.{PlacedRow}
-use Rattle.planner_machine.specs.Content.{Content, StandsAt, nothing_known}
+use Rattle.planner_machine.specs.Content.{Content, IsOnlyAt, nothing_known}
 use Rattle.planner_machine.specs.Sound.{IsSound}
 use Rattle.planner_machine.specs.Statement.{Answer, Statement}
 use Rattle.planner_machine.specs.Stream.{IsStatement, Lives, Runs}
@@ -27,7 +27,7 @@ pub record IsLived (streams : List (List Statement)) (c : Content) : Type 0 wher
   pub leads : Leads (all_of streams) nothing_known c
   pub sound : IsSound c
   pub placed : (serial : ℕ) → 1 ≤ serial → serial ≤ c.sets.issued
-      → (q : PlacedRow) × StandsAt c.sets serial q
+      → (q : PlacedRow) × IsOnlyAt c.sets serial q
       × Lives (all_of streams) leads.answers nothing_known c leads.run serial q
 
 -- however many runs there were, and however each ended

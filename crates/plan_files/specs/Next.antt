@@ -7,7 +7,7 @@ use Rattle.sqlite_store.specs.declared.store.FileStore.{FileStore}
 use Rattle.sqlite_trees.specs.View.{IsClean}
 use Rattle.sqlite_wal.specs.Files.{outcomes}
 use Rattle.sqlite_wal.specs.Recovery.{Image}
-use Rattle.plan_files_closing.specs.declared.closing.LetGo.{LetGo}
+use Rattle.plan_files_closing.specs.declared.closing.ClosedFiles.{ClosedFiles}
 use Rattle.planner_machine.specs.Content.{Content, nothing_known}
 use Rattle.planner_machine.specs.Statement.{Statement}
 use Rattle.planner_cli.specs.Plans.{RanPlan}
@@ -38,8 +38,8 @@ pub record IsRunOver (image left : Image) : Type 0 where
   pub holds : HoldsLed left (Leaves ends outcome)
 
 -- each run over files is one, however it ended and its files were closed, and whatever a crash left of them
-abbrev pub HandsOn : {D : Type 0} → disk.Ghosts D → Type 0
-HandsOn {D} g = (image : Image) (ends : Ends) (outcome : Result Tally RunFault) (is_whole : Bool) (go : LetGo D)
+abbrev pub CarriesOn : {D : Type 0} → disk.Ghosts D → Type 0
+CarriesOn {D} g = (image : Image) (ends : Ends) (outcome : Result Tally RunFault) (is_whole : Bool) (go : ClosedFiles D)
     → RunsOverFiles g image ends outcome is_whole go → AreHonest g go.files → (left : Image)
     → outcomes g go.files.log go.files.db left → ∥ IsRunOver image left ∥₁
 

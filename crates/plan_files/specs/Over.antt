@@ -9,7 +9,7 @@ use Rattle.sqlite_store.specs.declared.store.FileStore.{FileStore}
 use Rattle.sqlite_wal.specs.Files.{outcomes}
 use Rattle.sqlite_wal.specs.Reads.{AreClean}
 use Rattle.sqlite_wal.specs.Recovery.{Image}
-use Rattle.plan_files_closing.specs.declared.closing.LetGo.{LetGo}
+use Rattle.plan_files_closing.specs.declared.closing.ClosedFiles.{ClosedFiles}
 use Rattle.planner_cli.specs.Plans.{RanPlan, StoppedPlan}
 use Rattle.planner_cli.specs.Runs.{Ends}
 use Rattle.planner_cli.specs.declared.faults.RunFault.{RunFault}
@@ -28,7 +28,7 @@ AreHonest g files = AreClean g files.log files.db
 -- fault is some content that such a run may leave, whatever happened to the store. A store that queries its tables
 -- answers by what it reads, so nothing is said if bytes were read that nobody wrote
 pub record RunsFiles {D : Type 0} (g : disk.Ghosts D) (ends : Ends) (outcome : Result Tally RunFault) (is_whole : Bool)
-    (go : LetGo D) : Type 0 where
+    (go : ClosedFiles D) : Type 0 where
   pub ran : AreHonest g go.files → IfOk outcome (RanPlan ends)
   pub fault : AreHonest g go.files → IfErr outcome (StoppedPlan ends)
   -- whatever a crash left of both files since, and whether the log was copied or not, they hold a database with the
@@ -45,14 +45,14 @@ pub record RunsFiles {D : Type 0} (g : disk.Ghosts D) (ends : Ends) (outcome : R
 
 -- a run over a connection that was open: what its database had when it began, and what its files hold in the end
 pub record RunsOverConnection {D : Type 0} {g : disk.Ghosts D} (conn : Held (FileStore D g)) (ends : Ends)
-    (outcome : Result Tally RunFault) (is_whole : Bool) (go : LetGo D) : Type 0 where
+    (outcome : Result Tally RunFault) (is_whole : Bool) (go : ClosedFiles D) : Type 0 where
   pub honest : AreHonest g go.files → HasCleanDisk (file_state conn)
   pub told : AreHonest g go.files → IsToldBy (file_state conn).now ends.before
   pub runs : RunsFiles g ends outcome is_whole go
 
 -- the same, if tables of schema 1 were replaced before
 pub record RunsMigrated {D : Type 0} {g : disk.Ghosts D} (conn : Held (FileStore D g)) (ends : Ends)
-    (outcome : Result Tally RunFault) (is_whole : Bool) (go : LetGo D) : Type 0 where
+    (outcome : Result Tally RunFault) (is_whole : Bool) (go : ClosedFiles D) : Type 0 where
   pub honest : AreHonest g go.files → HasCleanDisk (file_state conn)
   pub told : AreHonest g go.files → IsToldNow (file_state conn) ends.before
   pub runs : RunsFiles g ends outcome is_whole go
@@ -60,6 +60,6 @@ pub record RunsMigrated {D : Type 0} {g : disk.Ghosts D} (conn : Held (FileStore
 -- a run over files, whatever they held: the content before is the one found in them, nothing known if they held no
 -- plan, or that of their tables of schema 1
 pub record RunsOverFiles {D : Type 0} (g : disk.Ghosts D) (image : Image) (ends : Ends)
-    (outcome : Result Tally RunFault) (is_whole : Bool) (go : LetGo D) : Type 0 where
+    (outcome : Result Tally RunFault) (is_whole : Bool) (go : ClosedFiles D) : Type 0 where
   pub found : AreHonest g go.files → IsFoundIn image ends.before ⊎ IsFirstFoundIn image ends.before
   pub runs : RunsFiles g ends outcome is_whole go

@@ -10,9 +10,9 @@ mod refusals;
 mod running;
 
 pub use life::{file_life, plan_life};
-pub use next::{hands_on, next_run};
+pub use next::{carries_on, next_run};
 pub use openers::FileOpener;
-pub use openings::{Begun, Opening};
+pub use openings::{Opening, StartingPlan};
 pub use over_files::{run_over_connection, run_over_files};
 pub use refusals::Unrun;
 pub use running::Ended;

@@ -1,6 +1,6 @@
 //! The next opening of the files that a run left.
 
-ghost use Rattle.plan_files.specs.Next.{BytesLive, FindsNext, GoesOn, HandsOn, HoldsNext, PassesOn, WholeLife};
+ghost use Rattle.plan_files.specs.Next.{BytesLive, FindsNext, GoesOn, CarriesOn, HoldsNext, PassesOn, WholeLife};
 
 use crate::life::file_life;
 use plan_tables_content::tables_have_one_content;
@@ -8,8 +8,8 @@ use sqlite_disk::Disk;
 
 /// Law: however a run over files ended, and whatever a crash left of them since, it is a run from their bytes to those. And
 /// one that was refused over a plan that is opened left what was there.
-pub fn hands_on<D: Disk>()
-    ensures runs { HandsOn D.Disk }
+pub fn carries_on<D: Disk>()
+    ensures runs { CarriesOn D.Disk }
     ensures refused { PassesOn D.Disk }
 {}
 

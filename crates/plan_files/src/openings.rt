@@ -2,14 +2,14 @@
 
 ghost use Rattle.std.specs.Prelude.{◌≡◌, ◌↔◌, IsTrue, Some};
 ghost use Rattle.plan_migrations.specs.declared.versions.TheConstants.{FIRST_VERSION};
-ghost use Rattle.plan_files.specs.Begun.{begun_of};
-ghost use Rattle.plan_files.specs.declared.openings.Begun.{Begun as BegunValue};
+ghost use Rattle.plan_files.specs.StartingPlan.{begun_of};
+ghost use Rattle.plan_files.specs.declared.openings.StartingPlan.{StartingPlan as BegunValue};
 
 use plan_migrations::FIRST_VERSION;
 
 /// What a run begins with.
 #[derive(Clone, Copy, Debug, PartialEq, Eq)]
-pub enum Begun {
+pub enum StartingPlan {
     /// The plan that the files held.
     AsItWas,
     /// A new plan, because they held none.
@@ -24,7 +24,7 @@ pub trait Opening {
     ghost reports: { Self → BegunValue → Self → Type 0 };
 
     /// The plan is open.
-    fn opened(&mut self, begun: Begun)
+    fn opened(&mut self, begun: StartingPlan)
         ensures { reports self.old begun self.new };
 }
 
@@ -39,12 +39,12 @@ pub(crate) fn is_first(version: Option<u32>) -> bool
 }
 
 /// What a run begins with over a plan that was migrated or not, and over tables that have or lack `plan_meta`.
-pub(crate) fn begun_with(was_first: bool, has_meta: bool) -> Begun
+pub(crate) fn starting_plan(was_first: bool, has_meta: bool) -> StartingPlan
     ensures { result ≡ begun_of was_first has_meta }
 {
     match (was_first, has_meta) {
-        (true, _) => Begun::Migrated,
-        (false, true) => Begun::AsItWas,
-        (false, false) => Begun::New,
+        (true, _) => StartingPlan::Migrated,
+        (false, true) => StartingPlan::AsItWas,
+        (false, false) => StartingPlan::New,
     }
 }

@@ -6,12 +6,12 @@ ghost use Rattle.sqlite_std_file.specs.File.{IsFresh};
 ghost use Rattle.sqlite_wal.specs.Files.{image_at};
 ghost use Rattle.planner_cli.specs.Runs.{ends_of};
 ghost use Rattle.planner_machine.specs.Content.{Content};
-ghost use Rattle.plan_files.specs.Begun.{IsBegunIn, IsBegunOn, IsReported};
+ghost use Rattle.plan_files.specs.StartingPlan.{IsBegunIn, IsBegunOn, IsReported};
 ghost use Rattle.plan_files.specs.Over.{AreHonest, RunsMigrated, RunsOverConnection, RunsOverFiles};
 ghost use Rattle.plan_files.specs.Unrun.{IsNotRun, IsUnadopted, IsUnmade};
 
 use crate::openers::FileOpener;
-use crate::openings::{Begun, Opening, begun_with, is_first};
+use crate::openings::{Opening, StartingPlan, is_first, starting_plan};
 use crate::refusals::Unrun;
 use crate::running::{Ended, run_and_close};
 use plan_migrations::migrate_older;
@@ -26,7 +26,7 @@ use std::io::{BufRead, Write};
 fn run_adopted<D: Disk + Drop, O: Opening, R: BufRead, W: Write>(
     alloc: Global,
     conn: Connection<FileStore<D>>,
-    begun: Begun,
+    begun: StartingPlan,
     opening: &mut O,
     reader: &mut R,
     writer: &mut W,
@@ -34,7 +34,7 @@ fn run_adopted<D: Disk + Drop, O: Opening, R: BufRead, W: Write>(
     requires { conn.in_transaction ≡ false }
     ensures ran { IfOk result (λ ended. (before : Content) × (after : Content)
         × RunsOverConnection conn (ends_of before after (W.contents writer.old)
-        (W.contents writer.new) (R.remaining reader.old)) ended.outcome ended.is_whole ended.let_go
+        (W.contents writer.new) (R.remaining reader.old)) ended.outcome ended.is_whole ended.closed
         × O.reports opening.old begun opening.new) }
     ensures unrun { IfErr result (IsUnadopted conn) }
     ensures unreported { IfErr result (λ _. opening.new ≡ opening.old) }
@@ -63,8 +63,8 @@ pub fn run_over_connection<D: Disk + Drop, O: Opening, R: BufRead, W: Write>(
     requires { conn.in_transaction ≡ false }
     ensures ran { IfOk result (λ ended. (before : Content) × (after : Content)
         × RunsMigrated conn (ends_of before after (W.contents writer.old)
-        (W.contents writer.new) (R.remaining reader.old)) ended.outcome ended.is_whole ended.let_go
-        × IsReported O.reports opening.old opening.new (AreHonest D.Disk ended.let_go.files)
+        (W.contents writer.new) (R.remaining reader.old)) ended.outcome ended.is_whole ended.closed
+        × IsReported O.reports opening.old opening.new (AreHonest D.Disk ended.closed.files)
         (λ begun. IsBegunOn begun (file_state conn).now before)) }
     ensures unrun { IfErr result (IsUnmade conn) }
     ensures unreported { IfErr result (λ _. opening.new ≡ opening.old) }
@@ -74,7 +74,7 @@ pub fn run_over_connection<D: Disk + Drop, O: Opening, R: BufRead, W: Write>(
     let mut conn = conn;
     match migrate_older(alloc, &mut conn) {
         Ok(found) => {
-            let begun = begun_with(is_first(found), has_meta(&conn));
+            let begun = starting_plan(is_first(found), has_meta(&conn));
             run_adopted(alloc, conn, begun, opening, reader, writer)
         }
         Err(fault) => Err((Unrun::Unmigrated(fault), conn.into_store())),
@@ -95,8 +95,8 @@ pub fn run_over_files<S: Start, F: FileOpener<S>, O: Opening, R: BufRead, W: Wri
 ) -> Result<Ended<FileFrom<S>>, (Unrun, Option<Leftover<FileFrom<S>>>, Option<Error>)>
     ensures ran { IfOk result (λ ended. (before : Content) × (after : Content)
         × RunsOverFiles ⟦<FileFrom<S> as Disk>⟧ (image_at S.Start) (ends_of before after (W.contents writer.old)
-        (W.contents writer.new) (R.remaining reader.old)) ended.outcome ended.is_whole ended.let_go
-        × IsReported O.reports opening.old opening.new (AreHonest ⟦<FileFrom<S> as Disk>⟧ ended.let_go.files)
+        (W.contents writer.new) (R.remaining reader.old)) ended.outcome ended.is_whole ended.closed
+        × IsReported O.reports opening.old opening.new (AreHonest ⟦<FileFrom<S> as Disk>⟧ ended.closed.files)
         (λ begun. IsBegunIn (image_at S.Start) begun before)) }
     ensures refused { IfErr result (λ left. IsNotRun (λ is_log file. IsFresh is_log file)
         (image_at S.Start) (F.refuses opener) left.0 left.1 left.2) }

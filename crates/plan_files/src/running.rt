@@ -10,7 +10,7 @@ ghost use Rattle.plan_tables.specs.Kept.{IsKept, kept_in};
 ghost use Rattle.plan_tables.specs.Stored.{LeavesOne};
 ghost use Rattle.plan_files.specs.Over.{AreHonest, RunsFiles};
 
-use plan_files_closing::{LetGo, let_go};
+use plan_files_closing::{ClosedFiles, close_connection};
 use plan_store::PlanStore;
 use plan_tables::TableStore;
 use plan_tables_content::tables_have_one_content;
@@ -29,7 +29,7 @@ pub struct Ended<D: Disk> {
     /// Whether the store is known to have been whole then: no failure was counted, and its connection was open.
     pub is_whole: bool,
     /// Both files as they were closed, and whether the log was copied into the database file, which then holds all.
-    pub let_go: LetGo<D>,
+    pub closed: ClosedFiles<D>,
 }
 
 // Whether no failure of the device was counted.
@@ -57,10 +57,10 @@ pub(crate) fn run_and_close<D: Disk + Drop, R: BufRead, W: Write>(
         → IsKept (file_state store.conn) (content_of store.lists) }
     requires alone { LeavesOne (file_state store.conn)
         (kept_in (file_state store.conn) (content_of store.lists)) }
-    ensures honest { AreHonest D.Disk result.let_go.files → HasCleanDisk (file_state store.conn) }
+    ensures honest { AreHonest D.Disk result.closed.files → HasCleanDisk (file_state store.conn) }
     ensures runs { (after : Content) × RunsFiles D.Disk (ends_of
         (kept_in (file_state store.conn) (content_of store.lists)) after
-        (W.contents writer.old) (W.contents writer.new) (R.remaining reader.old)) result.outcome result.is_whole result.let_go }
+        (W.contents writer.old) (W.contents writer.new) (R.remaining reader.old)) result.outcome result.is_whole result.closed }
 {
     streams();
     tables_have_one_content();
@@ -70,10 +70,10 @@ pub(crate) fn run_and_close<D: Disk + Drop, R: BufRead, W: Write>(
     let conn = store.into_connection();
     // its clause says that an open connection has a database
     let _ = conn.schema();
-    let let_go = let_go(alloc, conn);
+    let closed = close_connection(alloc, conn);
     Ended {
         outcome,
-        is_whole: are_both(is_unfailed, let_go.was_open),
-        let_go,
+        is_whole: are_both(is_unfailed, closed.was_open),
+        closed,
     }
 }

@@ -16,7 +16,7 @@ use std::alloc::Global;
 
 /// Both files after the end of their connection.
 #[derive(Drop)]
-pub struct LetGo<D: Disk> {
+pub struct ClosedFiles<D: Disk> {
     /// The log and the database file.
     pub files: Files<D>,
     /// Whether the log was copied into the database file, which holds everything then; or why not.
@@ -28,7 +28,10 @@ pub struct LetGo<D: Disk> {
 /// Takes the files out of a connection, and copies the log into the database file. Whether or not that succeeds, and
 /// whatever a crash leaves of the files then, both hold a database that a crash might leave of the connection. Once the log
 /// is copied, the database file without it holds that database too.
-pub fn let_go<D: Disk + Drop>(alloc: Global, conn: Connection<FileStore<D>>) -> LetGo<D>
+pub fn close_connection<D: Disk + Drop>(
+    alloc: Global,
+    conn: Connection<FileStore<D>>,
+) -> ClosedFiles<D>
     ensures honest { AreClean D.Disk result.files.log result.files.db → HasCleanDisk (file_state conn) }
     ensures holds { AreClean D.Disk result.files.log result.files.db → (left : Image)
         → outcomes D.Disk result.files.log result.files.db left → ∥ HoldsLeft left (file_state conn) ∥₁ }
@@ -40,7 +43,7 @@ pub fn let_go<D: Disk + Drop>(alloc: Global, conn: Connection<FileStore<D>>) -> 
     let store = conn.into_store();
     let was_open = !store.is_broken();
     let (files, copied) = copy_log(alloc, store.close());
-    LetGo {
+    ClosedFiles {
         files,
         copied,
         was_open,

@@ -4,5 +4,5 @@
 mod closing;
 mod copying;
 
-pub use closing::{LetGo, let_go};
+pub use closing::{ClosedFiles, close_connection};
 pub use copying::{CopyFault, copy_log};

@@ -167,7 +167,7 @@ module _ (old new : Tables) (rows : AreRenewed old new) where
       (row, subst (Contains (was t)) (sym shows) has, ap (remade_row t) shows ∙ at)
 
   pub content_stays : (c : Content) → IsFirstContentOf old c → IsContentOf new c
-  content_stays c is = record { tellable = is.tellable; facts = λ t v. both t v }
+  content_stays c is = record { representable = is.representable; facts = λ t v. both t v }
     where
       both : (t : Table) (v : Values) → Contains (now t) v ↔ IsFact t c v
       both t v = (
@@ -194,7 +194,7 @@ module _ (old new : Tables) (rows : AreRenewed old new) where
     }
 
     pub content_was : IsFirstContentOf old c
-    content_was = record { tellable = is.tellable; unlimited = unlimited; facts = λ t v. both t v }
+    content_was = record { representable = is.representable; unlimited = unlimited; facts = λ t v. both t v }
       where
         one : (t : Table) (v row : Values) → first_shown t row ≡ v → Contains (was t) v → IsFirstFact t c v
         one t v row shows has =

@@ -39,7 +39,7 @@ module _ (reads : List FirstRows) (whole : AreWhole reads) (all other : Tables) 
 
   -- and so they have the same content
   same_content : (c : Content) → IsContentOf all c → IsContentOf other c
-  same_content c is = record { tellable = is.tellable; facts = λ t v. both t v }
+  same_content c is = record { representable = is.representable; facts = λ t v. both t v }
     where
       both : (t : Table) (v : Values) → Contains (map (shown t) (other t)) v ↔ IsFact t c v
       both t v = (

@@ -14,7 +14,7 @@ use Rattle.plan_tables_schema.proofs.NamedLemmas.{tree_is}
 use Rattle.plan_tables_schema.proofs.QueryMeanings.{ShowsRows}
 use Rattle.plan_tables_schema.proofs.ShownLemmas as shown
 use Rattle.plan_tables_schema.proofs.StopLemmas.{vain_since}
-use Rattle.plan_tables_schema.specs.Places.{TableStandsAt}
+use Rattle.plan_tables_schema.specs.Places.{TableIsAt}
 use Rattle.plan_tables_schema.specs.Rows.{HaveRowids, tables_of}
 use Rattle.plan_tables_schema.specs.Schema.{all_tables, table_at}
 use Rattle.plan_tables_schema.specs.declared.tables.Table.{Table}
@@ -36,13 +36,13 @@ use Rattle.plan_migrations.proofs.TurnLemmas.{failure_since, memory_since}
 
 -- a table that stays is described in schema 2 as in schema 1
 stands_so : (schema : Schema) (tree at : ℕ) (t : Table) → is_changed t ≡ false
-    → TableStandsAt schema (first_table_at tree t) at → TableStandsAt schema (table_at tree t) at
+    → TableIsAt schema (first_table_at tree t) at → TableIsAt schema (table_at tree t) at
 stands_so schema tree at Predecessor h it = absurd (true≢false h)
 stands_so schema tree at LinkInForce h it = absurd (true≢false h)
 stands_so schema tree at t h it = it
 
 module _ (t : Table) (old new : State) (other : is_changed t ≡ false) (has : HasFirstTables old.now.schema) where
-  stands : TableStandsAt old.now.schema (table_at (has.trees t) t) (has.at t)
+  stands : TableIsAt old.now.schema (table_at (has.trees t) t) (has.at t)
   stands = stands_so old.now.schema (has.trees t) (has.at t) t other (has.stands t)
 
   means : ShowsRows old.now.schema (rowid_sql t) (has.trees t) rowid_terms (rowid_name t ∷ [])

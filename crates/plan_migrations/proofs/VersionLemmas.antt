@@ -12,7 +12,7 @@ use Rattle.sqlite_schema.specs.declared.schema.Schema.{Schema}
 use Rattle.sqlite_trees.specs.Objects.{catalog_tree}
 use Rattle.sqlite_tied.specs.Compute.{everything}
 use Rattle.plan_store_lists.proofs.KeyLemmas.{contains_cases, nothing}
-use Rattle.plan_tables_schema.specs.Places.{TableStandsAt}
+use Rattle.plan_tables_schema.specs.Places.{TableIsAt}
 use Rattle.plan_tables_schema.specs.Rows.{shown, tables_of}
 use Rattle.plan_tables_schema.specs.Schema.{HasTables, name, table_at}
 use Rattle.plan_tables_schema.specs.declared.tables.Table.TheVariants as table
@@ -55,7 +55,7 @@ version_fits : (tree : ℕ) → ShowsColumns (table_at tree table.Meta) version_
 unfolding everything
 version_fits tree = (refl, refl, refl, refl, refl)
 
-versions : (schema : Schema) (tree at : ℕ) → TableStandsAt schema (table_at tree table.Meta) at
+versions : (schema : Schema) (tree at : ℕ) → TableIsAt schema (table_at tree table.Meta) at
     → ShowsRows schema version_sql tree version_terms version_columns
 versions schema tree at it = columns_show schema (table_at tree table.Meta) at it version_sql version_columns
     version_terms version_says (version_fits tree)

@@ -10,7 +10,7 @@ use Rattle.planner_machine.specs.declared.content.Bounds.{Bounds}
 use Rattle.plan_tables_schema.specs.Rows.{Tables}
 use Rattle.plan_tables_schema.specs.declared.tables.Table.{Table}
 use Rattle.plan_tables_schema.specs.declared.tables.Table.TheVariants as table
-use Rattle.plan_tables_content.specs.Content.{AreEach, IsFact, IsOfList, IsOfSome, IsTellable, bounds_values}
+use Rattle.plan_tables_content.specs.Content.{AreEach, IsFact, IsOfList, IsOfSome, IsRepresentable, bounds_values}
 use Rattle.plan_tables_content.specs.Facts.{natural}
 use Rattle.plan_migrations_remaking.specs.FirstSchema.{first_shown}
 use Rattle.plan_migrations.specs.declared.versions.TheConstants.{FIRST_VERSION}
@@ -45,7 +45,7 @@ pub record HasNoLimits (c : Content) : Type 0 where
 
 -- the content of the tables: lists of predecessors without limits, one row for each fact, and no others
 pub record IsFirstContentOf (all : Tables) (c : Content) : Type 0 where
-  pub tellable : IsTellable c
+  pub representable : IsRepresentable c
   pub unlimited : HasNoLimits c
   pub facts : (t : Table) (values : Values) → Contains (map (first_shown t) (all t)) values ↔ IsFirstFact t c values
 

@@ -16,7 +16,7 @@ use Rattle.sqlite_schema.specs.Names.{same_name}
 use Rattle.sqlite_trees.specs.Objects.{catalog_tree}
 use Rattle.sqlite_trees.specs.Tree.{IsAscending}
 use Rattle.plan_tables_schema.specs.Made.{earlier, later}
-use Rattle.plan_tables_schema.specs.Places.{TableStandsAt, TreesDiffer, tree_named}
+use Rattle.plan_tables_schema.specs.Places.{TableIsAt, TreesDiffer, tree_named}
 use Rattle.plan_tables_schema.specs.Rows.{HaveRowids, IsPlan, KeepsBeside, tables_of}
 use Rattle.plan_tables_schema.specs.Schema.{HasTables, IsAside, RefersAside, all_tables, name, table_at, to_run_cycle}
 use Rattle.plan_tables_schema.specs.declared.tables.Table.{Table}
@@ -82,15 +82,15 @@ module _ (schema : Schema) (can : CanRemake schema) where
   trees_now LinkInForce = next_tree one
   trees_now t = trees t
 
-  stays : (t : Table) → is_changed t ≡ false → (k : ℕ) × TableStandsAt left (first_table_at (trees t) t) k
+  stays : (t : Table) → is_changed t ≡ false → (k : ℕ) × TableIsAt left (first_table_at (trees t) t) k
   stays t other = stands_left schema trees changed (first_table_at (trees t) t) (can.has.at t) (can.has.stands t)
       (not_among schema can.has t changed (names_apart t other))
 
-  stays_on : (table : Described) (k : ℕ) → TableStandsAt left table k → TableStandsAt (remade_schema trees schema) table k
+  stays_on : (table : Described) (k : ℕ) → TableIsAt left table k → TableIsAt (remade_schema trees schema) table k
   stays_on table k it =
       stands_still one table (table_at 0 LinkInForce) k (stands_still left table (table_at 0 Predecessor) k it)
 
-  stands_each : (t : Table) → (k : ℕ) × TableStandsAt (remade_schema trees schema) (table_at (trees_now t) t) k
+  stands_each : (t : Table) → (k : ℕ) × TableIsAt (remade_schema trees schema) (table_at (trees_now t) t) k
   stands_each Predecessor = (
     length left.tables,
     stands_still one (table_at (next_tree left) Predecessor) (table_at 0 LinkInForce) (length left.tables)

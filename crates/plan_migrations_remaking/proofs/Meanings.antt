@@ -20,7 +20,7 @@ use Rattle.plan_tables_schema.proofs.CreateLemmas.{Creates, creates, defined_so}
 use Rattle.plan_tables_schema.proofs.MeaningLemmas.{Means, Plans, means}
 use Rattle.plan_tables_schema.proofs.QueryMeanings.{ShowsRows}
 use Rattle.plan_tables_schema.proofs.Written.{IfRead}
-use Rattle.plan_tables_schema.specs.Places.{TableStandsAt}
+use Rattle.plan_tables_schema.specs.Places.{TableIsAt}
 use Rattle.plan_tables_schema.specs.Schema.{name}
 use Rattle.plan_tables_schema.specs.declared.tables.Table.{Table}
 use Rattle.plan_tables_schema.specs.declared.tables.Table.TheVariants.{Meta}
@@ -97,7 +97,7 @@ unfolding everything
 select_fits tree Meta = (refl, refl, refl, refl, refl)
 select_fits tree t = (refl, refl, refl, refl, refl)
 
-pub selects : (schema : Schema) (tree at : ℕ) (t : Table) → TableStandsAt schema (first_table_at tree t) at
+pub selects : (schema : Schema) (tree at : ℕ) (t : Table) → TableIsAt schema (first_table_at tree t) at
     → ShowsRows schema (first_select_sql t) tree (first_terms t) (first_names t)
 selects schema tree at t it = columns_show schema (first_table_at tree t) at it (first_select_sql t) (first_names t)
     (first_terms t) (select_says t) (select_fits tree t)

@@ -28,7 +28,7 @@ use Rattle.plan_tables_schema.specs.Cells.{delete_tests}
 use Rattle.plan_tables_schema.specs.Rows.{HaveRowids, IsPlan, MayFail, matches, tables_of}
 use Rattle.plan_tables_schema.specs.Places.{tree_named}
 use Rattle.plan_tables_schema.specs.Schema.{name, table_at, to_run_cycle}
-use Rattle.plan_tables_schema.specs.Takes.{IsKeyOf}
+use Rattle.plan_tables_schema.specs.Accepted.{IsKeyOf}
 use Rattle.plan_tables_schema.specs.Texts.{delete_sql}
 use Rattle.plan_tables_schema.specs.declared.tables.Table.TheVariants.{Meta}
 use Rattle.plan_tables_schema.proofs.GoneLemmas.{never_stops, stops}

@@ -16,7 +16,7 @@ use Rattle.plan_tables_schema.proofs.InTurn.{stands_then, turns_then, turns_weak
 use Rattle.plan_tables_schema.proofs.ResultLemmas.{if_err}
 use Rattle.plan_migrations_remaking.specs.Refusals.{FailsFor}
 use Rattle.plan_migrations_remaking.specs.Remaking.{AreAllFirst, AreWhole, CanRefill, IsRefilled, PutsWhere, RefusesToFill}
-use Rattle.plan_migrations_remaking.specs.Remaking.{RefusesToRefill, TakesMeta, meta_key, of_changed, of_meta, refilled, with_all_put}
+use Rattle.plan_migrations_remaking.specs.Remaking.{RefusesToRefill, DeletesMeta, meta_key, of_changed, of_meta, refilled, with_all_put}
 use Rattle.plan_migrations_remaking.specs.Remaking.{with_rows_put}
 use Rattle.plan_migrations_remaking.specs.Turns.{TurnsUnless}
 use Rattle.plan_migrations_remaking.specs.Types.{AreFirst}
@@ -82,9 +82,9 @@ both_ok (Err e) P Q R f p q = tt
 
 module _ {S T : Type 0} {g : Ghosts S} {a b : Transaction S} {r : Result T Error} (reads : List FirstRows) where
   -- the row of `plan_meta` is taken out
-  pub takes : WritesWhere (λ _. ⊤) g a b r (without_key Meta meta_key) → TakesMeta g a b r
+  pub accepts : WritesWhere (λ _. ⊤) g a b r (without_key Meta meta_key) → DeletesMeta g a b r
       → Turns g a b r (CanRefill reads) (IsRefilling reads (without_key Meta meta_key)) (Fails reads)
-  takes writes may = record {
+  accepts writes may = record {
     same_reference = writes.same_reference;
     ok = λ clean base from. both_ok r _ _ _
         (λ stands up. record {
@@ -163,13 +163,13 @@ all_put reads base s new is = record {
 
 -- once it is taken out, rows of `plan_meta` are put in
 module _ {S T V : Type 0} {g : Ghosts S} {a b c : Transaction S} {t : T} {r : Result V Error} (reads : List FirstRows)
-    (took : WritesWhere (λ _. ⊤) g a b (Ok t) (without_key Meta meta_key)) (may : TakesMeta g a b (Ok t)) where
+    (took : WritesWhere (λ _. ⊤) g a b (Ok t) (without_key Meta meta_key)) (may : DeletesMeta g a b (Ok t)) where
   pub then_meta : WritesWhere (λ _. AreAllFirst (of_meta reads)) g b c r (with_all_put (of_meta reads))
       → PutsWhere (AreAllFirst (of_meta reads)) (λ limit db. RefusesToFill limit db.schema
       (with_all_put (of_meta reads) (tables_of db.trees))) g b c r
       → Turns g a c r (CanRefill reads)
       (IsRefilling reads (λ all. with_all_put (of_meta reads) (without_key Meta meta_key all))) (Fails reads)
-  then_meta writes puts = turns_then (refusing (RefusesToRefill reads)) (takes reads took may) (puts_meta reads writes puts)
+  then_meta writes puts = turns_then (refusing (RefusesToRefill reads)) (accepts reads took may) (puts_meta reads writes puts)
 
 -- and those of the two tables
 pub then_changed : {S U V : Type 0} {g : Ghosts S} {a c d : Transaction S} {u : U} {r : Result V Error}

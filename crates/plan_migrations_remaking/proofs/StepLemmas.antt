@@ -23,7 +23,7 @@ use Rattle.plan_tables_schema.proofs.Steps.{creates}
 use Rattle.plan_tables_schema.proofs.StopLemmas.{IsOrdinary, IsStopped, stopped}
 use Rattle.plan_tables_schema.proofs.TextMeanings.{insert_means}
 use Rattle.plan_tables_schema.specs.Cells.{column_names, insert_terms, width}
-use Rattle.plan_tables_schema.specs.Places.{TableStandsAt}
+use Rattle.plan_tables_schema.specs.Places.{TableIsAt}
 use Rattle.plan_tables_schema.specs.Rows.{IsPlan, tables_of}
 use Rattle.plan_tables_schema.specs.Texts.{insert_sql}
 use Rattle.plan_tables_schema.specs.Schema.{checks, key, name, orders, primary, references, uniques}
@@ -83,7 +83,7 @@ module _ (t : Table) (gone : List Table) (apart : list_any (λ u. same_name (nam
     abbrev before : Schema
     before = without trees gone base.schema
 
-    here : (k : ℕ) × TableStandsAt before (first_table_at (trees t) t) k
+    here : (k : ℕ) × TableIsAt before (first_table_at (trees t) t) k
     here = still_there base.schema has.can.has t gone apart
 
     drop_is : Means before (drop_sql t) (DropTable here.0) 0

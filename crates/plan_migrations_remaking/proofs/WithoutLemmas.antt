@@ -15,7 +15,7 @@ use Rattle.sqlite_rules.specs.Lists.{Has}
 use Rattle.sqlite_schema.specs.Names.{same_name, view_named}
 use Rattle.sqlite_schema.specs.declared.schema.Keys.TheVariants.{Enforced}
 use Rattle.sqlite_schema.specs.declared.schema.Reference.{Reference}
-use Rattle.plan_tables_schema.specs.Places.{TableStandsAt}
+use Rattle.plan_tables_schema.specs.Places.{TableIsAt}
 use Rattle.plan_tables_schema.specs.Schema.{IsAside, name, table_at, to_run_cycle}
 use Rattle.plan_tables_schema.specs.declared.tables.Table.{Table}
 use Rattle.plan_tables_schema.specs.declared.tables.Table.TheVariants.{LinkInForce, Offset, Predecessor, RunCycle}
@@ -107,8 +107,8 @@ not_so true h = refl
 not_so false h = absurd (cc)
 
 pub stands_left : (schema : Schema) (trees : Table → ℕ) (gone : List Table) (table : Described) (at : ℕ)
-    → TableStandsAt schema table at → is_among trees gone table.tree ≡ false
-    → (k : ℕ) × TableStandsAt (without trees gone schema) table k
+    → TableIsAt schema table at → is_among trees gone table.tree ≡ false
+    → (k : ℕ) × TableIsAt (without trees gone schema) table k
 stands_left schema trees gone table at it other =
     let e : at ≡ 0 + at = omega arith in
     let r = kept_at (λ (d : Described). same_name d.name table.name) (λ (d : Described). not (is_among trees gone d.tree))
@@ -145,7 +145,7 @@ module _ (schema : Schema) (has : HasFirstTables schema) where
   module _ (t : Table) (gone : List Table) where
     -- it still stands where others are taken away
     pub still_there : list_any (λ u. same_name (name u) (name t)) gone ≡ false
-        → (k : ℕ) × TableStandsAt (without has.trees gone schema) (first_table_at (has.trees t) t) k
+        → (k : ℕ) × TableIsAt (without has.trees gone schema) (first_table_at (has.trees t) t) k
     still_there apart = stands_left schema has.trees gone (first_table_at (has.trees t) t) (has.at t) (has.stands t)
         (not_among t gone apart)
 

@@ -12,7 +12,7 @@ use Rattle.plan_tables_schema.specs.Form.{Form, columns_of, names, select_terms_
 use Rattle.plan_tables_schema.specs.Forms.{form}
 use Rattle.plan_tables_schema.specs.Free.{CanMake, with_tables}
 use Rattle.plan_tables_schema.specs.Made.{earlier, up_to}
-use Rattle.plan_tables_schema.specs.Places.{TableStandsAt, TreesDiffer}
+use Rattle.plan_tables_schema.specs.Places.{TableIsAt, TreesDiffer}
 use Rattle.plan_tables_schema.specs.Schema.{RefersAside, all_tables, checks, key, name, no_schema, orders}
 use Rattle.plan_tables_schema.specs.Schema.{plain_table, primary, references, uniques}
 use Rattle.plan_tables_schema.specs.declared.tables.Table.{Table}
@@ -67,7 +67,7 @@ first_schema = with_firsts no_schema all_tables
 pub record HasFirstTables (schema : Schema) : Type 0 where
   pub at : Table → ℕ
   pub trees : Table → ℕ
-  pub stands : (t : Table) → TableStandsAt schema (first_table_at (trees t) t) (at t)
+  pub stands : (t : Table) → TableIsAt schema (first_table_at (trees t) t) (at t)
   pub apart : IsAscending TreesDiffer schema.tables
   pub refer : RefersAside schema (trees Offset)
 

@@ -193,7 +193,7 @@ pub record PutsWhere {S T : Type 0} (Fit : Type 0) (Refused : Option ℕ → Dat
 
 -- in a plan that keeps its rules nothing in the tables keeps the row of `plan_meta` from being deleted, and an Ok
 -- leaves the connection open
-pub record TakesMeta {S T : Type 0} (g : Ghosts S) (old new : Transaction S) (result : Result T Error) : Type 0 where
+pub record DeletesMeta {S T : Type 0} (g : Ghosts S) (old new : Transaction S) (result : Result T Error) : Type 0 where
   pub fails : HasCleanDisk (seen g new) → IsPlan (seen g old) → IsTrue (seen g old).in_transaction
       → IsDatabase (seen g old).now → IfErr result (MayFail (seen g old) (seen g new))
   pub stays_open : HasCleanDisk (seen g new) → IsTrue (seen g old).in_transaction

@@ -6,7 +6,7 @@ ghost use Rattle.plan_tables_schema.specs.declared.tables.Table.TheVariants.{Met
 ghost use Rattle.std.specs.Prelude.{⊤};
 ghost use Rattle.sqlite.specs.Effect.{IsDatabase};
 ghost use Rattle.plan_migrations_remaking.specs.Remaking.{AreWhole, CanRefill, IsRefilled, RefusesToRefill, meta_key};
-ghost use Rattle.plan_migrations_remaking.specs.Remaking.{TakesMeta};
+ghost use Rattle.plan_migrations_remaking.specs.Remaking.{DeletesMeta};
 ghost use Rattle.plan_migrations_remaking.specs.Turns.{TurnsUnless};
 
 use crate::putting::put_all;
@@ -17,9 +17,9 @@ use sqlite::{Alter, Error, Transaction};
 use std::alloc::Global;
 
 // Deletes the row of `plan_meta`.
-fn take_meta<S: Alter>(tx: &mut Transaction<'_, S>) -> Result<(), Error>
+fn delete_meta<S: Alter>(tx: &mut Transaction<'_, S>) -> Result<(), Error>
     ensures writes { WritesWhere (λ _. ⊤) S.Store tx.old tx.new result (without_key Meta meta_key) }
-    ensures takes { TakesMeta S.Store tx.old tx.new result }
+    ensures accepts { DeletesMeta S.Store tx.old tx.new result }
 {
     tx.execute(delete_meta_text(), &[ValueRef::Int(1)])?;
     Ok(())
@@ -36,7 +36,7 @@ pub(crate) fn refill<S: Alter>(
     ensures { TurnsUnless S.Store tx.old tx.new result (CanRefill reads.now) (IsRefilled reads.now)
         (RefusesToRefill reads.now) }
 {
-    take_meta(tx)?;
+    delete_meta(tx)?;
     put_all(tx, alloc, &reads[..1])?;
     put_all(tx, alloc, &reads[6..8])
 }

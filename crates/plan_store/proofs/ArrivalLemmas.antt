@@ -26,7 +26,7 @@ use Rattle.plan_store_lists.specs.Keyed.{IsKeyed}
 use Rattle.plan_store_lists.specs.Rows.{AreRows, look_up, of_current, of_row}
 use Rattle.external_dependencies.proofs.NearestLemmas.{answer_none, arrival_ties}
 use Rattle.plan_store.specs.Arrivals.{IsGreatestOf, arrives, arrives_live, later_of}
-use Rattle.plan_store.specs.Asked.{HasLast, IsNoLater}
+use Rattle.plan_store.specs.HistoryReads.{HasLast, IsNoLater}
 use Rattle.plan_store.specs.Slices.{HaveOneApp}
 use Rattle.plan_store.specs.Views.{IsLastBefore}
 use Rattle.plan_store_lists.proofs.LookLemmas.{look_has, look_some}

@@ -13,7 +13,7 @@ use Rattle.occurrences.specs.declared.row.Row.{Row}
 use Rattle.external_dependencies.specs.declared.live.Arrival.{Arrival}
 use Rattle.external_dependencies.specs.declared.pairs.Pair.{Pair}
 use Rattle.external_dependencies.specs.declared.rows.PlacedRow.{PlacedRow}
-use Rattle.planner_machine.specs.Content.{Content, Seat, Sets, StandsAt, alone, seat}
+use Rattle.planner_machine.specs.Content.{Content, Seat, Sets, IsOnlyAt, alone, seat}
 use Rattle.planner_machine.specs.Moves.{or_else}
 use Rattle.planner_machine.specs.Sound.{AreNumbered, IsSound}
 use Rattle.planner_machine.proofs.SeatLemmas.{one_place}
@@ -49,7 +49,7 @@ module _ (c : Content) (sound : IsSound c) (pair : Pair) (there : Contains c.pai
           let same : serial ≡ pair.predecessor = sym (sound.serials.numbered serial p stands)
           ∙ ap (λ (a : Arrival). a.serial) arrives ∙ waits.predecessor in
           subst (λ (q : PlacedRow). IsLive q.place) (one_place c.sets pair.predecessor p gone
-          (subst (λ n. StandsAt c.sets n p) same stands) at) live
+          (subst (λ n. IsOnlyAt c.sets n p) same stands) at) live
       | inr kept ↦
           let (p, stands, complete) = sound.pairs.complete pair there
           (kept.placed, kept.stands, kept.live, kept.waits_no_more) in

@@ -1,7 +1,7 @@
 mod AlikeLemmas
 mod AppPairLemmas
 mod ArrivalLemmas
-mod AskedLemmas
+mod ReadLemmas
 pub mod EndLemmas
 pub mod FitLemmas
 mod FittingLemmas

@@ -17,7 +17,7 @@ use Rattle.plan_store_lists.specs.Rows.{AreRows}
 use Rattle.plan_store_lists.proofs.EditLemmas.{sorted_keyed}
 use Rattle.plan_store_lists.proofs.KeyLemmas.{contains_cases, contains_first, contains_later, nothing}
 use Rattle.plan_store.specs.Listed.{SortsRows}
-use Rattle.plan_store.specs.Listings.{Shown, TakesAll}
+use Rattle.plan_store.specs.Listings.{Shown, AcceptsAll}
 use Rattle.plan_store.proofs.ViewLemmas.{once_from_rows}
 
 -- rows compare so
@@ -104,11 +104,11 @@ in_order_by now row_of xs bs cs is moves sorted = subst (λ l. SortsRows row_of 
     (in_order row_of (map now bs) (map now cs) (IsPermutation-map now bs cs moves) (sorted_map now row_of cs sorted))
 
 -- one more item for a sink
-pub takes_more : {K : Type 0} (Takes : K → Shown → K → Type 0) (old : K) (items : List Shown) (last : K) (item : Shown)
-    (new : K) → TakesAll Takes old items last → Takes last item new → TakesAll Takes old (items ++ item ∷ []) new
-takes_more Takes old [] last item new all one = (new, subst (λ k. Takes k item new) all one, refl)
-takes_more Takes old (x ∷ items) last item new all one = let (next, first, rest) = all in
-    (next, first, takes_more Takes next items last item new rest one)
+pub takes_more : {K : Type 0} (Accepts : K → Shown → K → Type 0) (old : K) (items : List Shown) (last : K) (item : Shown)
+    (new : K) → AcceptsAll Accepts old items last → Accepts last item new → AcceptsAll Accepts old (items ++ item ∷ []) new
+takes_more Accepts old [] last item new all one = (new, subst (λ k. Accepts k item new) all one, refl)
+takes_more Accepts old (x ∷ items) last item new all one = let (next, first, rest) = all in
+    (next, first, takes_more Accepts next items last item new rest one)
 
 -- what was handed out, and the rest
 module _ {X Y : Type 0} (f : X → Y) where

@@ -18,7 +18,7 @@ use Rattle.plan_store_lists.specs.Keyed.{IsKeyed}
 use Rattle.plan_store_lists.specs.Rows.{AreRows, HasEachOnce}
 use Rattle.plan_store_lists.proofs.KeyLemmas.{contains_cases, contains_first, contains_later, nothing}
 use Rattle.plan_store.specs.Listed.{SortsRows, EndsWithin, ShowsSet, shown_as}
-use Rattle.plan_store.specs.Listings.{HandsAll, HandsPart, Shown, TakesAll}
+use Rattle.plan_store.specs.Listings.{EmitsAll, EmitsPart, Shown, AcceptsAll}
 use Rattle.plan_store.specs.declared.listings.ListFault.{ListFault}
 use Rattle.plan_store.specs.declared.listings.ListFault.TheVariants.{Memory}
 use Rattle.plan_store.proofs.ViewLemmas.{once_from_rows}
@@ -161,7 +161,7 @@ module _ {X : Type 0} (row_of : X → Row) where
     shows_some = let (ys, rise, same) = sorted_rows part (once_from_rows row_of part part_rows) in
         (map (shown_as row_of letter_of is_plain) ys, shows_sorted ys rise same)
 
-    module _ {K B : Type 0} (Takes Refuses : K → Shown → K → Type 0) (old new : K) (now : B → X) (bs : List B)
+    module _ {K B : Type 0} (Accepts Refuses : K → Shown → K → Type 0) (old new : K) (now : B → X) (bs : List B)
         (is : SortsRows row_of part (map now bs)) where
       map_twice : (cs : List B) → map (λ b. shown_as row_of letter_of is_plain (now b)) cs
           ≡ map (shown_as row_of letter_of is_plain) (map now cs)
@@ -172,9 +172,9 @@ module _ {X : Type 0} (row_of : X → Row) where
       long [] = refl
       long (c ∷ cs) = ap suc (long cs)
 
-      pub handed_all : (result : Result ℕ ListFault) → IfOk result (λ count. (count ≡ length bs) × TakesAll Takes old
+      pub handed_all : (result : Result ℕ ListFault) → IfOk result (λ count. (count ≡ length bs) × AcceptsAll Accepts old
           (map (λ b. shown_as row_of letter_of is_plain (now b)) bs) new)
-          → IfOk result (HandsAll Takes (ShowsSet row_of letter_of is_plain xs app) old new)
+          → IfOk result (EmitsAll Accepts (ShowsSet row_of letter_of is_plain xs app) old new)
       handed_all (Ok count) h = record {
         items = map (λ b. shown_as row_of letter_of is_plain (now b)) bs;
         whole = subst (ShowsSet row_of letter_of is_plain xs app) (sym (map_twice bs)) (shows_part (map now bs) is);
@@ -184,8 +184,8 @@ module _ {X : Type 0} (row_of : X → Row) where
       handed_all (Err fault) h = tt
 
       pub handed_part : (result : Result ℕ ListFault)
-          → IfErr result (λ fault. EndsWithin Takes Refuses old (map (λ b. shown_as row_of letter_of is_plain (now b))
-          bs) new fault) → IfErr result (HandsPart Takes Refuses (ShowsSet row_of letter_of is_plain xs app) old new)
+          → IfErr result (λ fault. EndsWithin Accepts Refuses old (map (λ b. shown_as row_of letter_of is_plain (now b))
+          bs) new fault) → IfErr result (EmitsPart Accepts Refuses (ShowsSet row_of letter_of is_plain xs app) old new)
       handed_part (Ok count) h = tt
       handed_part (Err fault) h = record {
         done = h.done;
@@ -196,9 +196,9 @@ module _ {X : Type 0} (row_of : X → Row) where
       }
 
     -- memory is refused before the first row
-    pub handed_none : {K : Type 0} (Takes Refuses : K → Shown → K → Type 0) (old : K) → HandsPart Takes Refuses
+    pub handed_none : {K : Type 0} (Accepts Refuses : K → Shown → K → Type 0) (old : K) → EmitsPart Accepts Refuses
         (ShowsSet row_of letter_of is_plain xs app) old old Memory
-    handed_none Takes Refuses old = let (items, shows) = shows_some in record {
+    handed_none Accepts Refuses old = let (items, shows) = shows_some in record {
       done = [];
       rest = items;
       whole =

@@ -30,8 +30,8 @@ use Rattle.planner_machine.specs.declared.content.Bounds.{Bounds}
 use Rattle.plan_store_lists.specs.Keyed.{IsKeyed}
 use Rattle.plan_store_lists.specs.Rows.{AreRows, look_up, of_current, of_row}
 use Rattle.plan_store_lists.proofs.SliceLemmas.{Rises, less_not_equal, name_ties, parted_below, then_less}
-use Rattle.plan_store.specs.Asked.{AsksKey, AsksPlan, HasLasts, IsLastOf, IsNoLater, ListsDefined}
-use Rattle.plan_store.specs.Noted.{AreAtPlaces, AskedByOne, AsksEach, AsksEnd, AsksRow, HasNoted, IsAsked, IsDefined}
+use Rattle.plan_store.specs.HistoryReads.{ReadsKey, ReadsPlan, HasLasts, IsLastOf, IsNoLater, ListsDefined}
+use Rattle.plan_store.specs.Noted.{AreAtPlaces, ReadByOne, ReadsEach, ReadsEnd, ReadsRow, HasNoted, IsAsked, IsDefined}
 use Rattle.plan_store.specs.Noted.{IsLastPlace, LacksBefore, Notes}
 use Rattle.plan_store.specs.Views.{current_serial, row_serial}
 use Rattle.plan_store_lists.proofs.LookLemmas.{look_has, look_some}
@@ -181,8 +181,8 @@ module _ (rows : List Row) (keyed : IsKeyed arrival_cmp arrival_of rows) (app : 
         ]
 
 -- what an entry of the lists that are defined asks for
-abbrev pub AsksEntry : ℕ → List ℕ × List Predecessor → List ℕ → ℕ → Type 0
-AsksEntry minute entry = AskedByOne (λ (p : Predecessor). IsAsked p.name minute) entry.1
+abbrev pub ReadsEntry : ℕ → List ℕ × List Predecessor → List ℕ → ℕ → Type 0
+ReadsEntry minute entry = ReadByOne (λ (p : Predecessor). IsAsked p.name minute) entry.1
 
 -- what is noted
 module _ (rows : List Row) where
@@ -226,10 +226,10 @@ module _ (rows : List Row) where
 
   module _ {X : Type 0} (Asks : X → List ℕ → ℕ → Type 0) where
     -- what one more asks for
-    pub notes_more : (xs : List X) (x : X) (a b c : List ℕ) → Notes (AskedByOne Asks xs) rows a b
-        → Notes (Asks x) rows b c → Notes (AskedByOne Asks (xs ++ x ∷ [])) rows a c
-    notes_more xs x a b c first second = notes_as (λ app minute. AskedByOne Asks xs app minute ⊎ Asks x app minute)
-        (AskedByOne Asks (xs ++ x ∷ [])) a c
+    pub notes_more : (xs : List X) (x : X) (a b c : List ℕ) → Notes (ReadByOne Asks xs) rows a b
+        → Notes (Asks x) rows b c → Notes (ReadByOne Asks (xs ++ x ∷ [])) rows a c
+    notes_more xs x a b c first second = notes_as (λ app minute. ReadByOne Asks xs app minute ⊎ Asks x app minute)
+        (ReadByOne Asks (xs ++ x ∷ [])) a c
         (λ app minute asked. elim asked [
           | inl one ↦ (one.0, Contains-append_left xs (x ∷ []) one.0 one.1, one.2)
           | inr two ↦ (x, Contains-push xs x, two)
@@ -237,22 +237,22 @@ module _ (rows : List Row) where
         (λ app minute (y, there, asks). elim (Contains-push_cases xs x y there) [
           | inl before ↦ inl (y, before, asks)
           | inr same ↦ inr (subst (λ z. Asks z app minute) (sym same) asks)
-        ]) (notes_then (AskedByOne Asks xs) (Asks x) a b c first second)
+        ]) (notes_then (ReadByOne Asks xs) (Asks x) a b c first second)
 
     -- one more that asks for nothing
     pub notes_skip : (xs : List X) (x : X) (a b : List ℕ)
-        → ((app : List ℕ) (minute : ℕ) → Asks x app minute → ⊥) → Notes (AskedByOne Asks xs) rows a b
-        → Notes (AskedByOne Asks (xs ++ x ∷ [])) rows a b
+        → ((app : List ℕ) (minute : ℕ) → Asks x app minute → ⊥) → Notes (ReadByOne Asks xs) rows a b
+        → Notes (ReadByOne Asks (xs ++ x ∷ [])) rows a b
     notes_skip xs x a b nothing first = notes_more xs x a b b first
         (notes_none (Asks x) b (λ app minute asks. absurd (nothing app minute asks)))
 
   -- the applications of a list, from its links
   pub notes_list : (links list : List Link) (naming : List ℕ) (minute : ℕ) (a b : List ℕ)
       → ((link : Link) → Contains list link ↔ (Contains links link × (link.app ≡ naming)))
-      → Notes (AskedByOne (λ (link : Link). IsAsked link.predecessor minute) list) rows a b
-      → Notes (AsksEach (Lists links naming) minute) rows a b
+      → Notes (ReadByOne (λ (link : Link). IsAsked link.predecessor minute) list) rows a b
+      → Notes (ReadsEach (Lists links naming) minute) rows a b
   notes_list links list naming minute a b is = notes_as
-      (AskedByOne (λ (link : Link). IsAsked link.predecessor minute) list) (AsksEach (Lists links naming) minute) a b
+      (ReadByOne (λ (link : Link). IsAsked link.predecessor minute) list) (ReadsEach (Lists links naming) minute) a b
       (λ app m (link, there, asked).
       let own = (is link).0 there in
       let same : link ≡ record { app = naming; predecessor = app; within = link.within } =
@@ -265,10 +265,10 @@ module _ (rows : List Row) where
   -- from the list that is defined
   pub notes_defined : (all : Definitions) (naming : List ℕ) (listed : List Predecessor) (minute : ℕ) (a b : List ℕ)
       → map.get all.predecessors naming ≡ Some listed
-      → Notes (AskedByOne (λ (p : Predecessor). IsAsked p.name minute) listed) rows a b
-      → Notes (AsksEach (ListsDefined all naming) minute) rows a b
+      → Notes (ReadByOne (λ (p : Predecessor). IsAsked p.name minute) listed) rows a b
+      → Notes (ReadsEach (ListsDefined all naming) minute) rows a b
   notes_defined all naming listed minute a b is = notes_as
-      (AskedByOne (λ (p : Predecessor). IsAsked p.name minute) listed) (AsksEach (ListsDefined all naming) minute) a b
+      (ReadByOne (λ (p : Predecessor). IsAsked p.name minute) listed) (ReadsEach (ListsDefined all naming) minute) a b
       (λ app m (p, there, asked).
       let same : p ≡ record { name = app; within = p.within } =
       λ i. record { name = sym asked.0 i; within = p.within } in
@@ -282,8 +282,8 @@ module _ (rows : List Row) where
       (p, subst (λ ps. Contains ps p) one has, (refl, at)))
 
   pub notes_undefined : (all : Definitions) (naming : List ℕ) (minute : ℕ) (a : List ℕ)
-      → map.get all.predecessors naming ≡ None → Notes (AsksEach (ListsDefined all naming) minute) rows a a
-  notes_undefined all naming minute a none = notes_none (AsksEach (ListsDefined all naming) minute) a
+      → map.get all.predecessors naming ≡ None → Notes (ReadsEach (ListsDefined all naming) minute) rows a a
+  notes_undefined all naming minute a none = notes_none (ReadsEach (ListsDefined all naming) minute) a
       (λ app m (at, defined).
       let (within, by_all) = defined in
       let (others, there, has) = by_all in
@@ -294,16 +294,16 @@ module _ (rows : List Row) where
       some_none xs is = cc
 
   -- no entry
-  pub no_entries : (minute : ℕ) (a : List ℕ) → Notes (AskedByOne (AsksEntry minute) []) rows a a
-  no_entries minute a = notes_none (AskedByOne (AsksEntry minute) []) a
+  pub no_entries : (minute : ℕ) (a : List ℕ) → Notes (ReadByOne (ReadsEntry minute) []) rows a a
+  no_entries minute a = notes_none (ReadByOne (ReadsEntry minute) []) a
       (λ app m (entry, (k, lt, at), asked). absurd (omega arith))
 
   -- all entries
   pub notes_entries : (all : Definitions) (entries : List (List ℕ × List Predecessor)) (minute : ℕ) (a b : List ℕ)
-      → AreEntriesOf entries all.predecessors → Notes (AskedByOne (AsksEntry minute) entries) rows a b
-      → Notes (AsksEach (IsDefined all) minute) rows a b
-  notes_entries all entries minute a b are = notes_as (AskedByOne (AsksEntry minute) entries)
-      (AsksEach (IsDefined all) minute) a b
+      → AreEntriesOf entries all.predecessors → Notes (ReadByOne (ReadsEntry minute) entries) rows a b
+      → Notes (ReadsEach (IsDefined all) minute) rows a b
+  notes_entries all entries minute a b are = notes_as (ReadByOne (ReadsEntry minute) entries)
+      (ReadsEach (IsDefined all) minute) a b
       (λ app m (entry, there, by_entry).
       let (p, has, asked) = by_entry in
       let same : p ≡ record { name = app; within = p.within } =
@@ -332,11 +332,11 @@ module _ (rows : List Row) where
 
   -- what a row that waits asks for
   pub notes_row : (links : List Link) (all : Definitions) (current : CurrentRow) (a b c : List ℕ)
-      → current.status ≡ W → Notes (AsksEach (Lists links current.row.key.app) (current.row.key.ia + 1)) rows a b
-      → Notes (AsksEach (ListsDefined all current.row.key.app) (current.row.key.ia + 1)) rows b c
-      → Notes (AsksRow links all current) rows a c
+      → current.status ≡ W → Notes (ReadsEach (Lists links current.row.key.app) (current.row.key.ia + 1)) rows a b
+      → Notes (ReadsEach (ListsDefined all current.row.key.app) (current.row.key.ia + 1)) rows b c
+      → Notes (ReadsRow links all current) rows a c
   notes_row links all current a b c waits one two = notes_as
-      (λ app m. InForce app m ⊎ Defined app m) (AsksRow links all current) a c
+      (λ app m. InForce app m ⊎ Defined app m) (ReadsRow links all current) a c
       (λ app m asked. elim asked [
         | inl listed ↦ (waits, (listed.0, inl listed.1))
         | inr defined ↦ (waits, (defined.0, inr defined.1))
@@ -345,26 +345,26 @@ module _ (rows : List Row) where
       (notes_then InForce Defined a b c one two)
     where
       InForce : List ℕ → ℕ → Type 0
-      InForce = AsksEach (Lists links current.row.key.app) (current.row.key.ia + 1)
+      InForce = ReadsEach (Lists links current.row.key.app) (current.row.key.ia + 1)
 
       Defined : List ℕ → ℕ → Type 0
-      Defined = AsksEach (ListsDefined all current.row.key.app) (current.row.key.ia + 1)
+      Defined = ReadsEach (ListsDefined all current.row.key.app) (current.row.key.ia + 1)
 
   -- what is asked for at the plan end
   module _ (links : List Link) (all : Definitions) (bounds : Bounds) where
-    abbrev pub AsksNamed : List ℕ → ℕ → Type 0
-    AsksNamed = AskedByOne (λ (link : Link). IsAsked link.predecessor (bounds.plan_end + 1)) links
+    abbrev pub ReadsNamed : List ℕ → ℕ → Type 0
+    ReadsNamed = ReadByOne (λ (link : Link). IsAsked link.predecessor (bounds.plan_end + 1)) links
 
-    end_to : (app : List ℕ) (m : ℕ) → AsksNamed app m ⊎ AsksEach (IsDefined all) (bounds.plan_end + 1) app m
-        → AsksEnd links all (Some bounds) app m
+    end_to : (app : List ℕ) (m : ℕ) → ReadsNamed app m ⊎ ReadsEach (IsDefined all) (bounds.plan_end + 1) app m
+        → ReadsEnd links all (Some bounds) app m
     end_to app m (inl (link, there, asked)) =
         let same : link ≡ record { app = link.app; predecessor = app; within = link.within } =
         λ i. record { app = link.app; predecessor = sym asked.0 i; within = link.within } in
         (bounds, refl, (asked.1, (link.app, inl (link.within, subst (λ (l : Link). Contains links l) same there))))
     end_to app m (inr (at, (naming, listed))) = (bounds, refl, (at, (naming, inr listed)))
 
-    end_from : (app : List ℕ) (m : ℕ) → AsksEnd links all (Some bounds) app m
-        → AsksNamed app m ⊎ AsksEach (IsDefined all) (bounds.plan_end + 1) app m
+    end_from : (app : List ℕ) (m : ℕ) → ReadsEnd links all (Some bounds) app m
+        → ReadsNamed app m ⊎ ReadsEach (IsDefined all) (bounds.plan_end + 1) app m
     end_from app m (known, is, (at, (naming, either))) =
         let one : bounds ≡ known = cc in
         let here : m ≡ bounds.plan_end + 1 = at ∙ ap (λ (x : Bounds). x.plan_end + 1) (sym one) in
@@ -373,16 +373,16 @@ module _ (rows : List Row) where
           | inr defined ↦ inr (here, (naming, defined))
         ]
 
-    pub notes_end : (a b c : List ℕ) → Notes AsksNamed rows a b
-        → Notes (AsksEach (IsDefined all) (bounds.plan_end + 1)) rows b c
-        → Notes (AsksEnd links all (Some bounds)) rows a c
+    pub notes_end : (a b c : List ℕ) → Notes ReadsNamed rows a b
+        → Notes (ReadsEach (IsDefined all) (bounds.plan_end + 1)) rows b c
+        → Notes (ReadsEnd links all (Some bounds)) rows a c
     notes_end a b c one two = notes_as
-        (λ app m. AsksNamed app m ⊎ AsksEach (IsDefined all) (bounds.plan_end + 1) app m)
-        (AsksEnd links all (Some bounds)) a c end_to end_from (notes_then AsksNamed (AsksEach (IsDefined all) (bounds.plan_end + 1)) a b c one two)
+        (λ app m. ReadsNamed app m ⊎ ReadsEach (IsDefined all) (bounds.plan_end + 1) app m)
+        (ReadsEnd links all (Some bounds)) a c end_to end_from (notes_then ReadsNamed (ReadsEach (IsDefined all) (bounds.plan_end + 1)) a b c one two)
 
   -- nothing, where there is no plan
-  pub no_end : (links : List Link) (all : Definitions) (a : List ℕ) → Notes (AsksEnd links all None) rows a a
-  no_end links all a = notes_none (AsksEnd links all None) a (λ app m (known, is, asks). absurd (none_some known is))
+  pub no_end : (links : List Link) (all : Definitions) (a : List ℕ) → Notes (ReadsEnd links all None) rows a a
+  no_end links all a = notes_none (ReadsEnd links all None) a (λ app m (known, is, asks). absurd (none_some known is))
     where
       none_some : (known : Bounds) → (let none : Option Bounds = None in none) ≡ Some known → ⊥
       none_some known same = cc
@@ -510,27 +510,27 @@ module _ (history : List Row) (rows : AreRows of_row history) (places : List ℕ
 
 -- what a statement on the key asks
 pub notes_key : (c : Content) (key : Key) (rows : List Row) (a b d : List ℕ)
-    → Notes (IsAsked key.app (key.ia + 1)) rows a b → Notes (AsksEach (Lists c.in_force key.app) (key.ia + 1)) rows b d
-    → Notes (AsksKey c key) rows a d
+    → Notes (IsAsked key.app (key.ia + 1)) rows a b → Notes (ReadsEach (Lists c.in_force key.app) (key.ia + 1)) rows b d
+    → Notes (ReadsKey c key) rows a d
 notes_key c key rows a b d own listed = notes_as rows (λ app m. IsAsked key.app (key.ia + 1) app m ⊎ Listed app m)
-    (AsksKey c key) a d
+    (ReadsKey c key) a d
     (λ app m asked. elim asked [ inl at ↦ (at.1, inl at.0) | inr lists ↦ (lists.0, inr lists.1) ])
     (λ app m (at, either). elim either [ inl same ↦ inl (same, at) | inr lists ↦ inr (at, lists) ])
     (notes_then rows (IsAsked key.app (key.ia + 1)) Listed a b d own listed)
   where
     Listed : List ℕ → ℕ → Type 0
-    Listed = AsksEach (Lists c.in_force key.app) (key.ia + 1)
+    Listed = ReadsEach (Lists c.in_force key.app) (key.ia + 1)
 
 -- what a statement on the long-term plan asks
 module _ (c : Content) (cp : List CurrentRow) (cp_rows : AreRows of_current cp)
     (cp_is : c.sets.cp ≡ look_up current_serial cp) where
-  abbrev AsksCurrent : List ℕ → ℕ → Type 0
-  AsksCurrent = AskedByOne (AsksRow c.in_force c.definitions) cp
+  abbrev ReadsCurrent : List ℕ → ℕ → Type 0
+  ReadsCurrent = ReadByOne (ReadsRow c.in_force c.definitions) cp
 
   abbrev AtEnd : List ℕ → ℕ → Type 0
-  AtEnd = AsksEnd c.in_force c.definitions c.sets.bounds
+  AtEnd = ReadsEnd c.in_force c.definitions c.sets.bounds
 
-  plan_to : (app : List ℕ) (minute : ℕ) → AsksCurrent app minute ⊎ AtEnd app minute → AsksPlan c app minute
+  plan_to : (app : List ℕ) (minute : ℕ) → ReadsCurrent app minute ⊎ AtEnd app minute → ReadsPlan c app minute
   plan_to app minute (inl (x, there, is_asked)) =
       let waits = is_asked.0 in
       let same : x ≡ record { row = x.row; status = W } = λ i. record { row = x.row; status = waits i } in
@@ -540,7 +540,7 @@ module _ (c : Content) (cp : List CurrentRow) (cp_rows : AreRows of_current cp)
       inl (x.row, stands, is_asked.1.0, is_asked.1.1)
   plan_to app minute (inr (bounds, is, asks)) = inr (bounds, is, asks.0, asks.1)
 
-  plan_from : (app : List ℕ) (minute : ℕ) → AsksPlan c app minute → AsksCurrent app minute ⊎ AtEnd app minute
+  plan_from : (app : List ℕ) (minute : ℕ) → ReadsPlan c app minute → ReadsCurrent app minute ⊎ AtEnd app minute
   plan_from app minute (inl (row, stands, at, lists)) =
       let x : CurrentRow = record { row = row; status = W } in
       let there = (look_some current_serial cp row.serial x
@@ -548,7 +548,7 @@ module _ (c : Content) (cp : List CurrentRow) (cp_rows : AreRows of_current cp)
       inl (x, there, (refl, (at, lists)))
   plan_from app minute (inr (bounds, is, at, named)) = inr (bounds, is, (at, named))
 
-  pub notes_plan : (rows : List Row) (a b d : List ℕ) → Notes AsksCurrent rows a b → Notes AtEnd rows b d
-      → Notes (AsksPlan c) rows a d
-  notes_plan rows a b d current ends = notes_as rows (λ app minute. AsksCurrent app minute ⊎ AtEnd app minute)
-      (AsksPlan c) a d plan_to plan_from (notes_then rows AsksCurrent AtEnd a b d current ends)
+  pub notes_plan : (rows : List Row) (a b d : List ℕ) → Notes ReadsCurrent rows a b → Notes AtEnd rows b d
+      → Notes (ReadsPlan c) rows a d
+  notes_plan rows a b d current ends = notes_as rows (λ app minute. ReadsCurrent app minute ⊎ AtEnd app minute)
+      (ReadsPlan c) a d plan_to plan_from (notes_then rows ReadsCurrent AtEnd a b d current ends)

@@ -8,7 +8,7 @@ use Rattle.occurrences.specs.declared.place.Place.{Place}
 use Rattle.occurrences.specs.declared.place.Place.TheVariants.{LongTerm, Current, History, Deleted}
 use Rattle.occurrences.specs.declared.row.Row.{Row}
 use Rattle.external_dependencies.specs.declared.rows.PlacedRow.{PlacedRow}
-use Rattle.planner_machine.specs.Content.{Seat, Sets, StandsAt, alone, empty_seat, seat}
+use Rattle.planner_machine.specs.Content.{Seat, Sets, IsOnlyAt, alone, empty_seat, seat}
 use Rattle.planner_machine.specs.Sound.{AreNumbered}
 use Rattle.plan_store.specs.Views.{IsCurrentRow, IsLiveRow, IsPlannedRow}
 use Rattle.plan_store.proofs.ViewLemmas.{issued_from}
@@ -21,11 +21,11 @@ none_some o x a b = cc
 
 module _ (s : Sets) (numbered : AreNumbered s) where
   -- what stands under a serial that the test finds not empty
-  at_serial : (serial : ℕ) → (seat s serial ≡ empty_seat → ⊥) → (p : PlacedRow) × StandsAt s serial p
+  at_serial : (serial : ℕ) → (seat s serial ≡ empty_seat → ⊥) → (p : PlacedRow) × IsOnlyAt s serial p
   at_serial serial there = let within = issued_from s numbered serial there in numbered.placed serial within.0 within.1
 
   pub stands_ltp : (serial : ℕ) (row : Row) → s.ltp serial ≡ Some row
-      → StandsAt s serial (record { row = row; place = LongTerm })
+      → IsOnlyAt s serial (record { row = row; place = LongTerm })
   stands_ltp serial row is =
       let at = at_serial serial (λ empty. none_some (s.ltp serial) row (ap (λ (x : Seat). x.ltp) empty) is) in
       by_place at.0.place at.0.row at.1
@@ -40,7 +40,7 @@ module _ (s : Sets) (numbered : AreNumbered s) where
           is)
 
   pub stands_cp : (serial : ℕ) (current : CurrentRow) → s.cp serial ≡ Some current
-      → StandsAt s serial (record { row = current.row; place = Current current.status })
+      → IsOnlyAt s serial (record { row = current.row; place = Current current.status })
   stands_cp serial current is =
       let at = at_serial serial (λ empty. none_some (s.cp serial) current (ap (λ (x : Seat). x.cp) empty) is) in
       by_place at.0.place at.0.row at.1
@@ -58,7 +58,7 @@ module _ (s : Sets) (numbered : AreNumbered s) where
           is)
 
   pub stands_history : (serial : ℕ) (row : Row) → s.history serial ≡ Some row
-      → StandsAt s serial (record { row = row; place = History })
+      → IsOnlyAt s serial (record { row = row; place = History })
   stands_history serial row is =
       let at = at_serial serial (λ empty. none_some (s.history serial) row (ap (λ (x : Seat). x.history) empty) is) in
       by_place at.0.place at.0.row at.1
@@ -74,7 +74,7 @@ module _ (s : Sets) (numbered : AreNumbered s) where
           absurd (none_some (s.history serial) row (ap (λ (x : Seat). x.history) stands) is)
 
   pub stands_deleted : (serial : ℕ) (deletion : Deletion) → s.deletions serial ≡ Some deletion
-      → StandsAt s serial (record { row = deletion.row; place = Deleted deletion.reason })
+      → IsOnlyAt s serial (record { row = deletion.row; place = Deleted deletion.reason })
   stands_deleted serial deletion is =
       let at = at_serial serial (λ empty. none_some (s.deletions serial) deletion (ap (λ (x : Seat). x.deletions) empty)
       is) in

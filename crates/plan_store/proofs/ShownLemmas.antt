@@ -26,7 +26,7 @@ use Rattle.external_dependencies.specs.Rising.{IsRising}
 use Rattle.external_dependencies.specs.declared.pairs.Pair.{Pair}
 use Rattle.external_dependencies.specs.declared.rows.PlacedRow.{PlacedRow}
 use Rattle.external_dependencies.proofs.LexLemmas.{pairs_ordered}
-use Rattle.planner_machine.specs.Content.{Content, Seat, Sets, StandsAt, alone, empty_seat, seat}
+use Rattle.planner_machine.specs.Content.{Content, Seat, Sets, IsOnlyAt, alone, empty_seat, seat}
 use Rattle.planner_machine.specs.Shown.{IsLinked, IsListed, IsOfApp, IsPlaceOf, LinkedBefore, LinkedRows, Listed}
 use Rattle.planner_machine.specs.Shown.{ListsPairs}
 use Rattle.planner_machine.specs.Shown.{CurrentPlan, InDeletions, InHistory, LongTermPlan}
@@ -35,10 +35,10 @@ use Rattle.plan_store_lists.specs.Rows.{AreRows, look_up, of_current, of_deletio
 use Rattle.plan_store_lists.proofs.KeyLemmas.{contains_cases, contains_first, contains_later, nothing}
 use Rattle.plan_store.specs.Listed.{EndsWithin, ShowsSet, is_of_app, link_at, link_of, links_at, row_at, row_in}
 use Rattle.plan_store.specs.Listed.{shown_as, with_link}
-use Rattle.plan_store.specs.Listings.{HandsAll, HandsPart, ShowRows, Shown, TakesAll, link_shown, row_shown}
+use Rattle.plan_store.specs.Listings.{EmitsAll, EmitsPart, ShowRows, Shown, AcceptsAll, link_shown, row_shown}
 use Rattle.plan_store.specs.declared.listings.ListFault.{ListFault}
 use Rattle.plan_store.specs.declared.listings.ListFault.TheVariants.{Sink}
-use Rattle.plan_store.specs.declared.listings.SinkFault.{SinkFault}
+use Rattle.plan_store.specs.declared.listings.ItemRefused.{ItemRefused}
 use Rattle.plan_store.proofs.ListedLemmas.{from_map, pairs_map, takes_more, to_map}
 use Rattle.plan_store_lists.proofs.LookLemmas.{look_has, look_some}
 use Rattle.plan_store.proofs.PlaceLemmas.{stands_cp, stands_deleted, stands_history, stands_ltp}
@@ -50,9 +50,9 @@ placed_at row place = record { row = row; place = place }
 -- a set by its list
 module _ {X : Type 0} (row_of : X → Row) (letter_of : X → ℕ) (is_plain : Bool) (xs : List X) (listed : Listed)
     (place : X → Place) (c : Content)
-    (stands : (x : X) → Contains xs x → StandsAt c.sets (row_of x).serial (record { row = row_of x; place = place x }))
+    (stands : (x : X) → Contains xs x → IsOnlyAt c.sets (row_of x).serial (record { row = row_of x; place = place x }))
     (within : (x : X) → IsPlaceOf listed (place x))
-    (back : (serial : ℕ) (p : PlacedRow) → StandsAt c.sets serial p → IsPlaceOf listed p.place → (x : X) × Contains xs x
+    (back : (serial : ℕ) (p : PlacedRow) → IsOnlyAt c.sets serial p → IsPlaceOf listed p.place → (x : X) × Contains xs x
     × (placed_at (row_of x) (place x) ≡ p))
     (shows : (x : X) → shown_as row_of letter_of is_plain x ≡ row_shown (record { row = row_of x; place = place x }))
   where
@@ -180,7 +180,7 @@ module _ (c : Content) (numbered : AreNumbered c.sets) where
       )
 
 -- the row under a serial
-pub row_at_stands : (s : Sets) (serial : ℕ) (p : PlacedRow) → StandsAt s serial p → row_at s serial ≡ Some p.row
+pub row_at_stands : (s : Sets) (serial : ℕ) (p : PlacedRow) → IsOnlyAt s serial p → row_at s serial ≡ Some p.row
 row_at_stands s serial p at = by_place p.place p.row at
   where
     by_place : (place : Place) (row : Row) → seat s serial ≡ alone row place → row_at s serial ≡ Some row
@@ -196,7 +196,7 @@ module _ (s : Sets) (numbered : AreNumbered s) where
       cc
 
   pub row_at_some : (serial : ℕ) (row : Row) → row_at s serial ≡ Some row → (place : Place)
-      × StandsAt s serial (record { row = row; place = place })
+      × IsOnlyAt s serial (record { row = row; place = place })
   row_at_some serial row is = elim (cases_lt 0 serial) [
     | inl above ↦ elim (cases_lt s.issued serial) [
       | inl past ↦ absurd (nowhere serial row (numbered.unissued serial (inr past)) is)
@@ -322,9 +322,9 @@ module _ (s : Sets) (app : Option (List ℕ)) where
         (links_rise pairs (λ i j d below lt. rises (suc i) (suc j) d (omega arith) (omega arith)))
 
 -- the links of the pairs so far
-module _ {K : Type 0} (Takes Refuses : K → Shown → K → Type 0) (s : Sets) (app : Option (List ℕ)) (pairs : List Pair)
+module _ {K : Type 0} (Accepts Refuses : K → Shown → K → Type 0) (s : Sets) (app : Option (List ℕ)) (pairs : List Pair)
     (i : ℕ) (p : Pair) (lt : i < length pairs) (at : p ≡ get_or pairs i p) (count : ℕ) (old last : K)
-    (so_far : (count ≡ length (links_at s app (take i pairs))) × TakesAll Takes old
+    (so_far : (count ≡ length (links_at s app (take i pairs))) × AcceptsAll Accepts old
     (map link_shown (links_at s app (take i pairs))) last) where
   nil_right : (ls : List LinkedRows) → ls ++ [] ≡ ls
   nil_right [] = refl
@@ -336,38 +336,38 @@ module _ {K : Type 0} (Takes Refuses : K → Shown → K → Type 0) (s : Sets) 
       ∙ ap (λ x. take i pairs ++ x ∷ []) (sym at) in
       ap (links_at s app) one ∙ links_append s app (take i pairs) (p ∷ [])
 
-  pub step_some : (l : LinkedRows) → Some l ≡ link_at s app p → (count' : ℕ) (new new' : K) → Takes last (link_shown l)
+  pub step_some : (l : LinkedRows) → Some l ≡ link_at s app p → (count' : ℕ) (new new' : K) → Accepts last (link_shown l)
       new → count' ≡ count + 1 → new' ≡ new → (count' ≡ length (links_at s app (take (i + 1) pairs)))
-      × TakesAll Takes old (map link_shown (links_at s app (take (i + 1) pairs))) new'
+      × AcceptsAll Accepts old (map link_shown (links_at s app (take (i + 1) pairs))) new'
   step_some l is count' new new' one counted same =
       let so = links_at s app (take i pairs) in
       let more : links_at s app (take (i + 1) pairs) ≡ so ++ l ∷ [] = links_next ∙ ap (λ o. so ++ with_link o [])
       (sym is) in
       let longer : length (links_at s app (take (i + 1) pairs)) ≡ length so + 1 = ap length more
       ∙ length-append so (l ∷ []) in
-      let taken : TakesAll Takes old (map link_shown so ++ link_shown l ∷ []) new =
-      takes_more Takes old (map link_shown so) last (link_shown l) new so_far.1 one in
-      let mapped : TakesAll Takes old (map link_shown (so ++ l ∷ [])) new = subst (λ m. TakesAll Takes old m new)
+      let taken : AcceptsAll Accepts old (map link_shown so ++ link_shown l ∷ []) new =
+      takes_more Accepts old (map link_shown so) last (link_shown l) new so_far.1 one in
+      let mapped : AcceptsAll Accepts old (map link_shown (so ++ l ∷ [])) new = subst (λ m. AcceptsAll Accepts old m new)
       (sym (map_push link_shown so l)) taken in
-      let whole : TakesAll Takes old (map link_shown (links_at s app (take (i + 1) pairs))) new =
-      subst (λ ls. TakesAll Takes old (map link_shown ls) new) (sym more) mapped in (
+      let whole : AcceptsAll Accepts old (map link_shown (links_at s app (take (i + 1) pairs))) new =
+      subst (λ ls. AcceptsAll Accepts old (map link_shown ls) new) (sym more) mapped in (
         counted ∙ ap (λ n. n + 1) so_far.0
             ∙ sym longer,
-        subst (λ k. TakesAll Takes old (map link_shown (links_at s app (take (i + 1) pairs))) k)
+        subst (λ k. AcceptsAll Accepts old (map link_shown (links_at s app (take (i + 1) pairs))) k)
             (sym same) whole,
       )
 
   pub step_none : None ≡ link_at s app p → (count' : ℕ) (new' : K) → count' ≡ count → new' ≡ last
-      → (count' ≡ length (links_at s app (take (i + 1) pairs))) × TakesAll Takes old
+      → (count' ≡ length (links_at s app (take (i + 1) pairs))) × AcceptsAll Accepts old
       (map link_shown (links_at s app (take (i + 1) pairs))) new'
   step_none is count' new' counted same =
       let so = links_at s app (take i pairs) in
       let more : links_at s app (take (i + 1) pairs) ≡ so = links_next ∙ ap (λ o. so ++ with_link o []) (sym is)
       ∙ nil_right so in
-      let whole : TakesAll Takes old (map link_shown (links_at s app (take (i + 1) pairs))) last =
-      subst (λ ls. TakesAll Takes old (map link_shown ls) last) (sym more) so_far.1 in (
+      let whole : AcceptsAll Accepts old (map link_shown (links_at s app (take (i + 1) pairs))) last =
+      subst (λ ls. AcceptsAll Accepts old (map link_shown ls) last) (sym more) so_far.1 in (
         counted ∙ so_far.0 ∙ ap length (sym more),
-        subst (λ k. TakesAll Takes old (map link_shown (links_at s app (take (i + 1) pairs))) k) (sym same) whole,
+        subst (λ k. AcceptsAll Accepts old (map link_shown (links_at s app (take (i + 1) pairs))) k) (sym same) whole,
       )
 
   split : (n : ℕ) (ps : List Pair) → ps ≡ take n ps ++ drop n ps
@@ -381,7 +381,7 @@ module _ {K : Type 0} (Takes Refuses : K → Shown → K → Type 0) (s : Sets) 
   drop_at (suc n) (q ∷ ps) less here = drop_at n ps (omega arith) here
 
   pub ends_at : (l : LinkedRows) → Some l ≡ link_at s app p → (new : K) → Refuses last (link_shown l) new
-      → (fault : SinkFault) → EndsWithin Takes Refuses old (map link_shown (links_at s app pairs)) new (Sink fault)
+      → (fault : ItemRefused) → EndsWithin Accepts Refuses old (map link_shown (links_at s app pairs)) new (Sink fault)
   ends_at l is new refused fault = record {
     done = map link_shown (links_at s app (take i pairs));
     rest = map link_shown (links_at s app (drop i pairs));
@@ -400,22 +400,22 @@ module _ {K : Type 0} (Takes Refuses : K → Shown → K → Type 0) (s : Sets) 
   }
 
 -- what is handed is what a listing shows
-module _ {K : Type 0} (Takes Refuses : K → Shown → K → Type 0) (old new : K) (P Q : List Shown → Type 0)
+module _ {K : Type 0} (Accepts Refuses : K → Shown → K → Type 0) (old new : K) (P Q : List Shown → Type 0)
     (to : (items : List Shown) → P items → Q items) where
-  pub whole_all : (r : Result ℕ ListFault) → IfOk r (HandsAll Takes P old new) → IfOk r (HandsAll Takes Q old new)
+  pub whole_all : (r : Result ℕ ListFault) → IfOk r (EmitsAll Accepts P old new) → IfOk r (EmitsAll Accepts Q old new)
   whole_all (Ok n) h = record { items = h.items; whole = to h.items h.whole; taken = h.taken; counted = h.counted }
   whole_all (Err e) h = tt
 
-  pub whole_part : (r : Result ℕ ListFault) → IfErr r (HandsPart Takes Refuses P old new)
-      → IfErr r (HandsPart Takes Refuses Q old new)
+  pub whole_part : (r : Result ℕ ListFault) → IfErr r (EmitsPart Accepts Refuses P old new)
+      → IfErr r (EmitsPart Accepts Refuses Q old new)
   whole_part (Ok n) h = tt
   whole_part (Err e) h = record { done = h.done; rest = h.rest; whole = to (h.done ++ h.rest) h.whole; ends = h.ends }
 
 -- all that is shown of a list is handed, or its first part
-module _ {X K : Type 0} (Takes Refuses : K → Shown → K → Type 0) (old new : K) (show : X → Shown) (xs : List X)
+module _ {X K : Type 0} (Accepts Refuses : K → Shown → K → Type 0) (old new : K) (show : X → Shown) (xs : List X)
     (IsWhole : List Shown → Type 0) (whole : IsWhole (map show xs)) where
   pub shown_all : (r : Result ℕ ListFault) → IfOk r (λ count. (count ≡ length xs)
-      × TakesAll Takes old (map show xs) new) → IfOk r (HandsAll Takes IsWhole old new)
+      × AcceptsAll Accepts old (map show xs) new) → IfOk r (EmitsAll Accepts IsWhole old new)
   shown_all (Ok n) h = record {
     items = map show xs;
     whole = whole;
@@ -424,8 +424,8 @@ module _ {X K : Type 0} (Takes Refuses : K → Shown → K → Type 0) (old new 
   }
   shown_all (Err e) h = tt
 
-  pub shown_part : (r : Result ℕ ListFault) → IfErr r (λ fault. EndsWithin Takes Refuses old (map show xs) new fault)
-      → IfErr r (HandsPart Takes Refuses IsWhole old new)
+  pub shown_part : (r : Result ℕ ListFault) → IfErr r (λ fault. EndsWithin Accepts Refuses old (map show xs) new fault)
+      → IfErr r (EmitsPart Accepts Refuses IsWhole old new)
   shown_part (Ok n) h = tt
   shown_part (Err e) h = record {
     done = h.done;

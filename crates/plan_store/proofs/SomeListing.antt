@@ -16,7 +16,7 @@ use Rattle.external_dependencies.specs.Pair.{pair_cmp}
 use Rattle.external_dependencies.specs.Rising.{IsRising}
 use Rattle.external_dependencies.specs.declared.links.Link.{Link}
 use Rattle.external_dependencies.specs.declared.rows.PlacedRow.{PlacedRow}
-use Rattle.planner_machine.specs.Content.{Content, Sets, StandsAt}
+use Rattle.planner_machine.specs.Content.{Content, Sets, IsOnlyAt}
 use Rattle.planner_machine.specs.Shown.{CurrentPlan, InDeletions, InHistory, IsListed, IsOfApp, IsPlaceOf, Listed}
 use Rattle.planner_machine.specs.Shown.{ListsLinks, ListsRows, LongTermPlan}
 use Rattle.planner_machine.specs.Sound.{AreNumbered}
@@ -78,7 +78,7 @@ module _ (s : Sets) (numbered : AreNumbered s) (listed : Listed) (app : Option (
   ]
 
   -- one serial more
-  module _ (n : ℕ) (p : PlacedRow) (at : StandsAt s (suc n) p) (ps : List PlacedRow) (lists : ListsUpTo n ps) where
+  module _ (n : ℕ) (p : PlacedRow) (at : IsOnlyAt s (suc n) p) (ps : List PlacedRow) (lists : ListsUpTo n ps) where
     numbers : p.row.serial ≡ suc n
     numbers = numbered.numbered (suc n) p at
 
@@ -86,7 +86,7 @@ module _ (s : Sets) (numbered : AreNumbered s) (listed : Listed) (app : Option (
     same_row : (q : PlacedRow) → IsListed listed app s q → q.row.serial ≡ suc n → p ≡ q
     same_row q (serial, at', place, of_app) e =
         let is_serial : serial ≡ suc n = sym (numbered.numbered serial q at') ∙ e in
-        one_place s (suc n) p q at (subst (λ k. StandsAt s k q) is_serial at')
+        one_place s (suc n) p q at (subst (λ k. IsOnlyAt s k q) is_serial at')
 
     with_next : Passes p → ListsUpTo (suc n) (p ∷ ps)
     with_next both = record {

@@ -17,7 +17,7 @@ use Rattle.planner_machine.specs.Content.{Sets}
 use Rattle.plan_store_lists.specs.Keyed.{IsKeyed}
 use Rattle.plan_store_lists.specs.Rows.{AreRows, look_up, of_current, of_row}
 use Rattle.plan_store.specs.Arrivals.{arrives, arrives_live}
-use Rattle.plan_store.specs.Asked.{IsPlannedAt}
+use Rattle.plan_store.specs.HistoryReads.{IsPlannedAt}
 use Rattle.plan_store.specs.Slices.{HaveOneApp}
 use Rattle.plan_store.specs.Spans.{IsLeastOf, IsNextPlanned, earlier_of}
 use Rattle.plan_store.specs.Views.{current_serial, row_serial}

@@ -22,10 +22,10 @@ use Rattle.plan_store_lists.specs.declared.seats.Seat.{Seat}
 use Rattle.plan_store_lists.proofs.KeyLemmas.{contains_filter, filter_contains, nothing}
 use Rattle.plan_store_lists.proofs.LookLemmas.{look_has, look_some}
 use Rattle.plan_store.specs.Contents.{content_of}
-use Rattle.plan_store.specs.Asked.{AsksKey, AsksPlan, HasLasts}
+use Rattle.plan_store.specs.HistoryReads.{ReadsKey, ReadsPlan, HasLasts}
 use Rattle.plan_store.specs.Parts.{Rest, rest_of, with_rest}
-use Rattle.plan_store.specs.Views.{Asks, HasAsked, HasPredecessors, Hidden, IsDeletedKey, ListsSet, Sees, Shows}
-use Rattle.plan_store.specs.Views.{ShowsDeleted, ShowsLive, ShowsPart, TellsSizes, asked_pairs, bars, bars_from, deletion_serial}
+use Rattle.plan_store.specs.Views.{Asks, IsPrepared, HasPredecessors, Hidden, IsDeletedKey, ListsSet, Sees, Shows}
+use Rattle.plan_store.specs.Views.{ShowsDeleted, ShowsLive, ShowsPart, TellsSizes, needed_pairs, bars, bars_from, deletion_serial}
 use Rattle.plan_store.specs.Views.{hidden_of, is_by_operator, is_from_plan_end, key_of, named, row_serial, shown}
 use Rattle.plan_store.specs.Views.{with_hidden, with_part, with_plans_alone, with_these}
 use Rattle.plan_store.specs.declared.contents.Content.{Content as Kept}
@@ -135,13 +135,13 @@ pub has_asked : {T E : Type 0} (need : Need) (kept : Kept) (r : Result T E) → 
     → OnOk r (AreRows of_row kept.buffer.lasts.items)
     → OnOk r ((row : Row) → Contains kept.buffer.lasts.items row → Contains kept.history.items row)
     → OnOk r (HasLasts (Asks need (content_of kept)) (content_of kept).sets.history
-    (look_up row_serial kept.buffer.lasts.items)) → OnOk r (HasAsked need kept)
+    (look_up row_serial kept.buffer.lasts.items)) → OnOk r (IsPrepared need kept)
 has_asked need kept (Ok t) key rows part lasts = record { key = key; rows = rows; part = part; lasts = lasts }
 has_asked need kept (Err e) key rows part lasts = tt
 
 -- where the live row of a key stands in history, it is the last of its application then
 module _ (c : Content) (numbered : AreNumbered c.sets) (own : HaveOwnKeys c.sets) (key : KeyValue)
-    (shown : ℕ → Option Row) (lasts : HasLasts (AsksKey c key) c.sets.history shown) where
+    (shown : ℕ → Option Row) (lasts : HasLasts (ReadsKey c key) c.sets.history shown) where
   live_is_last : (serial : ℕ) (row : Row) → c.sets.history serial ≡ Some row → key ≡ row.key → shown serial ≡ Some row
   live_is_last serial row stands same =
       let app : row.key.app ≡ key.app = ap (λ (k : KeyValue). k.app) (sym same) in
@@ -162,7 +162,7 @@ module _ (c : Content) (numbered : AreNumbered c.sets) (own : HaveOwnKeys c.sets
       subst (λ n. shown n ≡ Some row) one (subst (λ x. shown r.serial ≡ Some x) is is_shown)
 
 -- a window that has the rows of history that were asked for, and all of history, shows what the need names
-module _ (need : Need) (view : View) (kept : Kept) (whole : view.content.now ≡ kept) (asked : HasAsked need kept)
+module _ (need : Need) (view : View) (kept : Kept) (whole : view.content.now ≡ kept) (asked : IsPrepared need kept)
     (history : view.history.now ≡ kept.history.items) where
   shows_lasts : shown view ≡ named need (look_up row_serial kept.buffer.lasts.items) (content_of kept)
       → (shown view).sets.history ≡ look_up row_serial kept.buffer.lasts.items
@@ -176,7 +176,7 @@ module _ (need : Need) (view : View) (kept : Kept) (whole : view.content.now ≡
     sizes = tells_sizes (rest_of (content_of kept)) view kept whole;
   }
 
-pub shows_key : (key : KeyValue) (view : View) (kept : Kept) → view.content.now ≡ kept → HasAsked (Key key) kept
+pub shows_key : (key : KeyValue) (view : View) (kept : Kept) → view.content.now ≡ kept → IsPrepared (Key key) kept
     → view.history.now ≡ kept.history.items
     → shown view ≡ with_part kept.buffer.key (look_up row_serial kept.buffer.lasts.items) (λ _. None) (content_of kept)
     → Shows (Key key) view (content_of kept)
@@ -184,14 +184,14 @@ shows_key key view kept whole asked history is =
     let c = content_of kept in
     let lasts_are : (shown view).sets.history ≡ look_up row_serial kept.buffer.lasts.items =
     ap (λ (x : Content). x.sets.history) is in
-    let lasts = subst (HasLasts (AsksKey c key) c.sets.history) (sym lasts_are) asked.lasts in
+    let lasts = subst (HasLasts (ReadsKey c key) c.sets.history) (sym lasts_are) asked.lasts in
     shows_lasts (Key key) view kept whole asked history
     (is ∙ ap (λ (k : Option KeyValue). with_part k (look_up row_serial kept.buffer.lasts.items) (λ _. None) c) asked.key)
     lasts_are (λ numbered own serial row stands same.
     live_is_last c numbered own key (shown view).sets.history lasts serial row stands (let is : key ≡ row.key = cc in is))
 
 -- a window of the long-term plan has all deletions, and shows those that keep keys from being made
-pub shows_plan : (view : View) (kept : Kept) → view.content.now ≡ kept → HasAsked LongTerm kept
+pub shows_plan : (view : View) (kept : Kept) → view.content.now ≡ kept → IsPrepared LongTerm kept
     → view.history.now ≡ kept.history.items
     → shown view ≡ with_part kept.buffer.key (look_up row_serial kept.buffer.lasts.items)
     (λ serial. keep (bars kept.bounds) (look_up deletion_serial kept.deletions.items serial)) (content_of kept)
@@ -281,18 +281,18 @@ module _ {history : ℕ → Option Row} {deletions : ℕ → Option Deletion} (n
   sees : Sees (key_of need) (Asks need (with_hidden (hidden_of c) view)) (hidden_of c) view
   sees = record {
     pairs = ap (λ (x : Content). x.pairs) is
-        ∙ sym (ap (λ (x : Content). asked_pairs (key_of need) x.sets.ltp x.sets.cp c.sets.history c.pairs) is);
+        ∙ sym (ap (λ (x : Content). needed_pairs (key_of need) x.sets.ltp x.sets.cp c.sets.history c.pairs) is);
     lasts = subst (λ (x : Content). HasLasts (Asks need x) c.sets.history (shown view).sets.history)
         (sym (seen_is view c is)) lasts;
     predecessors = predecessors;
   }
 
 pub sees_key : (key : KeyValue) (view : View) (c : Content) → Shows (Key key) view c
-    → Sees (Some key) (AsksKey (with_hidden (hidden_of c) view) key) (hidden_of c) view
+    → Sees (Some key) (ReadsKey (with_hidden (hidden_of c) view) key) (hidden_of c) view
 sees_key key view c shows = sees (Key key) view c shows.is shows.lasts shows.predecessors
 
 pub sees_plan : (view : View) (c : Content) → Shows LongTerm view c
-    → Sees None (AsksPlan (with_hidden (hidden_of c) view)) (hidden_of c) view
+    → Sees None (ReadsPlan (with_hidden (hidden_of c) view)) (hidden_of c) view
 sees_plan view c shows = sees LongTerm view c shows.is shows.lasts shows.predecessors
 
 -- what a window shows of history stands there

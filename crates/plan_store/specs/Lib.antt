@@ -1,6 +1,6 @@
 pub mod AppPairs
 pub mod Arrivals
-pub mod Asked
+pub mod HistoryReads
 pub mod Changes
 pub mod Contents
 pub mod Ends

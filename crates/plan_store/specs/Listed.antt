@@ -34,12 +34,12 @@ pub record ShowsSet {X : Type 0} (row_of : X → Row) (letter_of : X → ℕ) (i
   pub shown : items ≡ map (shown_as row_of letter_of is_plain) rows
 
 -- the sink accepted the first of these items, and the fault says why no more
-pub record EndsWithin {K : Type 0} (Takes Refuses : K → Shown → K → Type 0) (old : K) (items : List Shown) (new : K)
+pub record EndsWithin {K : Type 0} (Accepts Refuses : K → Shown → K → Type 0) (old : K) (items : List Shown) (new : K)
     (fault : ListFault) : Type 0 where
   pub done : List Shown
   pub rest : List Shown
   pub parts : items ≡ done ++ rest
-  pub ends : EndsSo Takes Refuses old done rest new fault
+  pub ends : EndsSo Accepts Refuses old done rest new fault
 
 -- the row under a serial, in whatever set it is
 abbrev pub row_in : Option Row → Option CurrentRow → Option Row → Option Deletion → Option Row

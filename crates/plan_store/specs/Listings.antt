@@ -68,31 +68,31 @@ IsListing Whats.Dependencies app c items = ShowPairs app c items
 IsListing Whats.Links app c items = ShowLinks app c items
 
 -- the sink accepts the items, one after another
-abbrev pub TakesAll : {K : Type 0} → (K → Shown → K → Type 0) → K → List Shown → K → Type 0
-TakesAll Takes old [] new = new ≡ old
-TakesAll {K} Takes old (item ∷ items) new = (next : K) × Takes old item next × TakesAll Takes next items new
+abbrev pub AcceptsAll : {K : Type 0} → (K → Shown → K → Type 0) → K → List Shown → K → Type 0
+AcceptsAll Accepts old [] new = new ≡ old
+AcceptsAll {K} Accepts old (item ∷ items) new = (next : K) × Accepts old item next × AcceptsAll Accepts next items new
 
 -- the sink accepted all items, and so many were counted
-pub record HandsAll {K : Type 0} (Takes : K → Shown → K → Type 0) (IsWhole : List Shown → Type 0) (old new : K)
+pub record EmitsAll {K : Type 0} (Accepts : K → Shown → K → Type 0) (IsWhole : List Shown → Type 0) (old new : K)
     (count : ℕ) : Type 0 where
   pub items : List Shown
   pub whole : IsWhole items
-  pub taken : TakesAll Takes old items new
+  pub taken : AcceptsAll Accepts old items new
   pub counted : count ≡ length items
 
 -- the sink accepted the first items and, if it is to blame, refused the next
-abbrev pub EndsSo : {K : Type 0} → (Takes Refuses : K → Shown → K → Type 0) → K → List Shown → List Shown → K
+abbrev pub EndsSo : {K : Type 0} → (Accepts Refuses : K → Shown → K → Type 0) → K → List Shown → List Shown → K
     → ListFault
     → Type 0
-EndsSo Takes Refuses old done rest new Faults.Memory = TakesAll Takes old done new
-EndsSo Takes Refuses old done rest new Faults.Device = TakesAll Takes old done new
-EndsSo {K} Takes Refuses old done rest new (Faults.Sink _) =
+EndsSo Accepts Refuses old done rest new Faults.Memory = AcceptsAll Accepts old done new
+EndsSo Accepts Refuses old done rest new Faults.Device = AcceptsAll Accepts old done new
+EndsSo {K} Accepts Refuses old done rest new (Faults.Sink _) =
     (last : K) × (item : Shown) × (later : List Shown)
-    × (rest ≡ item ∷ later) × TakesAll Takes old done last × Refuses last item new
+    × (rest ≡ item ∷ later) × AcceptsAll Accepts old done last × Refuses last item new
 
-pub record HandsPart {K : Type 0} (Takes Refuses : K → Shown → K → Type 0) (IsWhole : List Shown → Type 0) (old new : K)
+pub record EmitsPart {K : Type 0} (Accepts Refuses : K → Shown → K → Type 0) (IsWhole : List Shown → Type 0) (old new : K)
     (fault : ListFault) : Type 0 where
   pub done : List Shown
   pub rest : List Shown
   pub whole : IsWhole (done ++ rest)
-  pub ends : EndsSo Takes Refuses old done rest new fault
+  pub ends : EndsSo Accepts Refuses old done rest new fault

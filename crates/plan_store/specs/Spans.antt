@@ -2,7 +2,7 @@
 use Rattle.std.specs.Prelude.{ℕ, ◌≡◌, ◌<◌, ◌≤◌, List, Option, Some, None, ltb, if◌then◌else◌}
 use Rattle.external_dependencies.specs.declared.live.Arrival.{Arrival}
 use Rattle.planner_machine.specs.Content.{Sets}
-use Rattle.plan_store.specs.Asked.{IsPlannedAt}
+use Rattle.plan_store.specs.HistoryReads.{IsPlannedAt}
 
 -- the least moment of some arrivals, or that there is none
 abbrev pub IsLeastOf : (Arrival → Type 0) → Option ℕ → Type 0

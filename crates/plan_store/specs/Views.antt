@@ -14,7 +14,7 @@ use Rattle.occurrences.specs.declared.status.Status.TheVariants.{C, D, E, S, W}
 use Rattle.external_dependencies.specs.declared.live.Arrival.{Arrival}
 use Rattle.external_dependencies.specs.declared.pairs.Pair.{Pair}
 use Rattle.external_dependencies.specs.declared.rows.PlacedRow.{PlacedRow}
-use Rattle.planner_machine.specs.Content.{Content, Sets, StandsAt}
+use Rattle.planner_machine.specs.Content.{Content, Sets, IsOnlyAt}
 use Rattle.planner_machine.specs.Pairs.{LiveAt}
 use Rattle.occurrences.specs.declared.place.CurrentRow.{CurrentRow}
 use Rattle.planner_machine.specs.DailyPlan.{arrives_before, is_deleted, moved}
@@ -23,7 +23,7 @@ use Rattle.planner_machine.specs.Sound.{AreNumbered, HaveOwnKeys, IsSound}
 use Rattle.planner_machine.specs.declared.content.Bounds.{Bounds}
 use Rattle.planner_machine.specs.declared.job.Job.{Job}
 use Rattle.plan_store_lists.specs.Rows.{AreRows, look_up, of_row}
-use Rattle.plan_store.specs.Asked.{AsksKey, AsksPlan, HasLast, HasLasts, IsLimit}
+use Rattle.plan_store.specs.HistoryReads.{ReadsKey, ReadsPlan, HasLast, HasLasts, IsLimit}
 use Rattle.plan_store.specs.Contents.{content_of}
 use Rattle.plan_store.specs.declared.contents.Content.{Content as Kept}
 use Rattle.plan_store.specs.declared.stores.Need.{Need}
@@ -56,22 +56,22 @@ abbrev pub is_asked : Option Key → CurrentRow → Bool
 is_asked key current = is_waiting current.status || (is_of_key key current.row && not (is_deleted current.status))
 
 -- the window needs the pairs of the serial as of one in a plan: it is open, or the live row of the key is there
-abbrev pub asks_planned : Option Key → (ltp : ℕ → Option Row) → (cp : ℕ → Option CurrentRow) → ℕ → Bool
-asks_planned key ltp cp serial = is_some (ltp serial) || is_some (keep (is_asked key) (cp serial))
+abbrev pub needs_planned : Option Key → (ltp : ℕ → Option Row) → (cp : ℕ → Option CurrentRow) → ℕ → Bool
+needs_planned key ltp cp serial = is_some (ltp serial) || is_some (keep (is_asked key) (cp serial))
 
 -- or as of one in history: the live row of the key is there
-abbrev pub asks_completed : Option Key → (history : ℕ → Option Row) → ℕ → Bool
-asks_completed key history serial = is_some (keep (is_of_key key) (history serial))
+abbrev pub needs_completed : Option Key → (history : ℕ → Option Row) → ℕ → Bool
+needs_completed key history serial = is_some (keep (is_of_key key) (history serial))
 
 -- the window needs the pairs of the serial: it is open, or the live row of the key
-abbrev pub asks_pairs : Option Key → (ltp : ℕ → Option Row) → (cp : ℕ → Option CurrentRow) → (history : ℕ → Option Row)
+abbrev pub needs_pairs : Option Key → (ltp : ℕ → Option Row) → (cp : ℕ → Option CurrentRow) → (history : ℕ → Option Row)
     → ℕ → Bool
-asks_pairs key ltp cp history serial = asks_planned key ltp cp serial || asks_completed key history serial
+needs_pairs key ltp cp history serial = needs_planned key ltp cp serial || needs_completed key history serial
 
 -- those of the pairs that the window needs
-abbrev pub asked_pairs : Option Key → (ltp : ℕ → Option Row) → (cp : ℕ → Option CurrentRow) → (history : ℕ → Option Row)
+abbrev pub needed_pairs : Option Key → (ltp : ℕ → Option Row) → (cp : ℕ → Option CurrentRow) → (history : ℕ → Option Row)
     → List Pair → List Pair
-asked_pairs key ltp cp history pairs = filter (λ (pair : Pair). asks_pairs key ltp cp history pair.successor) pairs
+needed_pairs key ltp cp history pairs = filter (λ (pair : Pair). needs_pairs key ltp cp history pair.successor) pairs
 
 abbrev pub is_by_operator : Reason → Bool
 is_by_operator Operator = true
@@ -106,7 +106,7 @@ shown view = record {
     deletions = λ serial. keep (bars view.content.now.bounds) (look_up deletion_serial view.deletions.now serial);
   };
   in_force = view.content.now.in_force;
-  pairs = asked_pairs view.key.now (look_up row_serial view.ltp.now) (look_up current_serial view.cp.now)
+  pairs = needed_pairs view.key.now (look_up row_serial view.ltp.now) (look_up current_serial view.cp.now)
       (look_up row_serial view.history.now) view.pairs.now;
   jobs = λ _. None;
 }
@@ -162,7 +162,7 @@ abbrev pub with_part : Option Key → (ℕ → Option Row) → (ℕ → Option D
 with_part key history deletions c = with_these (record {
   history = history;
   deletions = deletions;
-  pairs = asked_pairs key c.sets.ltp c.sets.cp c.sets.history c.pairs;
+  pairs = needed_pairs key c.sets.ltp c.sets.cp c.sets.history c.pairs;
   jobs = λ _. None;
 }) c
 
@@ -179,8 +179,8 @@ named (need.Daily t) history c = with_plans_alone (λ serial. moved t (c.sets.lt
 -- what it reads of history
 abbrev pub Asks : Need → Content → List ℕ → ℕ → Type 0
 Asks need.Definitions c = λ app minute. ⊥
-Asks (need.Key key) c = AsksKey c key
-Asks need.LongTerm c = AsksPlan c
+Asks (need.Key key) c = ReadsKey c key
+Asks need.LongTerm c = ReadsPlan c
 Asks (need.Daily t) c = λ app minute. ⊥
 
 -- the key that a need is of
@@ -228,7 +228,7 @@ with_hidden hidden view = with_these hidden (shown view)
 -- and no more
 pub record Sees (key : Option Key) (Asked : List ℕ → ℕ → Type 0) (hidden : Hidden) (view : View) : Type 0 where
   pub pairs : (shown view).pairs
-      ≡ asked_pairs key (shown view).sets.ltp (shown view).sets.cp hidden.history hidden.pairs
+      ≡ needed_pairs key (shown view).sets.ltp (shown view).sets.cp hidden.history hidden.pairs
   pub lasts : HasLasts Asked hidden.history (shown view).sets.history
   pub predecessors : HasPredecessors hidden.history view
 
@@ -246,26 +246,26 @@ abbrev pub ShowsNearest : Content → View → Key → List ℕ → Type 0
 ShowsNearest c view key app = (minute : ℕ) → IsLimit key app minute → ShowsLast c view app minute
 
 -- it holds of each content that the window may be of, with whatever that hides
-abbrev pub BehindAny : View → (Content → Type 0) → Type 0
-BehindAny view Is = (h : Hidden) → Is (with_hidden h view)
+abbrev pub HoldsOfAny : View → (Content → Type 0) → Type 0
+HoldsOfAny view Is = (h : Hidden) → Is (with_hidden h view)
 
 -- it holds of each sound one of them of which the window shows what the need names
-abbrev pub Behind : Need → View → (Content → Type 0) → Type 0
-Behind need view Is = (h : Hidden) → IsSound (with_hidden h view)
+abbrev pub HoldsOfSound : Need → View → (Content → Type 0) → Type 0
+HoldsOfSound need view Is = (h : Hidden) → IsSound (with_hidden h view)
     → Sees (key_of need) (Asks need (with_hidden h view)) h view → Is (with_hidden h view)
 
 -- it holds of each of them whose serials are numbered and of whose history the window shows a part
-abbrev pub BehindPart : View → (Content → Type 0) → Type 0
-BehindPart view Is = (h : Hidden) → AreNumbered (with_hidden h view).sets → ShowsPart (with_hidden h view) view
+abbrev pub HoldsOfPart : View → (Content → Type 0) → Type 0
+HoldsOfPart view Is = (h : Hidden) → AreNumbered (with_hidden h view).sets → ShowsPart (with_hidden h view) view
     → Is (with_hidden h view)
 
 -- it holds of each of them whose serials are numbered and that has the predecessors that the window has
-abbrev pub BehindPairs : View → (Content → Type 0) → Type 0
-BehindPairs view Is = (h : Hidden) → AreNumbered (with_hidden h view).sets → HasPredecessors h.history view
+abbrev pub HoldsOfPairs : View → (Content → Type 0) → Type 0
+HoldsOfPairs view Is = (h : Hidden) → AreNumbered (with_hidden h view).sets → HasPredecessors h.history view
     → Is (with_hidden h view)
 
 -- what a window for the need shows that is no part of a list was prepared
-pub record HasAsked (need : Need) (kept : Kept) : Type 0 where
+pub record IsPrepared (need : Need) (kept : Kept) : Type 0 where
   pub key : kept.buffer.key ≡ key_of need
   pub rows : AreRows of_row kept.buffer.lasts.items
   pub part : (row : Row) → Contains kept.buffer.lasts.items row → Contains kept.history.items row
@@ -274,8 +274,8 @@ pub record HasAsked (need : Need) (kept : Kept) : Type 0 where
 
 abbrev pub IsFilled : Need → Kept → Type 0
 IsFilled need.Definitions kept = Unit {0}
-IsFilled (need.Key key) kept = HasAsked (need.Key key) kept
-IsFilled need.LongTerm kept = HasAsked need.LongTerm kept
+IsFilled (need.Key key) kept = IsPrepared (need.Key key) kept
+IsFilled need.LongTerm kept = IsPrepared need.LongTerm kept
 IsFilled (need.Daily t) kept = kept.buffer.early.items ≡ filter (arrives_before t) kept.ltp.items
 
 -- the list has exactly the rows of the set that pass, by application, input arrival and serial
@@ -302,13 +302,13 @@ IsCurrentRow s key None = (serial : ℕ) (current : CurrentRow) → s.cp serial 
 
 -- the live occurrence that has the key, and its place, or that there is none
 abbrev pub IsLiveRow : Sets → Key → Option PlacedRow → Type 0
-IsLiveRow s key (Some p) = StandsAt s p.row.serial p × IsLive p.place × (p.row.key ≡ key)
-IsLiveRow s key None = (serial : ℕ) (p : PlacedRow) → StandsAt s serial p → IsLive p.place → p.row.key ≢ key
+IsLiveRow s key (Some p) = IsOnlyAt s p.row.serial p × IsLive p.place × (p.row.key ≡ key)
+IsLiveRow s key None = (serial : ℕ) (p : PlacedRow) → IsOnlyAt s serial p → IsLive p.place → p.row.key ≢ key
 
 -- the occurrence of the serial, and its place, or that there is none
 abbrev pub IsPlacedAt : Sets → ℕ → Option PlacedRow → Type 0
-IsPlacedAt s serial (Some p) = StandsAt s serial p
-IsPlacedAt s serial None = (p : PlacedRow) → StandsAt s serial p → ⊥
+IsPlacedAt s serial (Some p) = IsOnlyAt s serial p
+IsPlacedAt s serial None = (p : PlacedRow) → IsOnlyAt s serial p → ⊥
 
 -- in a plan or in history
 abbrev pub IsOutsideDeletions : Place → Type 0
@@ -325,7 +325,7 @@ pub record IsOutside (s : Sets) (serial : ℕ) : Type 0 where
 
 -- the occurrence of the serial in a plan or in history, and its place, or that there is none
 abbrev pub IsFoundAt : Sets → ℕ → Option PlacedRow → Type 0
-IsFoundAt s serial (Some p) = StandsAt s serial p × IsOutsideDeletions p.place
+IsFoundAt s serial (Some p) = IsOnlyAt s serial p × IsOutsideDeletions p.place
 IsFoundAt s serial None = IsOutside s serial
 
 -- an operator deleted an occurrence of the key

@@ -7,13 +7,13 @@ ghost use Rattle.planner_machine.specs.Sound.{AreNumbered};
 ghost use Rattle.plan_store.specs.AppPairs.{AddsPairs, AreBySerials, HasAppPairs, HasEnds, LacksNone, with_others};
 ghost use Rattle.plan_store.specs.Contents.{content_of};
 ghost use Rattle.plan_store.specs.Listed.{EndsWithin, link_at, linked_rows, links_at, row_at};
-ghost use Rattle.plan_store.specs.Listings.{HandsAll, HandsPart, IsListing, TakesAll, link_shown};
+ghost use Rattle.plan_store.specs.Listings.{EmitsAll, EmitsPart, IsListing, AcceptsAll, link_shown};
 ghost use Rattle.plan_store.specs.Parts.{Rest, with_rest};
 ghost use Rattle.plan_store.specs.Views.{row_serial};
 ghost use Rattle.plan_store.specs.declared.listings.What.{What as Showable};
 
 use crate::contents::Content;
-use crate::listings::{Item, ListFault, RowSink};
+use crate::listings::{Item, ItemSink, ListFault};
 use crate::slices::{of_app, of_serial};
 use external_dependencies::{Pair, Pairs};
 use occurrences::{Row, Serial};
@@ -112,7 +112,7 @@ impl Content {
     }
 
     // Hands the sink the rows of these pairs, where their successors are of the application.
-    fn hand_known<K: RowSink>(
+    fn hand_known<K: ItemSink>(
         &self,
         others: &[Row],
         pairs: &[Pair],
@@ -121,11 +121,11 @@ impl Content {
     ) -> Result<usize, ListFault>
         ensures all { AreBySerials others.now → IfOk result (λ count.
             (count ≡ length (links_at (with_others others.now (content_of self.now).sets)
-            (Some app.now) pairs.now)) × TakesAll K.takes sink.old
+            (Some app.now) pairs.now)) × AcceptsAll K.accepts sink.old
             (map link_shown (links_at (with_others others.now (content_of self.now).sets)
             (Some app.now) pairs.now)) sink.new) }
         ensures part { AreBySerials others.now → IfErr result (λ fault.
-            EndsWithin K.takes K.refuses sink.old
+            EndsWithin K.accepts K.refuses sink.old
             (map link_shown (links_at (with_others others.now (content_of self.now).sets)
             (Some app.now) pairs.now)) sink.new fault) }
         ensures blames { IfErr result (λ fault. fault ≢ ListFault.Device) }
@@ -133,7 +133,7 @@ impl Content {
         let mut count = 0;
         for pair in pairs {
             match self.known_link(others, *pair, app) {
-                Some(link) => match sink.take(Item::Pair(&link.0, &link.1)) {
+                Some(link) => match sink.accept(Item::Pair(&link.0, &link.1)) {
                     Ok(()) => count += 1,
                     Err(fault) => return Err(ListFault::Sink(fault)),
                 },
@@ -146,7 +146,7 @@ impl Content {
     /// Hands the sink the pairs of one application, as `rows_to` does, where history and the deletions may stand
     /// elsewhere: these other rows are of history, in the order of their serials, and the lists and they have the
     /// application's rows and the predecessors of those.
-    pub fn app_pairs_to<K: RowSink>(
+    pub fn app_pairs_to<K: ItemSink>(
         &self,
         alloc: Global,
         others: &[Row],
@@ -155,11 +155,11 @@ impl Content {
     ) -> Result<usize, ListFault>
         ensures all { (rest : Rest) → AreNumbered (with_rest rest (content_of self.now)).sets
             → HasEnds app.now rest others.now (content_of self.now)
-            → IfOk result (HandsAll K.takes (IsListing Showable.Dependencies (Some app.now)
+            → IfOk result (EmitsAll K.accepts (IsListing Showable.Dependencies (Some app.now)
             (with_rest rest (content_of self.now))) sink.old sink.new) }
         ensures part { (rest : Rest) → AreNumbered (with_rest rest (content_of self.now)).sets
             → HasEnds app.now rest others.now (content_of self.now)
-            → IfErr result (HandsPart K.takes K.refuses (IsListing Showable.Dependencies
+            → IfErr result (EmitsPart K.accepts K.refuses (IsListing Showable.Dependencies
             (Some app.now) (with_rest rest (content_of self.now))) sink.old sink.new) }
         ensures blames { IfErr result (λ fault. fault ≢ ListFault.Device) }
     {
@@ -171,17 +171,17 @@ impl Content {
     }
 
     /// Hands the sink the pairs, as `rows_to` does, where the lists have all of history and all deletions.
-    pub(crate) fn listed_pairs_to<K: RowSink>(
+    pub(crate) fn listed_pairs_to<K: ItemSink>(
         &self,
         alloc: Global,
         app: Option<&App>,
         sink: &mut K,
     ) -> Result<usize, ListFault>
         ensures all { AreNumbered (content_of self.now).sets
-            → IfOk result (HandsAll K.takes (IsListing Showable.Dependencies
+            → IfOk result (EmitsAll K.accepts (IsListing Showable.Dependencies
             (option_copied app.entry) (content_of self.now)) sink.old sink.new) }
         ensures part { AreNumbered (content_of self.now).sets
-            → IfErr result (HandsPart K.takes K.refuses (IsListing Showable.Dependencies
+            → IfErr result (EmitsPart K.accepts K.refuses (IsListing Showable.Dependencies
             (option_copied app.entry) (content_of self.now)) sink.old sink.new) }
         ensures blames { IfErr result (λ fault. fault ≢ ListFault.Device) }
     {

@@ -74,7 +74,7 @@ impl Content {
     ghost use Rattle.plan_store.specs.Contents.{content_of};
     ghost use Rattle.plan_store.specs.Parts.{Rest, with_rest};
     ghost use Rattle.plan_store_lists.specs.Rows.{look_up};
-    ghost use Rattle.plan_store.specs.Views.{HasAsked, IsFilled, Shows, TellsSizes, bars, current_serial};
+    ghost use Rattle.plan_store.specs.Views.{IsPrepared, IsFilled, Shows, TellsSizes, bars, current_serial};
     ghost use Rattle.plan_store.specs.Views.{deletion_serial, row_serial, shown, with_part, with_plans_alone};
     ghost use Rattle.occurrences.specs.declared.row.Row.{Row as RowValue};
     ghost use Rattle.plan_store.specs.Room.{HasPutSeats, HasRoom, HasRowRoom, HasSame, with_definitions, with_pairs_of};
@@ -119,7 +119,7 @@ impl Content {
     // Fills the buffer with the rows of history that a statement on the key reads.
     fn fill_for_key(&mut self, key: &Key) -> Result<(), AllocError>
         ensures same { content_of self.new ≡ content_of self.old }
-        ensures filled { OnOk result (HasAsked (Need.Key key.now) self.new) }
+        ensures filled { OnOk result (IsPrepared (Need.Key key.now) self.new) }
     {
         self.buffer.key = Some(*key);
         key_lasts(
@@ -134,7 +134,7 @@ impl Content {
     // Fills the buffer with the rows of history that a statement on the long-term plan reads.
     fn fill_for_plan(&mut self) -> Result<(), AllocError>
         ensures same { content_of self.new ≡ content_of self.old }
-        ensures filled { OnOk result (HasAsked Need.LongTerm self.new) }
+        ensures filled { OnOk result (IsPrepared Need.LongTerm self.new) }
     {
         self.buffer.key = None;
         plan_lasts(

@@ -9,8 +9,8 @@ ghost use Rattle.external_dependencies.specs.declared.links.Link.{Link as LinkVa
 ghost use Rattle.planner_machine.specs.Content.{Content as ContentValue};
 ghost use Rattle.plan_store_lists.specs.Rows.{AreRows, look_up, of_current, of_row};
 ghost use Rattle.occurrences.specs.declared.row.Row.{Row as RowValue};
-ghost use Rattle.plan_store.specs.Asked.{AsksKey, AsksPlan, HasLasts, ListsDefined};
-ghost use Rattle.plan_store.specs.Noted.{AreAtPlaces, AskedByOne, AsksEach, AsksEnd, AsksRow, IsAsked};
+ghost use Rattle.plan_store.specs.HistoryReads.{ReadsKey, ReadsPlan, HasLasts, ListsDefined};
+ghost use Rattle.plan_store.specs.Noted.{AreAtPlaces, ReadByOne, ReadsEach, ReadsEnd, ReadsRow, IsAsked};
 ghost use Rattle.plan_store.specs.Noted.{IsDefined, IsLastPlace, LacksBefore, Notes};
 ghost use Rattle.plan_store.specs.Views.{current_serial, row_serial};
 
@@ -35,7 +35,7 @@ pub(crate) fn key_lasts(
     ensures part { OnOk result ((row : RowValue) → Contains lasts.new.items row
         → Contains history.now row) }
     ensures lasts { OnOk result ((c : ContentValue) → c.in_force ≡ in_force.now
-        → HasLasts (AsksKey c key.now) (look_up row_serial history.now)
+        → HasLasts (ReadsKey c key.now) (look_up row_serial history.now)
         (look_up row_serial lasts.new.items)) }
 {
     places.clear();
@@ -65,7 +65,7 @@ pub(crate) fn plan_lasts(
     ensures lasts { OnOk result ((c : ContentValue) → c.in_force ≡ in_force.now
         → c.definitions ≡ definitions.now → c.sets.bounds ≡ bounds
         → c.sets.cp ≡ look_up current_serial cp.now
-        → HasLasts (AsksPlan c) (look_up row_serial history.now)
+        → HasLasts (ReadsPlan c) (look_up row_serial history.now)
         (look_up row_serial lasts.new.items)) }
 {
     places.clear();
@@ -124,7 +124,7 @@ fn note_links(
 ) -> Result<(), AllocError>
     requires { AreRows of_row history.now }
     ensures { OnOk result (Notes
-        (AskedByOne (λ (link : LinkValue). IsAsked link.predecessor minute) links.now)
+        (ReadByOne (λ (link : LinkValue). IsAsked link.predecessor minute) links.now)
         history.now places.old.items places.new.items) }
 {
     for link in links {
@@ -142,7 +142,7 @@ fn note_list(
     places: &mut Vec<usize>,
 ) -> Result<(), AllocError>
     requires { AreRows of_row history.now }
-    ensures { OnOk result (Notes (AsksEach (Lists in_force.now app.now) minute)
+    ensures { OnOk result (Notes (ReadsEach (Lists in_force.now app.now) minute)
         history.now places.old.items places.new.items) }
 {
     note_links(history, in_force.list(app), minute, places)
@@ -157,7 +157,7 @@ fn note_named(
 ) -> Result<(), AllocError>
     requires { AreRows of_row history.now }
     ensures { OnOk result (Notes
-        (AskedByOne (λ (p : PredecessorValue). IsAsked p.name minute) listed.now)
+        (ReadByOne (λ (p : PredecessorValue). IsAsked p.name minute) listed.now)
         history.now places.old.items places.new.items) }
 {
     for predecessor in listed {
@@ -175,7 +175,7 @@ fn note_defined(
     places: &mut Vec<usize>,
 ) -> Result<(), AllocError>
     requires { AreRows of_row history.now }
-    ensures { OnOk result (Notes (AsksEach (ListsDefined definitions.now app.now) minute)
+    ensures { OnOk result (Notes (ReadsEach (ListsDefined definitions.now app.now) minute)
         history.now places.old.items places.new.items) }
 {
     match definitions.predecessors.get(app) {
@@ -192,7 +192,7 @@ fn note_all_defined(
     places: &mut Vec<usize>,
 ) -> Result<(), AllocError>
     requires { AreRows of_row history.now }
-    ensures { OnOk result (Notes (AsksEach (IsDefined definitions.now) minute)
+    ensures { OnOk result (Notes (ReadsEach (IsDefined definitions.now) minute)
         history.now places.old.items places.new.items) }
 {
     for (_app, listed) in definitions.predecessors.iter() {
@@ -212,7 +212,7 @@ fn note_waiting(
 ) -> Result<(), AllocError>
     requires { AreRows of_row history.now }
     ensures { OnOk result (Notes
-        (AskedByOne (AsksRow in_force.now definitions.now) rows.now) history.now
+        (ReadByOne (ReadsRow in_force.now definitions.now) rows.now) history.now
         places.old.items places.new.items) }
 {
     for current in rows {
@@ -236,7 +236,7 @@ fn note_plan_end(
     places: &mut Vec<usize>,
 ) -> Result<(), AllocError>
     requires { AreRows of_row history.now }
-    ensures { OnOk result (Notes (AsksEnd in_force.now definitions.now bounds)
+    ensures { OnOk result (Notes (ReadsEnd in_force.now definitions.now bounds)
         history.now places.old.items places.new.items) }
 {
     let Some(bounds) = bounds else {

@@ -33,7 +33,7 @@ mod views;
 pub use changes::{Change, DefinitionChange, Moves, Verdict};
 pub use contents::Content;
 pub use list_store::ListStore;
-pub use listings::{Item, ListFault, RowSink, SinkFault, What};
+pub use listings::{Item, ItemRefused, ItemSink, ListFault, What};
 pub use planner_machine::{Answer, Bounds, Job, JobText};
 pub use redefining::Redefining;
 pub use room::Room;

@@ -1,6 +1,6 @@
 use crate::changes::Change;
 use crate::contents::Content;
-use crate::listings::{ListFault, RowSink, What};
+use crate::listings::{ItemSink, ListFault, What};
 use crate::stores::{Need, PlanStore, StoreFault};
 use crate::views::View;
 use app_definitions::Definitions;
@@ -103,7 +103,7 @@ impl PlanStore for ListStore {
         Ok(self.kept_job(number))
     }
 
-    fn rows_to<K: RowSink>(
+    fn rows_to<K: ItemSink>(
         &mut self,
         alloc: Global,
         what: What,

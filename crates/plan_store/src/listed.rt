@@ -14,12 +14,12 @@ ghost use Rattle.planner_machine.specs.Sound.{AreNumbered};
 ghost use Rattle.plan_store.specs.Contents.{content_of};
 ghost use Rattle.plan_store.specs.Listed.{AreBySerial, SortsRows, EndsWithin, ShowsSet, link_at};
 ghost use Rattle.plan_store.specs.Listed.{linked_rows, links_at, row_at, shown_as};
-ghost use Rattle.plan_store.specs.Listings.{HandsAll, HandsPart, IsListing, Shown, TakesAll, in_force_shown, link_shown};
+ghost use Rattle.plan_store.specs.Listings.{EmitsAll, EmitsPart, IsListing, Shown, AcceptsAll, in_force_shown, link_shown};
 ghost use Rattle.plan_store.specs.Parts.{ListsAll, Rest, with_rest};
 ghost use Rattle.plan_store.specs.declared.listings.What.{What as Showable};
 
 use crate::contents::Content;
-use crate::listings::{Item, ListFault, RowSink, SinkFault, What};
+use crate::listings::{Item, ItemRefused, ItemSink, ListFault, What};
 use crate::slices::of_app;
 use external_dependencies::{Link, Links, Pair};
 use occurrences::{CurrentRow, Deletion, Row, Serial, Status};
@@ -88,34 +88,34 @@ fn in_order<T: PlanRow>(alloc: Global, rows: &[T]) -> Result<Vec<&T>, AllocError
 }
 
 // Passes the sink one row, with its letter or without one.
-fn hand<T: Lettered, K: RowSink>(x: &T, is_plain: bool, sink: &mut K) -> Result<(), SinkFault>
+fn emit<T: Lettered, K: ItemSink>(x: &T, is_plain: bool, sink: &mut K) -> Result<(), ItemRefused>
     ensures taken { OnOk result
-        (K.takes sink.old (shown_as T.row_of T.letter_of is_plain x.now) sink.new) }
+        (K.accepts sink.old (shown_as T.row_of T.letter_of is_plain x.now) sink.new) }
     ensures refused { OnErr result
         (K.refuses sink.old (shown_as T.row_of T.letter_of is_plain x.now) sink.new) }
 {
     let row = x.row();
     if is_plain {
-        sink.take(Item::Plan(&row))
+        sink.accept(Item::Plan(&row))
     } else {
-        sink.take(Item::Marked(&row, x.letter()))
+        sink.accept(Item::Marked(&row, x.letter()))
     }
 }
 
 // Passes the sink the rows, in their order.
-fn hand_each<T: Lettered, K: RowSink>(
+fn emit_each<T: Lettered, K: ItemSink>(
     rows: &[&T],
     is_plain: bool,
     sink: &mut K,
 ) -> Result<usize, ListFault>
-    ensures all { IfOk result (λ count. (count ≡ length rows.now) × TakesAll K.takes sink.old
+    ensures all { IfOk result (λ count. (count ≡ length rows.now) × AcceptsAll K.accepts sink.old
         (map (λ x. shown_as T.row_of T.letter_of is_plain x.now) rows.now) sink.new) }
-    ensures part { IfErr result (λ fault. EndsWithin K.takes K.refuses sink.old
+    ensures part { IfErr result (λ fault. EndsWithin K.accepts K.refuses sink.old
         (map (λ x. shown_as T.row_of T.letter_of is_plain x.now) rows.now) sink.new fault) }
     ensures blames { IfErr result (λ fault. fault ≢ ListFault.Device) }
 {
     for x in rows {
-        match hand(*x, is_plain, sink) {
+        match emit(*x, is_plain, sink) {
             Ok(()) => {}
             Err(fault) => return Err(ListFault::Sink(fault)),
         }
@@ -138,7 +138,7 @@ fn part_of<'a, T: PlanRow>(rows: &'a [T], app: Option<&App>) -> &'a [T]
 }
 
 // Passes the sink the rows of a set, of one application or all, by input arrival, application and serial.
-fn hand_rows<T: Lettered, K: RowSink>(
+fn emit_rows<T: Lettered, K: ItemSink>(
     alloc: Global,
     rows: &[T],
     app: Option<&App>,
@@ -146,16 +146,16 @@ fn hand_rows<T: Lettered, K: RowSink>(
     sink: &mut K,
 ) -> Result<usize, ListFault>
     ensures all { AreRows T.row_of rows.now
-        → IfOk result (HandsAll K.takes (ShowsSet T.row_of T.letter_of is_plain rows.now
+        → IfOk result (EmitsAll K.accepts (ShowsSet T.row_of T.letter_of is_plain rows.now
         (option_copied app.entry)) sink.old sink.new) }
     ensures part { AreRows T.row_of rows.now
-        → IfErr result (HandsPart K.takes K.refuses (ShowsSet T.row_of T.letter_of is_plain
+        → IfErr result (EmitsPart K.accepts K.refuses (ShowsSet T.row_of T.letter_of is_plain
         rows.now
         (option_copied app.entry)) sink.old sink.new) }
     ensures blames { IfErr result (λ fault. fault ≢ ListFault.Device) }
 {
     match in_order(alloc, part_of(rows, app)) {
-        Ok(found) => hand_each(&found, is_plain, sink),
+        Ok(found) => emit_each(&found, is_plain, sink),
         Err(_) => Err(ListFault::Memory),
     }
 }
@@ -201,7 +201,7 @@ fn linked(all: &[&Row], pair: Pair, app: Option<&App>) -> Option<(Row, Row)>
 }
 
 // Passes the sink the rows of these pairs, of one application or all.
-fn hand_links<K: RowSink>(
+fn emit_links<K: ItemSink>(
     all: &[&Row],
     pairs: &[Pair],
     app: Option<&App>,
@@ -209,17 +209,17 @@ fn hand_links<K: RowSink>(
 ) -> Result<usize, ListFault>
     ensures all { (s : Sets) → AreNumbered s → AreBySerial (λ row. row.now) s all.now
         → IfOk result (λ count. (count ≡ length (links_at s (option_copied app.entry) pairs.now))
-        × TakesAll K.takes sink.old (map link_shown
+        × AcceptsAll K.accepts sink.old (map link_shown
         (links_at s (option_copied app.entry) pairs.now)) sink.new) }
     ensures part { (s : Sets) → AreNumbered s → AreBySerial (λ row. row.now) s all.now
-        → IfErr result (λ fault. EndsWithin K.takes K.refuses sink.old
+        → IfErr result (λ fault. EndsWithin K.accepts K.refuses sink.old
         (map link_shown (links_at s (option_copied app.entry) pairs.now)) sink.new fault) }
     ensures blames { IfErr result (λ fault. fault ≢ ListFault.Device) }
 {
     let mut count = 0;
     for pair in pairs {
         match linked(all, *pair, app) {
-            Some(link) => match sink.take(Item::Pair(&link.0, &link.1)) {
+            Some(link) => match sink.accept(Item::Pair(&link.0, &link.1)) {
                 Ok(()) => count += 1,
                 Err(fault) => return Err(ListFault::Sink(fault)),
             },
@@ -242,15 +242,15 @@ fn lists_of<'a>(links: &'a Links, app: Option<&App>) -> &'a [Link]
 }
 
 // Passes the sink the entries of lists, in their order, each with its limit.
-fn hand_lists<K: RowSink>(links: &[Link], sink: &mut K) -> Result<usize, ListFault>
+fn emit_lists<K: ItemSink>(links: &[Link], sink: &mut K) -> Result<usize, ListFault>
     ensures all { IfOk result (λ count. (count ≡ length links.now)
-        × TakesAll K.takes sink.old (map in_force_shown links.now) sink.new) }
-    ensures part { IfErr result (λ fault. EndsWithin K.takes K.refuses sink.old
+        × AcceptsAll K.accepts sink.old (map in_force_shown links.now) sink.new) }
+    ensures part { IfErr result (λ fault. EndsWithin K.accepts K.refuses sink.old
         (map in_force_shown links.now) sink.new fault) }
     ensures blames { IfErr result (λ fault. fault ≢ ListFault.Device) }
 {
     for link in links {
-        match sink.take(Item::Link(link)) {
+        match sink.accept(Item::Link(link)) {
             Ok(()) => {}
             Err(fault) => return Err(ListFault::Sink(fault)),
         }
@@ -285,46 +285,46 @@ impl Content {
     }
 
     /// Passes the sink the long-term plan, as `rows_to` does, wherever history and deletions are stored.
-    pub fn ltp_to<K: RowSink>(
+    pub fn ltp_to<K: ItemSink>(
         &self,
         alloc: Global,
         app: Option<&App>,
         sink: &mut K,
     ) -> Result<usize, ListFault>
         ensures all { (rest : Rest) → AreNumbered (with_rest rest (content_of self.now)).sets
-            → IfOk result (HandsAll K.takes (IsListing Showable.Ltp (option_copied app.entry)
+            → IfOk result (EmitsAll K.accepts (IsListing Showable.Ltp (option_copied app.entry)
             (with_rest rest (content_of self.now))) sink.old sink.new) }
         ensures part { (rest : Rest) → AreNumbered (with_rest rest (content_of self.now)).sets
-            → IfErr result (HandsPart K.takes K.refuses (IsListing Showable.Ltp
+            → IfErr result (EmitsPart K.accepts K.refuses (IsListing Showable.Ltp
             (option_copied app.entry) (with_rest rest (content_of self.now)))
             sink.old sink.new) }
         ensures blames { IfErr result (λ fault. fault ≢ ListFault.Device) }
     {
-        hand_rows(alloc, &self.ltp, app, true, sink)
+        emit_rows(alloc, &self.ltp, app, true, sink)
     }
 
     /// Passes the sink the current plan, as `rows_to` does, wherever history and deletions are stored.
-    pub fn cp_to<K: RowSink>(
+    pub fn cp_to<K: ItemSink>(
         &self,
         alloc: Global,
         app: Option<&App>,
         sink: &mut K,
     ) -> Result<usize, ListFault>
         ensures all { (rest : Rest) → AreNumbered (with_rest rest (content_of self.now)).sets
-            → IfOk result (HandsAll K.takes (IsListing Showable.Cp (option_copied app.entry)
+            → IfOk result (EmitsAll K.accepts (IsListing Showable.Cp (option_copied app.entry)
             (with_rest rest (content_of self.now))) sink.old sink.new) }
         ensures part { (rest : Rest) → AreNumbered (with_rest rest (content_of self.now)).sets
-            → IfErr result (HandsPart K.takes K.refuses (IsListing Showable.Cp
+            → IfErr result (EmitsPart K.accepts K.refuses (IsListing Showable.Cp
             (option_copied app.entry) (with_rest rest (content_of self.now)))
             sink.old sink.new) }
         ensures blames { IfErr result (λ fault. fault ≢ ListFault.Device) }
     {
-        hand_rows(alloc, &self.cp, app, false, sink)
+        emit_rows(alloc, &self.cp, app, false, sink)
     }
 
     /// Passes the sink the pairs, as `rows_to` does, where these rows, in any order, are all of history and all
     /// deletions, wherever those are stored. The occurrences are sorted by serial once.
-    pub fn pairs_to<K: RowSink>(
+    pub fn pairs_to<K: ItemSink>(
         &self,
         alloc: Global,
         history: &[Row],
@@ -335,41 +335,41 @@ impl Content {
         ensures all { (rest : Rest) → AreNumbered (with_rest rest (content_of self.now)).sets
             → ListsAll of_row history.now rest.history
             → ListsAll of_deletion deletions.now rest.deletions
-            → IfOk result (HandsAll K.takes (IsListing Showable.Dependencies
+            → IfOk result (EmitsAll K.accepts (IsListing Showable.Dependencies
             (option_copied app.entry) (with_rest rest (content_of self.now)))
             sink.old sink.new) }
         ensures part { (rest : Rest) → AreNumbered (with_rest rest (content_of self.now)).sets
             → ListsAll of_row history.now rest.history
             → ListsAll of_deletion deletions.now rest.deletions
-            → IfErr result (HandsPart K.takes K.refuses (IsListing Showable.Dependencies
+            → IfErr result (EmitsPart K.accepts K.refuses (IsListing Showable.Dependencies
             (option_copied app.entry) (with_rest rest (content_of self.now)))
             sink.old sink.new) }
         ensures blames { IfErr result (λ fault. fault ≢ ListFault.Device) }
     {
         let pairs = self.pairs.as_slice();
         match self.by_serial(alloc, history, deletions) {
-            Ok(all) => hand_links(&all, pairs, app, sink),
+            Ok(all) => emit_links(&all, pairs, app, sink),
             Err(_) => Err(ListFault::Memory),
         }
     }
 
     /// Passes the sink the lists in force, as `rows_to` does, wherever history and deletions are stored.
-    pub fn links_to<K: RowSink>(&self, app: Option<&App>, sink: &mut K) -> Result<usize, ListFault>
+    pub fn links_to<K: ItemSink>(&self, app: Option<&App>, sink: &mut K) -> Result<usize, ListFault>
         ensures all { (rest : Rest) → AreNumbered (with_rest rest (content_of self.now)).sets
-            → IfOk result (HandsAll K.takes (IsListing Showable.Links (option_copied app.entry)
+            → IfOk result (EmitsAll K.accepts (IsListing Showable.Links (option_copied app.entry)
             (with_rest rest (content_of self.now))) sink.old sink.new) }
         ensures part { (rest : Rest) → AreNumbered (with_rest rest (content_of self.now)).sets
-            → IfErr result (HandsPart K.takes K.refuses (IsListing Showable.Links
+            → IfErr result (EmitsPart K.accepts K.refuses (IsListing Showable.Links
             (option_copied app.entry) (with_rest rest (content_of self.now)))
             sink.old sink.new) }
         ensures blames { IfErr result (λ fault. fault ≢ ListFault.Device) }
     {
-        hand_lists(lists_of(&self.in_force, app), sink)
+        emit_lists(lists_of(&self.in_force, app), sink)
     }
 
     /// Passes the sink what a listing shows, in its order, of one application or of all, and returns how many items
     /// the sink accepted. A fault leaves the sink with those before it; the device never causes one.
-    pub fn rows_to<K: RowSink>(
+    pub fn rows_to<K: ItemSink>(
         &self,
         alloc: Global,
         what: What,
@@ -377,18 +377,18 @@ impl Content {
         sink: &mut K,
     ) -> Result<usize, ListFault>
         ensures all { AreNumbered (content_of self.now).sets
-            → IfOk result (HandsAll K.takes (IsListing what (option_copied app.entry)
+            → IfOk result (EmitsAll K.accepts (IsListing what (option_copied app.entry)
             (content_of self.now)) sink.old sink.new) }
         ensures part { AreNumbered (content_of self.now).sets
-            → IfErr result (HandsPart K.takes K.refuses (IsListing what (option_copied app.entry)
+            → IfErr result (EmitsPart K.accepts K.refuses (IsListing what (option_copied app.entry)
             (content_of self.now)) sink.old sink.new) }
         ensures blames { IfErr result (λ fault. fault ≢ ListFault.Device) }
     {
         match what {
             What::Ltp => self.ltp_to(alloc, app, sink),
             What::Cp => self.cp_to(alloc, app, sink),
-            What::History => hand_rows(alloc, &self.history, app, false, sink),
-            What::Deletions => hand_rows(alloc, &self.deletions, app, false, sink),
+            What::History => emit_rows(alloc, &self.history, app, false, sink),
+            What::Deletions => emit_rows(alloc, &self.deletions, app, false, sink),
             What::Dependencies => self.listed_pairs_to(alloc, app, sink),
             What::Links => self.links_to(app, sink),
         }

@@ -38,19 +38,19 @@ pub enum Item<'a> {
 /// A sink refused an item. The sink knows why.
 #[derive(Clone, Copy, Debug, PartialEq, Eq, Error)]
 #[error("the item was refused")]
-pub struct SinkFault;
+pub struct ItemRefused;
 
 /// What receives the items of a listing, one after another.
-pub trait RowSink {
+pub trait ItemSink {
     // the sink after it has accepted an item
-    ghost takes: { Self → Shown → Self → Type 0 };
+    ghost accepts: { Self → Shown → Self → Type 0 };
 
     // the sink after it has refused an item
     ghost refuses: { Self → Shown → Self → Type 0 };
 
     /// Accepts an item.
-    fn take(&mut self, item: Item<'_>) -> Result<(), SinkFault>
-        ensures taken { OnOk result (takes self.old (item_shown item.entry) self.new) }
+    fn accept(&mut self, item: Item<'_>) -> Result<(), ItemRefused>
+        ensures taken { OnOk result (accepts self.old (item_shown item.entry) self.new) }
         ensures refused { OnErr result (refuses self.old (item_shown item.entry) self.new) };
 }
 
@@ -65,5 +65,5 @@ pub enum ListFault {
     Device,
     /// The sink refused an item. The store can still be used.
     #[error("the item was refused")]
-    Sink(SinkFault),
+    Sink(ItemRefused),
 }

@@ -50,7 +50,7 @@ fn put_row<T: PlanRow>(list: &mut Vec<T>, row: &T) -> Result<(), AllocError>
 
 // Puts a row into the list, unless that has one of its serial, and notes its seat. If memory is refused, the list
 // stays as it is.
-fn bring<T: PlanRow>(
+fn load<T: PlanRow>(
     alloc: Global,
     list: &mut Vec<T>,
     seats: &mut Vec<Seat>,
@@ -168,21 +168,21 @@ impl Content {
 
     /// Loads a row of history into the lists, unless they have one of its serial. If memory is refused, the content
     /// stays as it is.
-    pub fn bring_completed(&mut self, alloc: Global, row: Row) -> Result<(), AllocError>
+    pub fn load_completed(&mut self, alloc: Global, row: Row) -> Result<(), AllocError>
         ensures ok { OnOk result (content_of self.new ≡ with_completed row (content_of self.old)) }
         ensures err { OnErr result (content_of self.new ≡ content_of self.old) }
     {
-        bring(alloc, &mut self.history, &mut self.seats, &row)
+        load(alloc, &mut self.history, &mut self.seats, &row)
     }
 
     /// Loads a deletion into the lists, unless they have one of its serial. If memory is refused, the content stays as
     /// it is.
-    pub fn bring_deleted(&mut self, alloc: Global, deletion: Deletion) -> Result<(), AllocError>
+    pub fn load_deleted(&mut self, alloc: Global, deletion: Deletion) -> Result<(), AllocError>
         ensures ok { OnOk result (content_of self.new
             ≡ with_deleted deletion (content_of self.old)) }
         ensures err { OnErr result (content_of self.new ≡ content_of self.old) }
     {
-        bring(alloc, &mut self.deletions, &mut self.seats, &deletion)
+        load(alloc, &mut self.deletions, &mut self.seats, &deletion)
     }
 
     // The serials of the predecessors of what is planned, in the order of the pairs.

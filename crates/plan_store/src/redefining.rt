@@ -10,7 +10,7 @@ ghost use Rattle.plan_store.specs.declared.room.Room.{Room as RoomValue};
 
 use crate::changes::DefinitionChange;
 use crate::contents::Content;
-use app_definitions::{Definitions, Kind, Replaced, merge_is_taken_back};
+use app_definitions::{Definitions, Kind, Replaced, merge_is_rolled_back};
 use std::alloc::AllocError;
 use work_calendars::Name;
 
@@ -78,7 +78,7 @@ fn begin(definitions: &mut Definitions, change: DefinitionChange) -> Result<Rede
     ensures undoes { IfOk result (λ begun. undone begun definitions.new ≡ definitions.old) }
     ensures err { OnErr result (definitions.new ≡ definitions.old) }
 {
-    merge_is_taken_back();
+    merge_is_rolled_back();
     match change {
         DefinitionChange::AsBefore => Ok(Redefining::Nothing),
         DefinitionChange::Merged(block) => {

@@ -4,12 +4,12 @@ ghost use Rattle.planner_machine.specs.Content.{Content as ContentValue};
 ghost use Rattle.plan_store.specs.Changes.{Fits, after};
 ghost use Rattle.planner_machine.specs.Sound.{AreNumbered, IsSound};
 ghost use Rattle.plan_store.specs.Faults.{IsMildListing, MoreFailures};
-ghost use Rattle.plan_store.specs.Listings.{HandsAll, HandsPart, IsListing};
+ghost use Rattle.plan_store.specs.Listings.{EmitsAll, EmitsPart, IsListing};
 ghost use Rattle.plan_store.specs.Stores.{Applies, LendsRead, ReadsStore};
 ghost use Rattle.plan_store.specs.Views.{Shows};
 
 use crate::changes::Change;
-use crate::listings::{ListFault, RowSink, What};
+use crate::listings::{ItemSink, ListFault, What};
 use crate::views::View;
 use app_definitions::Definitions;
 use external_dependencies::Links;
@@ -117,7 +117,7 @@ pub trait PlanStore {
 
     /// Passes the sink what a listing shows, in its order, of one application or of all, and returns how many items
     /// the sink accepted. A fault leaves the sink with those before it.
-    fn rows_to<K: RowSink>(
+    fn rows_to<K: ItemSink>(
         &mut self,
         alloc: Global,
         what: What,
@@ -125,11 +125,11 @@ pub trait PlanStore {
         sink: &mut K,
     ) -> Result<usize, ListFault>
         ensures all { is_honest self.new → AreNumbered (content self.old).sets
-            → IfOk result (HandsAll K.takes (IsListing what (option_copied app.entry)
+            → IfOk result (EmitsAll K.accepts (IsListing what (option_copied app.entry)
             (content self.old)) sink.old sink.new) }
         ensures part { is_honest self.old → is_honest self.new ⊎ is_clean self.new
             → AreNumbered (content self.old).sets
-            → IfErr result (HandsPart K.takes K.refuses (IsListing what (option_copied app.entry)
+            → IfErr result (EmitsPart K.accepts K.refuses (IsListing what (option_copied app.entry)
             (content self.old)) sink.old sink.new) }
         ensures same { is_honest self.new → content self.new ≡ content self.old }
         ensures crash { (c : ContentValue) → may_leave self.new c → may_leave self.old c }

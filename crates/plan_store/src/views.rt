@@ -53,9 +53,9 @@ ghost use Rattle.plan_store_lists.specs.Rows.{AreRows, look_up, of_current, of_d
 ghost use Rattle.plan_store_lists.specs.Seats.{HasSeats};
 
 impl<'a> View<'a> {
-    ghost use Rattle.plan_store.specs.Views.{BehindAny, BehindPairs, BehindPart, IsAny, IsCurrentRow, IsDeletedKey};
+    ghost use Rattle.plan_store.specs.Views.{HoldsOfAny, HoldsOfPairs, HoldsOfPart, IsAny, IsCurrentRow, IsDeletedKey};
     ghost use Rattle.plan_store.specs.Views.{IsFoundAt, IsLastBefore, IsLiveRow, IsPlannedRow, ListsSet, ShowsLast};
-    ghost use Rattle.plan_store.specs.Views.{ShowsNearest, asks_completed, asks_pairs, asks_planned, cp_size, ltp_size};
+    ghost use Rattle.plan_store.specs.Views.{ShowsNearest, needs_completed, needs_pairs, needs_planned, cp_size, ltp_size};
     ghost use Rattle.plan_store.specs.Views.{row_serial, shown};
     ghost use Rattle.plan_store.specs.Spans.{IsNextPlanned};
 
@@ -88,8 +88,8 @@ impl<'a> View<'a> {
     }
 
     // Whether the serial is open, or is that of the live row of the key in the current plan.
-    fn asks_planned(&self, serial: Serial) -> bool
-        ensures { result ≡ asks_planned self.now.key.now (shown self.now).sets.ltp
+    fn needs_planned(&self, serial: Serial) -> bool
+        ensures { result ≡ needs_planned self.now.key.now (shown self.now).sets.ltp
             (shown self.now).sets.cp serial }
     {
         if of_serial(self.ltp, &self.content.seats, serial).is_some() {
@@ -102,8 +102,8 @@ impl<'a> View<'a> {
     }
 
     // Whether it is that of the live row of the key in history.
-    fn asks_completed(&self, serial: Serial) -> bool
-        ensures { result ≡ asks_completed self.now.key.now
+    fn needs_completed(&self, serial: Serial) -> bool
+        ensures { result ≡ needs_completed self.now.key.now
             (look_up row_serial self.now.history.now) serial }
     {
         match of_serial(self.history, &self.content.seats, serial) {
@@ -113,11 +113,11 @@ impl<'a> View<'a> {
     }
 
     // Whether the window shows pairs of the serial: it is open, or is that of the live row of the key.
-    fn asks_pairs(&self, serial: Serial) -> bool
-        ensures { result ≡ asks_pairs self.now.key.now (shown self.now).sets.ltp
+    fn needs_pairs(&self, serial: Serial) -> bool
+        ensures { result ≡ needs_pairs self.now.key.now (shown self.now).sets.ltp
             (shown self.now).sets.cp (look_up row_serial self.now.history.now) serial }
     {
-        self.asks_planned(serial) || self.asks_completed(serial)
+        self.needs_planned(serial) || self.needs_completed(serial)
     }
 
     /// The pairs of one successor, which is open or, in a window on a key, is its live row, in whatever set that is;
@@ -127,7 +127,7 @@ impl<'a> View<'a> {
         ensures all { (pair : PairValue) → Contains result.now pair
             ↔ (Contains (shown self.now).pairs pair × (pair.successor ≡ successor)) }
     {
-        if !self.asks_pairs(successor) {
+        if !self.needs_pairs(successor) {
             return &[];
         }
         self.asked_of(successor)
@@ -135,7 +135,7 @@ impl<'a> View<'a> {
 
     /// The pairs of one successor that is known to be open.
     pub fn pairs_of_open(&self, successor: Serial) -> &'a [Pair]
-        requires { asks_planned self.now.key.now (shown self.now).sets.ltp (shown self.now).sets.cp
+        requires { needs_planned self.now.key.now (shown self.now).sets.ltp (shown self.now).sets.cp
             successor ≡ true }
         ensures rising { IsRising pair_cmp result.now }
         ensures all { (pair : PairValue) → Contains result.now pair
@@ -146,7 +146,7 @@ impl<'a> View<'a> {
 
     // The pairs of one successor, which the window needs.
     fn asked_of(&self, successor: Serial) -> &'a [Pair]
-        requires { asks_pairs self.now.key.now (shown self.now).sets.ltp (shown self.now).sets.cp
+        requires { needs_pairs self.now.key.now (shown self.now).sets.ltp (shown self.now).sets.cp
             (look_up row_serial self.now.history.now) successor ≡ true }
         ensures rising { IsRising pair_cmp result.now }
         ensures all { (pair : PairValue) → Contains result.now pair
@@ -158,7 +158,7 @@ impl<'a> View<'a> {
     /// The predecessor of a pair that is shown, and its place: in a plan or in history.
     pub fn predecessor(&self, pair: &Pair) -> Option<PlacedRow>
         requires { Contains (shown self.now).pairs pair.now }
-        ensures { BehindPairs self.now (λ c. IsFoundAt c.sets pair.now.predecessor result) }
+        ensures { HoldsOfPairs self.now (λ c. IsFoundAt c.sets pair.now.predecessor result) }
     {
         let serial = pair.predecessor;
         if let Some(row) = of_serial(self.ltp, &self.content.seats, serial) {
@@ -183,7 +183,7 @@ impl<'a> View<'a> {
     /// The rows of the long-term plan.
     pub fn ltp(&self) -> &'a [Row]
         ensures rows { ListsSet of_row (shown self.now).sets.ltp IsAny result.now }
-        ensures count { BehindAny self.now (λ c. AreNumbered c.sets
+        ensures count { HoldsOfAny self.now (λ c. AreNumbered c.sets
             → length result.now ≡ size (shown self.now).sets.ltp (shown self.now).sets.issued) }
     {
         self.ltp
@@ -192,7 +192,7 @@ impl<'a> View<'a> {
     /// The rows of the current plan.
     pub fn cp(&self) -> &'a [CurrentRow]
         ensures rows { ListsSet of_current (shown self.now).sets.cp IsAny result.now }
-        ensures count { BehindAny self.now (λ c. AreNumbered c.sets
+        ensures count { HoldsOfAny self.now (λ c. AreNumbered c.sets
             → length result.now ≡ size (shown self.now).sets.cp (shown self.now).sets.issued) }
     {
         self.cp
@@ -278,7 +278,7 @@ impl<'a> View<'a> {
     /// The live occurrence that has the key, and its place, if the window shows the last one of its application up to
     /// it.
     pub fn live_row(&self, key: &Key) -> Option<PlacedRow>
-        ensures { BehindPart self.now (λ c. ShowsLast c self.now key.now.app (key.now.ia + 1)
+        ensures { HoldsOfPart self.now (λ c. ShowsLast c self.now key.now.app (key.now.ia + 1)
             → IsLiveRow c.sets key.now result) }
     {
         if let Some(row) = self.ltp_row(key) {
@@ -309,7 +309,7 @@ impl<'a> View<'a> {
 
     // The live occurrence of the application that arrives last before the minute.
     fn last_before(&self, app: &App, minute: u32) -> Option<Arrival>
-        ensures { BehindPart self.now (λ c. ShowsLast c self.now app.now minute
+        ensures { HoldsOfPart self.now (λ c. ShowsLast c self.now app.now minute
             → IsLastBefore c.sets app.now minute result) }
     {
         let ltp = last_of(before(of_app(self.ltp, app), minute));
@@ -321,7 +321,7 @@ impl<'a> View<'a> {
     /// Of the live occurrences of the key's application the one that arrives last before it, where the window shows
     /// that of history.
     pub fn previous(&self, key: &Key) -> Option<Arrival>
-        ensures { BehindPart self.now (λ c. ShowsLast c self.now key.now.app key.now.ia
+        ensures { HoldsOfPart self.now (λ c. ShowsLast c self.now key.now.app key.now.ia
             → IsLastBefore c.sets key.now.app key.now.ia result) }
     {
         self.last_before(&key.app, key.ia.number())
@@ -332,7 +332,7 @@ impl<'a> View<'a> {
     /// arrive before it count, and where there is a limit none that arrives more than so many hours before it. Of
     /// history those count that the window shows.
     pub fn nearest(&self, key: &Key, app: &App, within: Option<Within>) -> Option<Serial>
-        ensures { BehindPart self.now (λ c. ShowsNearest c self.now key.now app.now
+        ensures { HoldsOfPart self.now (λ c. ShowsNearest c self.now key.now app.now
             → IsNearestAnswer (LiveAt c.sets) key.now app.now within result) }
     {
         let arrival = key.ia.number();

@@ -21,7 +21,7 @@ use Rattle.external_dependencies.specs.declared.rows.PlacedRow.{PlacedRow}
 use Rattle.planner_machine.specs.declared.content.Bounds.{Bounds}
 use Rattle.planner_machine.specs.declared.limits.TheConstants.{MOST_PLANNED_ROWS}
 use Rattle.planner_machine.specs.Add.{AddRefused, Adds, IsLiveKey, IsOutside, add}
-use Rattle.planner_machine.specs.Content.{Content, Seat, Sets, StandsAt, alone, empty_seat, seat}
+use Rattle.planner_machine.specs.Content.{Content, Seat, Sets, IsOnlyAt, alone, empty_seat, seat}
 use Rattle.planner_machine.specs.DailyPlan.{waiting}
 use Rattle.planner_machine.specs.Drafts.{added}
 use Rattle.planner_machine.specs.Fate.{Stays}
@@ -78,14 +78,14 @@ module _ (place : Place) (key : Key) (c : Sets) (sound : RowsSound c) (b : Bound
   follows : Follows place Stays (added key ∷ []) c c'
   follows = made_follows place c sound (added key ∷ [])
 
-  new_stands : StandsAt c' (c.issued + 1) new
+  new_stands : IsOnlyAt c' (c.issued + 1) new
   new_stands =
       let same : c.issued + 1 + 0 ≡ c.issued + 1 = omega arith in
-      subst (λ n. StandsAt c' n (record { row = numbered_row n (added key); place = place })) same
+      subst (λ n. IsOnlyAt c' n (record { row = numbered_row n (added key); place = place })) same
       (follows.new 0 (added key) refl)
 
-  old_stands : (serial : ℕ) (p : PlacedRow) → StandsAt c serial p → StandsAt c' serial p
-  old_stands serial p there = let (q, same, at) = follows.old serial p there in subst (StandsAt c' serial) same at
+  old_stands : (serial : ℕ) (p : PlacedRow) → IsOnlyAt c serial p → IsOnlyAt c' serial p
+  old_stands serial p there = let (q, same, at) = follows.old serial p there in subst (IsOnlyAt c' serial) same at
 
   same_seat : (serial : ℕ) → serial ≢ c.issued + 1 → seat c' serial ≡ seat c serial
   same_seat serial other = elim (cases_issued c.issued serial) [
@@ -116,7 +116,7 @@ module _ (place : Place) (key : Key) (c : Sets) (sound : RowsSound c) (b : Bound
       → (if nat_eq (c.issued + 1) serial then part (alone row place) else part (seat c serial)) ≡ part (seat c' serial)
   part_after part serial = elim (nat_eq (c.issued + 1) serial) as (λ b. nat_eq (c.issued + 1) serial ≡ b
       → (if b then part (alone row place) else part (seat c serial)) ≡ part (seat c' serial)) [
-        | true ↦ λ e. ap part (sym (subst (λ n. StandsAt c' n new) (eqb-true _ _ e) new_stands))
+        | true ↦ λ e. ap part (sym (subst (λ n. IsOnlyAt c' n new) (eqb-true _ _ e) new_stands))
         | false ↦ λ e. ap part (sym (same_seat serial (λ same. eqb-false _ _ e (sym same))))
       ] refl
 
@@ -125,7 +125,7 @@ module _ (place : Place) (key : Key) (c : Sets) (sound : RowsSound c) (b : Bound
       → (serial : ℕ) → part (seat c serial) ≡ part (seat c' serial)
   part_same part none none' serial = elim (cases_eq serial (c.issued + 1)) [
     | inl here ↦ ap part (sound.unissued serial (inr (omega arith))) ∙ none' ∙ sym none
-        ∙ ap part (sym (subst (λ n. StandsAt c' n new) (sym here) new_stands))
+        ∙ ap part (sym (subst (λ n. IsOnlyAt c' n new) (sym here) new_stands))
     | inr other ↦ ap part (sym (same_seat serial other))
   ]
 

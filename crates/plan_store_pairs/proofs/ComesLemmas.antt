@@ -12,7 +12,7 @@ use Rattle.external_dependencies.specs.declared.change.PairChange.{PairChange}
 use Rattle.external_dependencies.specs.declared.live.Arrival.{Arrival}
 use Rattle.external_dependencies.specs.declared.pairs.Pair.{Pair}
 use Rattle.external_dependencies.specs.declared.rows.PlacedRow.{PlacedRow}
-use Rattle.planner_machine.specs.Content.{Content, Sets, StandsAt}
+use Rattle.planner_machine.specs.Content.{Content, Sets, IsOnlyAt}
 use Rattle.planner_machine.specs.Pairs.{ArePairs, IsKeptPair, IsOpenPair, LiveAt, pair_of}
 use Rattle.planner_machine.specs.Sound.{IsSound}
 use Rattle.planner_machine.proofs.SeatLemmas.{one_place}
@@ -39,7 +39,7 @@ module _ (c : Content) (sound : IsSound c) (once : AreNamedOnce c.in_force) (s' 
   itself = record { row = row; place = place }
 
   -- what stands live has another serial
-  open_apart : (n : ℕ) (p : PlacedRow) → StandsAt c.sets n p → IsOpen p.place → n ≢ row.serial
+  open_apart : (n : ℕ) (p : PlacedRow) → IsOnlyAt c.sets n p → IsOpen p.place → n ≢ row.serial
   open_apart n p stands opened = not_row c.sets s' row place more n p stands (open_is_live p.place opened)
 
   old_apart : (pair : Pair) → Contains c.pairs pair → pair.successor ≢ row.serial
@@ -84,21 +84,21 @@ module _ (c : Content) (sound : IsSound c) (once : AreNamedOnce c.in_force) (s' 
       x_apart : x.placed.row.serial ≢ row.serial
       x_apart = open_apart x.placed.row.serial x.placed over.reached.stands over.reached.waits
 
-      x_stands : StandsAt s' x.placed.row.serial x.placed
+      x_stands : IsOnlyAt s' x.placed.row.serial x.placed
       x_stands = (more.others x.placed.row.serial x_apart x.placed).0 over.reached.stands
 
       -- what it had there is its pair no more
       left_not_new : (pair : Pair) → IsPairIn c x.placed.row.serial row.key.app pair → IsNew pair → ⊥
       left_not_new pair at (inr kept) =
           let one : kept.placed ≡ x.placed = one_place s' x.placed.row.serial kept.placed x.placed
-          (subst (λ n. StandsAt s' n kept.placed) at.successor kept.stands) x_stands in
+          (subst (λ n. IsOnlyAt s' n kept.placed) at.successor kept.stands) x_stands in
           kept.waits_no_more (subst (λ (p : PlacedRow). IsOpen p.place) (sym one) over.reached.waits)
       left_not_new pair at (inl is) =
           let (near, nearest, serial) = pair_near c sound once row x over.reached pair at in
           let upto = over.latest near nearest.live nearest.candidate in
           let apart = other_moment c.sets s' row place more near nearest.live nearest.candidate.of_app in
           let one : is.placed ≡ x.placed = one_place s' x.placed.row.serial is.placed x.placed
-          (subst (λ n. StandsAt s' n is.placed) at.successor is.stands) x_stands in
+          (subst (λ n. IsOnlyAt s' n is.placed) at.successor is.stands) x_stands in
           let same : is.near ≡ near = one_arrival s' more.numbered is.near near is.nearest.live
           (live_up c.sets s' row place more near nearest.live) (is.predecessor ∙ sym serial) in
           let app : is.app ≡ row.key.app = sym is.nearest.candidate.of_app ∙ ap (λ (a : Arrival). a.app) same
@@ -139,7 +139,7 @@ module _ (c : Content) (sound : IsSound c) (once : AreNamedOnce c.in_force) (s' 
     own_new : (pair : Pair) → IsRowPair c.in_force c.sets row pair → IsOpenPair c.in_force s' pair
     own_new pair own = record {
       placed = itself;
-      stands = subst (λ n. StandsAt s' n itself) own.successor more.stands;
+      stands = subst (λ n. IsOnlyAt s' n itself) own.successor more.stands;
       waits = waits;
       app = own.app;
       within = own.within;
@@ -174,7 +174,7 @@ module _ (c : Content) (sound : IsSound c) (once : AreNamedOnce c.in_force) (s' 
       overtaken : IsOvertaken c row (of_open pair is)
       overtaken = record {
         reached = record {
-          stands = subst (λ n. StandsAt c.sets n is.placed) (sym number) is.stands;
+          stands = subst (λ n. IsOnlyAt c.sets n is.placed) (sym number) is.stands;
           waits = is.waits;
           listed = subst (λ a. ListsWithin c.in_force is.placed.row.key.app a is.within) of_app is.listed;
           may = subst (λ a. IsCandidate is.placed.row.key a is.within (arrival_of row)) of_app may;
@@ -193,7 +193,7 @@ module _ (c : Content) (sound : IsSound c) (once : AreNamedOnce c.in_force) (s' 
               stood = there;
               successor = sym number;
               placed = p;
-              stands = subst (λ n. StandsAt c.sets n p) is.predecessor stands;
+              stands = subst (λ n. IsOnlyAt c.sets n p) is.predecessor stands;
               of_app = ap (λ (a : Arrival). a.app) arrives ∙ is.nearest.candidate.of_app ∙ of_app;
             },
           )
@@ -218,7 +218,7 @@ module _ (c : Content) (sound : IsSound c) (once : AreNamedOnce c.in_force) (s' 
       row_pair : pair.successor ≡ row.serial → IsRowPair c.in_force c.sets row pair
       row_pair same =
           let one : is.placed ≡ itself = one_place s' row.serial is.placed itself
-          (subst (λ n. StandsAt s' n is.placed) same is.stands) more.stands in
+          (subst (λ n. IsOnlyAt s' n is.placed) same is.stands) more.stands in
           let nearest : IsNearest (LiveAt s') row.key is.app is.within is.near =
           subst (λ (q : PlacedRow). IsNearest (LiveAt s') q.row.key is.app is.within is.near) one is.nearest in
           record {
@@ -237,7 +237,7 @@ module _ (c : Content) (sound : IsSound c) (once : AreNamedOnce c.in_force) (s' 
           }
 
       module _ (apart : pair.successor ≢ row.serial) where
-        stood : StandsAt c.sets pair.successor is.placed
+        stood : IsOnlyAt c.sets pair.successor is.placed
         stood = (more.others pair.successor apart is.placed).1 is.stands
 
         same_pair : LiveAt c.sets is.near → IsOpenPair c.in_force c.sets pair
@@ -266,7 +266,7 @@ module _ (c : Content) (sound : IsSound c) (once : AreNamedOnce c.in_force) (s' 
             sym is.predecessor ∙ ap (λ (a : Arrival). a.serial) itself' in (
               record {
                 reached = record {
-                  stands = subst (λ n. StandsAt c.sets n is.placed) (sym number) stood;
+                  stands = subst (λ n. IsOnlyAt c.sets n is.placed) (sym number) stood;
                   waits = is.waits;
                   listed = subst (λ a. ListsWithin c.in_force is.placed.row.key.app a is.within) of_app is.listed;
                   may = subst (λ a. IsCandidate is.placed.row.key a is.within (arrival_of row)) of_app

@@ -13,12 +13,12 @@ use Rattle.external_dependencies.specs.Nearest.{arrival_of}
 use Rattle.external_dependencies.specs.declared.links.Link.{Link}
 use Rattle.external_dependencies.specs.declared.live.Arrival.{Arrival}
 use Rattle.external_dependencies.specs.declared.rows.PlacedRow.{PlacedRow}
-use Rattle.planner_machine.specs.Content.{Content, Seat, Sets, StandsAt, alone}
+use Rattle.planner_machine.specs.Content.{Content, Seat, Sets, IsOnlyAt, alone}
 use Rattle.planner_machine.specs.Pairs.{LiveAt}
 use Rattle.planner_machine.specs.Sound.{AreNumbered}
 use Rattle.plan_store_lists.specs.Rows.{of_current, of_row}
 use Rattle.external_dependencies.specs.Touch.{IsWithin}
-use Rattle.plan_store.specs.Asked.{IsPlannedAt}
+use Rattle.plan_store.specs.HistoryReads.{IsPlannedAt}
 use Rattle.plan_store.specs.Slices.{HaveOneApp}
 use Rattle.plan_store.specs.Spans.{IsNextPlanned}
 use Rattle.plan_store.specs.Views.{ListsSet}
@@ -88,7 +88,7 @@ module _ (s : Sets) (numbered : AreNumbered s) (app : List ℕ) (first : ℕ) (l
     ];
   }
 
-  held : (row : Row) (place : Place) → StandsAt s row.serial (record { row = row; place = place }) → IsOpen place
+  held : (row : Row) (place : Place) → IsOnlyAt s row.serial (record { row = row; place = place }) → IsOpen place
       → ArrivesBetween app first last row → Contains new (record { row = row; place = place })
   held row LongTerm stands waits arrives =
       let p : PlacedRow = record { row = row; place = LongTerm } in
@@ -203,7 +203,7 @@ by_rows s row last link rows adds holds x = (forward, backward)
           | inl before ↦ absurd (none p before)
           | inr is ↦ is
         ] in
-        let stands : StandsAt s p.row.serial p = elim (adds.adds.come p there) [
+        let stands : IsOnlyAt s p.row.serial p = elim (adds.adds.come p there) [
           | inl before ↦ absurd (none p before)
           | inr live ↦ live.0
         ] in

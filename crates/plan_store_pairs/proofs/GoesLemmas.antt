@@ -13,12 +13,12 @@ use Rattle.external_dependencies.specs.declared.change.PairChange.{PairChange}
 use Rattle.external_dependencies.specs.declared.live.Arrival.{Arrival}
 use Rattle.external_dependencies.specs.declared.pairs.Pair.{Pair}
 use Rattle.external_dependencies.specs.declared.rows.PlacedRow.{PlacedRow}
-use Rattle.planner_machine.specs.Content.{Content, Sets, StandsAt}
+use Rattle.planner_machine.specs.Content.{Content, Sets, IsOnlyAt}
 use Rattle.planner_machine.specs.Pairs.{ArePairs, IsKeptPair, IsOpenPair, LiveAt, pair_of}
 use Rattle.planner_machine.specs.Sound.{IsSound}
 use Rattle.planner_machine.proofs.SeatLemmas.{one_place}
 use Rattle.plan_store.specs.Changes.{LeadsOn, pairs_after}
-use Rattle.plan_store.specs.Views.{IsLast, IsLastBefore, asked_pairs, asks_pairs}
+use Rattle.plan_store.specs.Views.{IsLast, IsLastBefore, needed_pairs, needs_pairs}
 use Rattle.plan_store_pairs.specs.Additions.{IsPairIn}
 use Rattle.plan_store_pairs.specs.Gathering.{AddsEach, AreReached, IsReached}
 use Rattle.plan_store_pairs.specs.Withdrawals.{IsBackPair, IsBehind, IsLostPair, LosesRow, TurnsFrom}
@@ -100,11 +100,11 @@ module _ (c : Content) (sound : IsSound c) (once : AreNamedOnce c.in_force) (s' 
     x_apart : x.placed.row.serial ≢ row.serial
     x_apart same =
         let one : x.placed ≡ itself = one_place c.sets row.serial x.placed itself
-        (subst (λ n. StandsAt c.sets n x.placed) same reached.stands) more.stands in
+        (subst (λ n. IsOnlyAt c.sets n x.placed) same reached.stands) more.stands in
         not_itself row row.key.app x.within
         (subst (λ (q : PlacedRow). IsCandidate q.row.key row.key.app x.within (arrival_of row)) one reached.may)
 
-    x_stands : StandsAt s' x.placed.row.serial x.placed
+    x_stands : IsOnlyAt s' x.placed.row.serial x.placed
     x_stands = (more.others x.placed.row.serial x_apart x.placed).1 reached.stands
 
     -- so the row is its nearest
@@ -164,7 +164,7 @@ module _ (c : Content) (sound : IsSound c) (once : AreNamedOnce c.in_force) (s' 
           → IsOpenPair c.in_force s' pair
       back_new pair successor predecessor = record {
         placed = x.placed;
-        stands = subst (λ n. StandsAt s' n x.placed) (sym successor) x_stands;
+        stands = subst (λ n. IsOnlyAt s' n x.placed) (sym successor) x_stands;
         waits = reached.waits;
         app = row.key.app;
         within = x.within;
@@ -182,7 +182,7 @@ module _ (c : Content) (sound : IsSound c) (once : AreNamedOnce c.in_force) (s' 
             stood = there;
             successor = successor;
             placed = p;
-            stands = subst (λ n. StandsAt c.sets n p) predecessor stands;
+            stands = subst (λ n. IsOnlyAt c.sets n p) predecessor stands;
             of_app = ap (λ (a : Arrival). a.app) arrives ∙ last.of_app;
           } in
           let (other, nearest, serial) = pair_near c sound once row x reached pair at in
@@ -218,7 +218,7 @@ module _ (c : Content) (sound : IsSound c) (once : AreNamedOnce c.in_force) (s' 
         let of_app : is.app ≡ row.key.app = sym is.nearest.candidate.of_app ∙ ap (λ (a : Arrival). a.app) near in
         let number = sound.serials.numbered pair.successor is.placed is.stands in
         record {
-          stands = subst (λ n. StandsAt c.sets n is.placed) (sym number) is.stands;
+          stands = subst (λ n. IsOnlyAt c.sets n is.placed) (sym number) is.stands;
           waits = is.waits;
           listed = subst (λ a. ListsWithin c.in_force is.placed.row.key.app a is.within) of_app is.listed;
           may = subst (λ a. IsCandidate is.placed.row.key a is.within (arrival_of row)) of_app
@@ -247,7 +247,7 @@ module _ (c : Content) (sound : IsSound c) (once : AreNamedOnce c.in_force) (s' 
       new_apart : pair.successor ≢ row.serial
       new_apart same = own_not_new pair same (inl is)
 
-      new_stood : StandsAt c.sets pair.successor is.placed
+      new_stood : IsOnlyAt c.sets pair.successor is.placed
       new_stood = (more.others pair.successor new_apart is.placed).0 is.stands
 
       -- a pair whose nearest was so before
@@ -276,7 +276,7 @@ module _ (c : Content) (sound : IsSound c) (once : AreNamedOnce c.in_force) (s' 
 
         back_reached : IsReached c row x
         back_reached = record {
-          stands = subst (λ n. StandsAt c.sets n is.placed) (sym number) new_stood;
+          stands = subst (λ n. IsOnlyAt c.sets n is.placed) (sym number) new_stood;
           waits = is.waits;
           listed = subst (λ a. ListsWithin c.in_force is.placed.row.key.app a is.within) of_app is.listed;
           may = subst (λ a. IsCandidate is.placed.row.key a is.within (arrival_of row)) of_app may;
@@ -341,7 +341,7 @@ module _ (c : Content) (sound : IsSound c) (once : AreNamedOnce c.in_force) (s' 
 -- what a withdrawal does with all that is found makes these turns
 module _ (c : Content) (sound : IsSound c) (row : Row) (place : Place) (s' : Sets)
     (more : HasOneMore s' c.sets row place) (before : Option Arrival) (shown : List Pair)
-    (is : shown ≡ asked_pairs (Some row.key) c.sets.ltp c.sets.cp c.sets.history c.pairs)
+    (is : shown ≡ needed_pairs (Some row.key) c.sets.ltp c.sets.cp c.sets.history c.pairs)
     (found : List Reached) (are : AreReached c row found) where
   was_shown : (pair : Pair) → Contains shown pair → Contains c.pairs pair
   was_shown = shown_stood (Some row.key) c.sets shown c.pairs is
@@ -353,7 +353,7 @@ module _ (c : Content) (sound : IsSound c) (row : Row) (place : Place) (s' : Set
 
   of_row : (pair : Pair) → Contains c.pairs pair → pair.successor ≡ row.serial → Contains shown pair
   of_row pair there same = asked_shown (Some row.key) c.sets shown c.pairs is pair there
-      (subst (λ n. asks_pairs (Some row.key) c.sets.ltp c.sets.cp c.sets.history n ≡ true) (sym same)
+      (subst (λ n. needs_pairs (Some row.key) c.sets.ltp c.sets.cp c.sets.history n ≡ true) (sym same)
       (asked_live c.sets row place more.stands more.lives))
 
   -- what has a pair with the row is found
@@ -420,8 +420,8 @@ module _ (c : Content) (sound : IsSound c) (row : Row) (place : Place) (s' : Set
 
 -- a row that lives no more lived before besides the others
 module _ (c : Content) (sound : IsSound c) (s' : Sets) (row : Row) (loses : LosesRow c.sets s' row) where
-  pub lost_stands : StandsAt c.sets row.serial (record { row = row; place = loses.placed.place })
-  lost_stands = subst (λ (r : Row). StandsAt c.sets row.serial (record { row = r; place = loses.placed.place }))
+  pub lost_stands : IsOnlyAt c.sets row.serial (record { row = row; place = loses.placed.place })
+  lost_stands = subst (λ (r : Row). IsOnlyAt c.sets row.serial (record { row = r; place = loses.placed.place }))
       loses.of_row loses.stood
 
   pub lost_more : HasOneMore s' c.sets row loses.placed.place

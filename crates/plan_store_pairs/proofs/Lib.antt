@@ -1,5 +1,5 @@
 pub mod AdditionLemmas
-pub mod AskedLemmas
+pub mod ReadLemmas
 pub mod ChangeLemmas
 mod EachLemmas
 mod GatherLemmas

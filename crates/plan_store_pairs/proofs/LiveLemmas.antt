@@ -7,7 +7,7 @@ use Rattle.occurrences.specs.declared.place.Place.{Place}
 use Rattle.occurrences.specs.declared.place.Place.TheVariants.{LongTerm, Current, History, Deleted}
 use Rattle.occurrences.specs.declared.status.Status.TheVariants.{W, S, E, C, D}
 use Rattle.external_dependencies.specs.declared.rows.PlacedRow.{PlacedRow}
-use Rattle.planner_machine.specs.Content.{Sets, StandsAt}
+use Rattle.planner_machine.specs.Content.{Sets, IsOnlyAt}
 use Rattle.planner_machine.specs.Sound.{AreNumbered}
 use Rattle.planner_machine.proofs.SeatLemmas.{cases_issued, not_empty, one_place}
 use Rattle.plan_store_pairs.specs.LiveRows.{AreLiveRows}
@@ -26,9 +26,9 @@ cases_live (Deleted reason) = inr (λ live. live)
 module _ (s : Sets) (numbered : AreNumbered s) where
   -- the list has exactly the live occurrences of the serials up to a number
   record AreLiveUpTo (count : ℕ) (rows : List PlacedRow) : Type 0 where
-    all : (serial : ℕ) (p : PlacedRow) → 1 ≤ serial → serial ≤ count → StandsAt s serial p → IsLive p.place
+    all : (serial : ℕ) (p : PlacedRow) → 1 ≤ serial → serial ≤ count → IsOnlyAt s serial p → IsLive p.place
         → Contains rows p
-    only : (p : PlacedRow) → Contains rows p → StandsAt s p.row.serial p × IsLive p.place
+    only : (p : PlacedRow) → Contains rows p → IsOnlyAt s p.row.serial p × IsLive p.place
 
   live_up_to : (count : ℕ) → count ≤ s.issued → (rows : List PlacedRow) × AreLiveUpTo count rows
   live_up_to zero le = (
@@ -40,7 +40,7 @@ module _ (s : Sets) (numbered : AreNumbered s) where
   )
   live_up_to (suc count) le = by_place (numbered.placed (suc count) (omega arith) le) (live_up_to count (omega arith))
     where
-      by_place : (p : PlacedRow) × StandsAt s (suc count) p → (rows : List PlacedRow) × AreLiveUpTo count rows
+      by_place : (p : PlacedRow) × IsOnlyAt s (suc count) p → (rows : List PlacedRow) × AreLiveUpTo count rows
           → (rows : List PlacedRow) × AreLiveUpTo (suc count) rows
       by_place (p, stands) (rows, are) = elim (cases_live p.place) [
         | inl live ↦ (
@@ -48,12 +48,12 @@ module _ (s : Sets) (numbered : AreNumbered s) where
           record {
             all = λ serial q above below at alive. elim (cases_eq serial (suc count)) [
               | inl last ↦ subst (Contains (p ∷ rows))
-                  (one_place s (suc count) p q stands (subst (λ n. StandsAt s n q) last at)) (here p rows)
+                  (one_place s (suc count) p q stands (subst (λ n. IsOnlyAt s n q) last at)) (here p rows)
               | inr other ↦ further p q rows (are.all serial q above (omega arith) at alive)
             ];
             only = λ q there. elim (first_or_later p q rows there) [
-              | inl same ↦ subst (λ (x : PlacedRow). StandsAt s x.row.serial x × IsLive x.place) same
-                  (subst (λ n. StandsAt s n p) (sym (numbered.numbered (suc count) p stands)) stands, live)
+              | inl same ↦ subst (λ (x : PlacedRow). IsOnlyAt s x.row.serial x × IsLive x.place) same
+                  (subst (λ n. IsOnlyAt s n p) (sym (numbered.numbered (suc count) p stands)) stands, live)
               | inr later ↦ are.only q later
             ];
           },
@@ -63,7 +63,7 @@ module _ (s : Sets) (numbered : AreNumbered s) where
           record {
             all = λ serial q above below at alive. elim (cases_eq serial (suc count)) [
               | inl last ↦ absurd (dead (subst (λ (x : PlacedRow). IsLive x.place)
-                  (one_place s (suc count) q p (subst (λ n. StandsAt s n q) last at) stands) alive))
+                  (one_place s (suc count) q p (subst (λ n. IsOnlyAt s n q) last at) stands) alive))
               | inr other ↦ are.all serial q above (omega arith) at alive
             ];
             only = are.only;

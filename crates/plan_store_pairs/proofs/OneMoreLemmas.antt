@@ -15,7 +15,7 @@ use Rattle.external_dependencies.specs.declared.links.Link.{Link}
 use Rattle.external_dependencies.specs.declared.live.Arrival.{Arrival}
 use Rattle.external_dependencies.specs.declared.pairs.Pair.{Pair}
 use Rattle.external_dependencies.specs.declared.rows.PlacedRow.{PlacedRow}
-use Rattle.planner_machine.specs.Content.{Sets, StandsAt}
+use Rattle.planner_machine.specs.Content.{Sets, IsOnlyAt}
 use Rattle.planner_machine.specs.Pairs.{ArePairs, IsKeptPair, IsOpenPair, LiveAt}
 use Rattle.planner_machine.proofs.SeatLemmas.{one_place}
 use Rattle.plan_store.specs.Changes.{LeadsOn, pairs_after}
@@ -24,12 +24,12 @@ use Rattle.plan_store_pairs.proofs.TouchLemmas.{led_on}
 
 -- the second sets have the row besides, which lives there, and no other live occurrence has its key
 pub record HasOneMore (small big : Sets) (row : Row) (place : Place) : Type 0 where
-  pub stands : StandsAt big row.serial (record { row = row; place = place })
+  pub stands : IsOnlyAt big row.serial (record { row = row; place = place })
   pub lives : IsLive place
-  pub absent : (p : PlacedRow) → StandsAt small row.serial p → IsLive p.place → ⊥
-  pub others : (serial : ℕ) → serial ≢ row.serial → (p : PlacedRow) → StandsAt small serial p ↔ StandsAt big serial p
-  pub numbered : (serial : ℕ) (p : PlacedRow) → StandsAt big serial p → p.row.serial ≡ serial
-  pub own_key : (serial : ℕ) (p : PlacedRow) → StandsAt big serial p → IsLive p.place → p.row.key ≡ row.key
+  pub absent : (p : PlacedRow) → IsOnlyAt small row.serial p → IsLive p.place → ⊥
+  pub others : (serial : ℕ) → serial ≢ row.serial → (p : PlacedRow) → IsOnlyAt small serial p ↔ IsOnlyAt big serial p
+  pub numbered : (serial : ℕ) (p : PlacedRow) → IsOnlyAt big serial p → p.row.serial ≡ serial
+  pub own_key : (serial : ℕ) (p : PlacedRow) → IsOnlyAt big serial p → IsLive p.place → p.row.key ≡ row.key
       → serial ≡ row.serial
 
 -- an occurrence doesn't precede itself
@@ -37,20 +37,20 @@ pub not_itself : (row : Row) (app : List ℕ) (within : Option ℕ) → IsCandid
 not_itself row app within may = let lt = may.before_own (sym may.of_app) in omega (arith, lt)
 
 -- what lives stands under its serial
-pub live_stands : (s : Sets) → ((serial : ℕ) (p : PlacedRow) → StandsAt s serial p → p.row.serial ≡ serial)
+pub live_stands : (s : Sets) → ((serial : ℕ) (p : PlacedRow) → IsOnlyAt s serial p → p.row.serial ≡ serial)
     → (a : Arrival) → LiveAt s a
-    → (p : PlacedRow) × StandsAt s a.serial p × IsLive p.place × (arrival_of p.row ≡ a)
+    → (p : PlacedRow) × IsOnlyAt s a.serial p × IsLive p.place × (arrival_of p.row ≡ a)
 live_stands s numbered a (n, p, stands, live, arrives) =
     let number : n ≡ a.serial = sym (numbered n p stands) ∙ ap (λ (b : Arrival). b.serial) arrives in
-    (p, subst (λ m. StandsAt s m p) number stands, live, arrives)
+    (p, subst (λ m. IsOnlyAt s m p) number stands, live, arrives)
 
 -- and is told by its serial
-pub one_arrival : (s : Sets) → ((serial : ℕ) (p : PlacedRow) → StandsAt s serial p → p.row.serial ≡ serial)
+pub one_arrival : (s : Sets) → ((serial : ℕ) (p : PlacedRow) → IsOnlyAt s serial p → p.row.serial ≡ serial)
     → (a b : Arrival) → LiveAt s a → LiveAt s b → a.serial ≡ b.serial → a ≡ b
 one_arrival s numbered a b live_a live_b same =
     let (p, at_p, _, is_a) = live_stands s numbered a live_a in
     let (q, at_q, _, is_b) = live_stands s numbered b live_b in
-    let one : p ≡ q = one_place s b.serial p q (subst (λ n. StandsAt s n p) same at_p) at_q in
+    let one : p ≡ q = one_place s b.serial p q (subst (λ n. IsOnlyAt s n p) same at_p) at_q in
     sym is_a ∙ ap (λ (x : PlacedRow). arrival_of x.row) one ∙ is_b
 
 module _ (small big : Sets) (row : Row) (place : Place) (more : HasOneMore small big row place) where
@@ -60,8 +60,8 @@ module _ (small big : Sets) (row : Row) (place : Place) (more : HasOneMore small
   pub live_row : LiveAt big (arrival_of row)
   live_row = (row.serial, itself, more.stands, more.lives, refl)
 
-  pub not_row : (serial : ℕ) (p : PlacedRow) → StandsAt small serial p → IsLive p.place → serial ≢ row.serial
-  not_row serial p stands live same = more.absent p (subst (λ n. StandsAt small n p) same stands) live
+  pub not_row : (serial : ℕ) (p : PlacedRow) → IsOnlyAt small serial p → IsLive p.place → serial ≢ row.serial
+  not_row serial p stands live same = more.absent p (subst (λ n. IsOnlyAt small n p) same stands) live
 
   pub live_up : (a : Arrival) → LiveAt small a → LiveAt big a
   live_up a (n, p, stands, live, arrives) =
@@ -70,7 +70,7 @@ module _ (small big : Sets) (row : Row) (place : Place) (more : HasOneMore small
   pub live_down : (a : Arrival) → LiveAt big a → LiveAt small a ⊎ (a ≡ arrival_of row)
   live_down a (n, p, stands, live, arrives) = elim (cases_eq n row.serial) [
     | inl same ↦
-        let one : p ≡ itself = one_place big row.serial p itself (subst (λ m. StandsAt big m p) same stands)
+        let one : p ≡ itself = one_place big row.serial p itself (subst (λ m. IsOnlyAt big m p) same stands)
         more.stands in
         inr (sym arrives ∙ ap (λ (q : PlacedRow). arrival_of q.row) one)
     | inr other ↦ inl (n, p, (more.others n other p).1 stands, live, arrives)

@@ -11,7 +11,7 @@ use Rattle.external_dependencies.specs.declared.links.Link.{Link}
 use Rattle.external_dependencies.specs.declared.live.Arrival.{Arrival}
 use Rattle.external_dependencies.specs.declared.pairs.Pair.{Pair}
 use Rattle.external_dependencies.specs.declared.rows.PlacedRow.{PlacedRow}
-use Rattle.planner_machine.specs.Content.{Content, Seat, Sets, StandsAt, alone, seat}
+use Rattle.planner_machine.specs.Content.{Content, Seat, Sets, IsOnlyAt, alone, seat}
 use Rattle.planner_machine.specs.Pairs.{IsOpenPair, LiveAt, pair_of}
 use Rattle.planner_machine.specs.Sound.{IsSound}
 use Rattle.planner_machine.proofs.SeatLemmas.{one_place}
@@ -30,7 +30,7 @@ live_outside History live = tt
 live_outside (Deleted reason) live = absurd live
 
 -- what stands outside the deletions is found
-pub outside_none : (s : Sets) (serial : ℕ) → IsOutside s serial → (p : PlacedRow) → StandsAt s serial p
+pub outside_none : (s : Sets) (serial : ℕ) → IsOutside s serial → (p : PlacedRow) → IsOnlyAt s serial p
     → IsOutsideDeletions p.place → ⊥
 outside_none s serial none p stands outside = by_place p.place p.row stands outside
   where
@@ -45,13 +45,13 @@ outside_none s serial none p stands outside = by_place p.place p.row stands outs
 
 module _ (c : Content) (sound : IsSound c) where
   -- a pair of what is open is one with its nearest predecessor
-  pub open_pair : (p : PlacedRow) → StandsAt c.sets p.row.serial p → IsOpen p.place → (pair : Pair)
+  pub open_pair : (p : PlacedRow) → IsOnlyAt c.sets p.row.serial p → IsOpen p.place → (pair : Pair)
       → Contains c.pairs pair → pair.successor ≡ p.row.serial → IsOpenPair c.in_force c.sets pair
   open_pair p stands waits pair there same = elim ((sound.pairs.settled.exactly pair).0 there) [
     | inl is ↦ is
     | inr kept ↦
         let one : kept.placed ≡ p = one_place c.sets p.row.serial kept.placed p
-        (subst (λ n. StandsAt c.sets n kept.placed) same kept.stands) stands in
+        (subst (λ n. IsOnlyAt c.sets n kept.placed) same kept.stands) stands in
         absurd (kept.waits_no_more (subst (λ (x : PlacedRow). IsOpen x.place) (sym one) waits))
   ]
 
@@ -71,10 +71,10 @@ module _ (c : Content) (sound : IsSound c) where
     pair_near pair at =
         let opened = open_pair x.placed is.stands is.waits pair at.stood at.successor in
         let one : opened.placed ≡ x.placed = one_place c.sets x.placed.row.serial opened.placed x.placed
-        (subst (λ n. StandsAt c.sets n opened.placed) at.successor opened.stands) is.stands in
+        (subst (λ n. IsOnlyAt c.sets n opened.placed) at.successor opened.stands) is.stands in
         let (p, stands, live, arrives) = live_stands c.sets sound.serials.numbered opened.near opened.nearest.live in
         let same : p ≡ at.placed = one_place c.sets pair.predecessor p at.placed
-        (subst (λ n. StandsAt c.sets n p) opened.predecessor stands) at.stands in
+        (subst (λ n. IsOnlyAt c.sets n p) opened.predecessor stands) at.stands in
         let app : opened.app ≡ row.key.app = sym opened.nearest.candidate.of_app
         ∙ sym (ap (λ (a : Arrival). a.app) arrives) ∙ ap (λ (q : PlacedRow). q.row.key.app) same ∙ at.of_app in
         let listed : ListsWithin c.in_force x.placed.row.key.app row.key.app opened.within =
@@ -121,7 +121,7 @@ module _ (c : Content) (sound : IsSound c) where
         let (near, nearest, serial) = pair_near pair at in
         let (p, stands, live, arrives) = live_stands c.sets sound.serials.numbered near nearest.live in
         let same : p ≡ at.placed = one_place c.sets pair.predecessor p at.placed
-        (subst (λ n. StandsAt c.sets n p) serial stands) at.stands in
+        (subst (λ n. IsOnlyAt c.sets n p) serial stands) at.stands in
         subst (IsNearest (LiveAt c.sets) x.placed.row.key row.key.app x.within)
         (sym arrives ∙ ap (λ (q : PlacedRow). arrival_of q.row) same) nearest
 
@@ -130,7 +130,7 @@ module _ (c : Content) (sound : IsSound c) where
         let (near, nearest, serial) = pair_near pair at in
         let (p, stands, live, arrives) = live_stands c.sets sound.serials.numbered near nearest.live in
         let same : p ≡ at.placed = one_place c.sets pair.predecessor p at.placed
-        (subst (λ n. StandsAt c.sets n p) serial stands) at.stands in
+        (subst (λ n. IsOnlyAt c.sets n p) serial stands) at.stands in
         subst (λ (q : PlacedRow). IsLive q.place) same live
 
     -- there is one such pair

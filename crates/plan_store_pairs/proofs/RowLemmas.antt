@@ -11,7 +11,7 @@ use Rattle.occurrences.specs.declared.row.Row.{Row}
 use Rattle.occurrences.specs.declared.status.Status.{Status}
 use Rattle.occurrences.specs.declared.status.Status.TheVariants.{W, S, E, C, D}
 use Rattle.external_dependencies.specs.declared.rows.PlacedRow.{PlacedRow}
-use Rattle.planner_machine.specs.Content.{Seat, Sets, StandsAt, alone}
+use Rattle.planner_machine.specs.Content.{Seat, Sets, IsOnlyAt, alone}
 use Rattle.planner_machine.proofs.ActionLemmas.{stands_in_cp}
 use Rattle.planner_machine.proofs.DeleteLemmas.{stands_in_ltp}
 use Rattle.planner_machine.specs.RowsSound.{RowsSound}
@@ -135,7 +135,7 @@ history_place row History done is = let same : row ≡ done = cc in ap (λ r. al
 history_place row (Deleted reason) done is = cc
 
 stands_in_history : (c : Sets) → RowsSound c → (serial : ℕ) (row : Row) → c.history serial ≡ Some row
-    → StandsAt c serial (record { row = row; place = History })
+    → IsOnlyAt c serial (record { row = row; place = History })
 stands_in_history c sound serial row is = elim (cases_issued c.issued serial) [
   | inl within ↦
       let (p, there) = sound.placed serial within.0 within.1 in
@@ -147,7 +147,7 @@ stands_in_history c sound serial row is = elim (cases_issued c.issued serial) [
 module _ (s : Sets) (planned : List Row) (cp : List CurrentRow) (history : List Row)
     (has : HasLists s planned cp history) (r1 r2 r3 : List PlacedRow) (a1 : AddsRows planned LongTerm [] r1)
     (a2 : AddsCurrent cp r1 r2) (a3 : AddsRows history History r2 r3) where
-  all_live : (serial : ℕ) (row : Row) (place : Place) → StandsAt s serial (record { row = row; place = place })
+  all_live : (serial : ℕ) (row : Row) (place : Place) → IsOnlyAt s serial (record { row = row; place = place })
       → IsLive place → Contains r3 (record { row = row; place = place }) × (row.serial ≡ serial)
   all_live serial row LongTerm stands live =
       let p : PlacedRow = record { row = row; place = LongTerm } in
@@ -174,7 +174,7 @@ module _ (s : Sets) (planned : List Row) (cp : List CurrentRow) (history : List 
       ((a3 p).1 (inr ((has.history row).1 there, refl)), numbered)
   all_live serial row (Deleted reason) stands live = absurd live
 
-  only_live : (p : PlacedRow) → Contains r3 p → StandsAt s p.row.serial p × IsLive p.place
+  only_live : (p : PlacedRow) → Contains r3 p → IsOnlyAt s p.row.serial p × IsLive p.place
   only_live p there = elim ((a3 p).0 there) [
     | inr done ↦ (
       stands_in_history s has.sound p.row.serial p.row ((has.history p.row).0 done.0)

@@ -14,7 +14,7 @@ use Rattle.external_dependencies.specs.declared.links.Link.{Link}
 use Rattle.external_dependencies.specs.declared.live.Arrival.{Arrival}
 use Rattle.external_dependencies.specs.declared.pairs.Pair.{Pair}
 use Rattle.external_dependencies.specs.declared.rows.PlacedRow.{PlacedRow}
-use Rattle.planner_machine.specs.Content.{Sets, StandsAt}
+use Rattle.planner_machine.specs.Content.{Sets, IsOnlyAt}
 use Rattle.planner_machine.specs.Pairs.{IsKeptPair, IsOpenPair, LiveAt}
 use Rattle.plan_store_pairs.specs.LiveRows.{AreLiveRows, HasPairsAfter}
 use Rattle.plan_store_pairs.proofs.ListLemmas.{none}
@@ -137,7 +137,7 @@ module _ (s : Sets) (rows : List PlacedRow) (are : AreLiveRows s rows) where
       forward pair there = elim ((so_far pair).0 there) [
         | inl is ↦ inl (record {
           placed = is.placed;
-          stands = subst (λ n. StandsAt s n is.placed) is.successor (are.only is.placed is.stands).0;
+          stands = subst (λ n. IsOnlyAt s n is.placed) is.successor (are.only is.placed is.stands).0;
           waits = is.waits;
           app = is.app;
           within = is.within;
@@ -149,7 +149,7 @@ module _ (s : Sets) (rows : List PlacedRow) (are : AreLiveRows s rows) where
         })
         | inr held ↦ inr (record {
           placed = held.placed;
-          stands = subst (λ n. StandsAt s n held.placed) held.successor (are.only held.placed held.stands).0;
+          stands = subst (λ n. IsOnlyAt s n held.placed) held.successor (are.only held.placed held.stands).0;
           live = (are.only held.placed held.stands).1;
           waits_no_more = held.closed;
           had = held.had;

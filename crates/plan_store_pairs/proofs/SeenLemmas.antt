@@ -21,7 +21,7 @@ use Rattle.external_dependencies.specs.declared.live.Arrival.{Arrival}
 use Rattle.external_dependencies.specs.declared.pairs.Pair.{Pair}
 use Rattle.external_dependencies.specs.declared.rows.PlacedRow.{PlacedRow}
 use Rattle.external_dependencies.specs.declared.touch.Touch.{Touch}
-use Rattle.planner_machine.specs.Content.{Content, Seat, Sets, StandsAt}
+use Rattle.planner_machine.specs.Content.{Content, Seat, Sets, IsOnlyAt}
 use Rattle.planner_machine.specs.DailyPlan.{waiting}
 use Rattle.planner_machine.specs.RowsSound.{IsPlacedIn, RowsSound}
 use Rattle.planner_machine.specs.Sound.{AreNumbered, IsSound}
@@ -29,8 +29,8 @@ use Rattle.planner_machine.specs.declared.content.Bounds.{Bounds}
 use Rattle.planner_machine.proofs.SeatLemmas.{cases_issued, not_empty, one_place}
 use Rattle.planner_machine.proofs.SoundLemmas.{rows_sound}
 use Rattle.plan_store_lists.specs.Rows.{of_current, of_row}
-use Rattle.plan_store.specs.Asked.{AsksPlan, IsNoLater, ListsEither}
-use Rattle.plan_store.specs.Views.{Hidden, IsAny, ListsSet, Sees, asks_pairs, shown, with_hidden}
+use Rattle.plan_store.specs.HistoryReads.{ReadsPlan, IsNoLater, ListsEither}
+use Rattle.plan_store.specs.Views.{Hidden, IsAny, ListsSet, Sees, needs_pairs, shown, with_hidden}
 use Rattle.plan_store.specs.declared.views.View.{View}
 use Rattle.plan_store.proofs.PlaceLemmas.{stands_cp, stands_history}
 use Rattle.plan_store_pairs.specs.LiveRows.{AreCompleted, AreLiveRows}
@@ -213,7 +213,7 @@ before_end (Some b) row placed = (b, refl, placed.1)
 -- from the content that a window of the long-term plan shows with what it hides, to the sets after a statement, which
 -- leaves history and the current plan
 module _ (h : Hidden) (view : View) (sound : IsSound (with_hidden h view))
-    (sees : Sees None (AsksPlan (with_hidden h view)) h view) (links : List Link)
+    (sees : Sees None (ReadsPlan (with_hidden h view)) h view) (links : List Link)
     (known : AreKnownLinks (with_hidden h view) links) (s : Sets) (planned : List Row) (current : List CurrentRow)
     (current_are : ListsSet of_current (shown view).sets.cp IsAny current) (completed lasts : List Row)
     (lasts_are : ListsSet of_row (shown view).sets.history IsAny lasts)
@@ -276,7 +276,7 @@ module _ (h : Hidden) (view : View) (sound : IsSound (with_hidden h view))
       let done = stands_history c.sets sound.serials r.serial r at in
       let waits = stands_cp c.sets sound.serials late.serial (waiting late) stands in
       let serial = sound.keys r.serial late.serial first second done waits tt (λ deleted. cc) same in
-      let one = one_place c.sets late.serial first second (subst (λ n. StandsAt c.sets n first) serial done) waits in
+      let one = one_place c.sets late.serial first second (subst (λ n. IsOnlyAt c.sets n first) serial done) waits in
       let no : History ≡ Current W = ap (λ (p : PlacedRow). p.place) one in
       cc
 
@@ -412,7 +412,7 @@ module _ (h : Hidden) (view : View) (sound : IsSound (with_hidden h view))
 
 -- the successor of a pair lives
 pair_lives : (c : Content) → IsSound c → (pair : Pair) → Contains c.pairs pair
-    → (p : PlacedRow) × StandsAt c.sets pair.successor p × IsLive p.place
+    → (p : PlacedRow) × IsOnlyAt c.sets pair.successor p × IsLive p.place
 pair_lives c sound pair there = elim ((sound.pairs.settled.exactly pair).0 there) [
   | inl is ↦ (is.placed, is.stands, open_is_live is.placed.place is.waits)
   | inr is ↦ (is.placed, is.stands, is.live)
@@ -440,7 +440,7 @@ module _ (c : Content) (sound : IsSound c) (rows stay gone made : List Row) (cur
     passes : Passes q.row.key.app
     passes = reached_pass q there is_open reach
 
-    by_place : (place : Place) (row : Row) → StandsAt c.sets q.row.serial (record { row = row; place = place })
+    by_place : (place : Place) (row : Row) → IsOnlyAt c.sets q.row.serial (record { row = row; place = place })
         → IsLive place → WasOpen q.row.serial
     by_place LongTerm row stands is_live =
         let numbered : row.serial ≡ q.row.serial = sound.serials.numbered q.row.serial
@@ -494,7 +494,7 @@ module _ (c : Content) (sound : IsSound c) (rows stay gone made : List Row) (cur
   was_open pair there (inl (q, in_now, same, is_open, reach)) =
       let (p, stands, is_live) = pair_lives c sound pair there in
       subst WasOpen same (by_place q in_now is_open reach p.place p.row
-      (subst (λ n. StandsAt c.sets n p) (sym same) stands) is_live)
+      (subst (λ n. IsOnlyAt c.sets n p) (sym same) stands) is_live)
 
 -- so a window shows the pair, whatever its key
 pub pair_shown : {key : Option Key} {Asked : List ℕ → ℕ → Type 0} (h : Hidden) (view : View)
@@ -503,4 +503,4 @@ pub pair_shown : {key : Option Key} {Asked : List ℕ → ℕ → Type 0} (h : H
 pair_shown {key} h view sees pair there row is_open same =
     let s = (with_hidden h view).sets in
     asked_shown key s (shown view).pairs h.pairs sees.pairs pair there
-    (subst (λ n. asks_pairs key s.ltp s.cp s.history n ≡ true) same (asked_row key s row is_open))
+    (subst (λ n. needs_pairs key s.ltp s.cp s.history n ≡ true) same (asked_row key s row is_open))

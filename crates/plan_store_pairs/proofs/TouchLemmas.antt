@@ -8,7 +8,7 @@ use Rattle.external_dependencies.specs.declared.links.Link.{Link}
 use Rattle.external_dependencies.specs.declared.pairs.Pair.{Pair}
 use Rattle.external_dependencies.specs.declared.rows.PlacedRow.{PlacedRow}
 use Rattle.external_dependencies.specs.Nearest.{IsLiveIn}
-use Rattle.planner_machine.specs.Content.{Sets, StandsAt}
+use Rattle.planner_machine.specs.Content.{Sets, IsOnlyAt}
 use Rattle.planner_machine.specs.Pairs.{ArePairs, IsKeptPair, IsOpenPair, LiveAt}
 use Rattle.planner_machine.proofs.SeatLemmas.{one_place}
 use Rattle.plan_store.specs.Changes.{LeadsOn, pairs_after}
@@ -23,13 +23,13 @@ module _ (s : Sets) (rows : List PlacedRow) (are : AreLiveRows s rows) where
   live_once p q p_in q_in same =
       let at_p = (are.only p p_in).0 in
       let at_q = (are.only q q_in).0 in
-      one_place s q.row.serial p q (subst (λ n. StandsAt s n p) same at_p) at_q
+      one_place s q.row.serial p q (subst (λ n. IsOnlyAt s n p) same at_p) at_q
 
   module _ (links : List Link) (old : List Pair) where
     settled_to : (pair : Pair) → IsSettledPair old rows links pair → IsOpenPair links s pair ⊎ IsKeptPair old s pair
     settled_to pair (inl is) = inl (record {
       placed = is.placed;
-      stands = subst (λ n. StandsAt s n is.placed) is.successor (are.only is.placed is.stands).0;
+      stands = subst (λ n. IsOnlyAt s n is.placed) is.successor (are.only is.placed is.stands).0;
       waits = is.waits;
       app = is.app;
       within = is.within;
@@ -41,7 +41,7 @@ module _ (s : Sets) (rows : List PlacedRow) (are : AreLiveRows s rows) where
     })
     settled_to pair (inr kept) = inr (record {
       placed = kept.placed;
-      stands = subst (λ n. StandsAt s n kept.placed) kept.successor (are.only kept.placed kept.stands).0;
+      stands = subst (λ n. IsOnlyAt s n kept.placed) kept.successor (are.only kept.placed kept.stands).0;
       live = kept.live;
       waits_no_more = kept.closed;
       had = kept.had;

@@ -16,7 +16,7 @@ use Rattle.external_dependencies.specs.declared.change.PairChange.{PairChange}
 use Rattle.external_dependencies.specs.declared.live.Arrival.{Arrival}
 use Rattle.external_dependencies.specs.declared.rows.PlacedRow.{PlacedRow}
 use Rattle.planner_machine.specs.Add.{AddRefused}
-use Rattle.planner_machine.specs.Content.{Content, Sets, StandsAt}
+use Rattle.planner_machine.specs.Content.{Content, Sets, IsOnlyAt}
 use Rattle.planner_machine.specs.DailyPlan.{waiting}
 use Rattle.planner_machine.specs.Decision.{IsLeastRefusal}
 use Rattle.planner_machine.specs.Drafts.{added}
@@ -77,7 +77,7 @@ pub record IsPairIn (c : Content) (serial : ℕ) (app : List ℕ) (pair : Pair) 
   pub stood : Contains c.pairs pair
   pub successor : pair.successor ≡ serial
   pub placed : PlacedRow
-  pub stands : StandsAt c.sets pair.predecessor placed
+  pub stands : IsOnlyAt c.sets pair.predecessor placed
   pub of_app : placed.row.key.app ≡ app
 
 -- where the row comes before the occurrence, the pair that this had in the row's application
@@ -91,9 +91,9 @@ IsTurnedPair c row x pair = IsOvertaken c row x × (pair ≡ pair_of x.placed.ro
 -- the predecessor of the application that one of the pairs of the serial has, or that none has one
 abbrev pub IsPredecessorIn : List Pair → Sets → ℕ → List ℕ → Option PlacedRow → Type 0
 IsPredecessorIn pairs s serial app (Some p) =
-    Contains pairs (pair_of serial p.row.serial) × StandsAt s p.row.serial p × (p.row.key.app ≡ app)
+    Contains pairs (pair_of serial p.row.serial) × IsOnlyAt s p.row.serial p × (p.row.key.app ≡ app)
 IsPredecessorIn pairs s serial app None = (pair : Pair) (p : PlacedRow) → Contains pairs pair
-    → pair.successor ≡ serial → StandsAt s pair.predecessor p → IsOutsideDeletions p.place → p.row.key.app ≢ app
+    → pair.successor ≡ serial → IsOnlyAt s pair.predecessor p → IsOutsideDeletions p.place → p.row.key.app ≢ app
 
 -- the row is added: its own pairs are added, and those of what it comes before; and the pairs that these had go
 pub record TurnsTo (c : Content) (row : Row) (change : PairChange) : Type 0 where

@@ -8,7 +8,7 @@ use Rattle.external_dependencies.specs.Touch.{IsWithin}
 use Rattle.external_dependencies.specs.declared.links.Link.{Link}
 use Rattle.external_dependencies.specs.declared.live.Arrival.{Arrival}
 use Rattle.external_dependencies.specs.declared.rows.PlacedRow.{PlacedRow}
-use Rattle.planner_machine.specs.Content.{Content, Sets, StandsAt}
+use Rattle.planner_machine.specs.Content.{Content, Sets, IsOnlyAt}
 use Rattle.planner_machine.specs.Pairs.{LiveAt}
 use Rattle.plan_store.specs.Views.{ShowsNearest}
 use Rattle.plan_store.specs.declared.views.View.{View}
@@ -24,13 +24,13 @@ abbrev pub AddsEach : {X Y : Type 0} → (X → Y → Type 0) → List X → Lis
 AddsEach {X} Is xs = AddsIf (λ y. (x : X) × Contains xs x × Is x y)
 
 -- the occurrence is live under its serial
-abbrev pub StandsLive : Sets → PlacedRow → Type 0
-StandsLive s p = StandsAt s p.row.serial p × IsLive p.place
+abbrev pub IsLiveUnder : Sets → PlacedRow → Type 0
+IsLiveUnder s p = IsOnlyAt s p.row.serial p × IsLive p.place
 
 -- live occurrences are added to the rows, and none is removed
 pub record AddsLive (s : Sets) (old new : List PlacedRow) : Type 0 where
   pub stay : (p : PlacedRow) → Contains old p → Contains new p
-  pub come : (p : PlacedRow) → Contains new p → Contains old p ⊎ StandsLive s p
+  pub come : (p : PlacedRow) → Contains new p → Contains old p ⊎ IsLiveUnder s p
 
 -- live occurrences of the application that arrive in the stretch are added to the rows, and none is removed
 pub record AddsBetween (s : Sets) (app : List ℕ) (first : ℕ) (last : Option ℕ) (old new : List PlacedRow) : Type 0
@@ -40,7 +40,7 @@ pub record AddsBetween (s : Sets) (app : List ℕ) (first : ℕ) (last : Option 
 
 -- an open occurrence of the application that arrives from the first moment to the last, or without end
 pub record IsOpenBetween (s : Sets) (app : List ℕ) (first : ℕ) (last : Option ℕ) (p : PlacedRow) : Type 0 where
-  pub stands : StandsAt s p.row.serial p
+  pub stands : IsOnlyAt s p.row.serial p
   pub waits : IsOpen p.place
   pub arrives : ArrivesBetween app first last p.row
 
@@ -55,7 +55,7 @@ IsReachedAmong row within p x = (x ≡ record { placed = p; within = within }) �
 -- an open occurrence of the link's application, under the limit of the link, that the row may precede, and that arrives
 -- by the last moment
 pub record IsReachedBy (s : Sets) (row : Row) (last : Option ℕ) (link : Link) (x : Reached) : Type 0 where
-  pub stands : StandsAt s x.placed.row.serial x.placed
+  pub stands : IsOnlyAt s x.placed.row.serial x.placed
   pub waits : IsOpen x.placed.place
   pub of_app : x.placed.row.key.app ≡ link.app
   pub limit : x.within ≡ link.within
@@ -64,7 +64,7 @@ pub record IsReachedBy (s : Sets) (row : Row) (last : Option ℕ) (link : Link) 
 
 -- an open occurrence that the row may precede: its list names the row's application under that limit
 pub record IsReached (c : Content) (row : Row) (x : Reached) : Type 0 where
-  pub stands : StandsAt c.sets x.placed.row.serial x.placed
+  pub stands : IsOnlyAt c.sets x.placed.row.serial x.placed
   pub waits : IsOpen x.placed.place
   pub listed : ListsWithin c.in_force x.placed.row.key.app row.key.app x.within
   pub may : MayPrecede row x

@@ -10,15 +10,15 @@ use Rattle.occurrences.specs.declared.status.Status.TheVariants.{D}
 use Rattle.external_dependencies.specs.declared.links.Link.{Link}
 use Rattle.external_dependencies.specs.declared.pairs.Pair.{Pair}
 use Rattle.external_dependencies.specs.declared.rows.PlacedRow.{PlacedRow}
-use Rattle.planner_machine.specs.Content.{Sets, StandsAt}
+use Rattle.planner_machine.specs.Content.{Sets, IsOnlyAt}
 use Rattle.planner_machine.specs.Pairs.{IsKeptPair, IsOpenPair}
 use Rattle.planner_machine.specs.RowsSound.{RowsSound}
 
 -- the list has exactly the live occurrences of the sets, each under its serial
 pub record AreLiveRows (s : Sets) (rows : List PlacedRow) : Type 0 where
-  pub all : (serial : ℕ) (p : PlacedRow) → StandsAt s serial p → IsLive p.place
+  pub all : (serial : ℕ) (p : PlacedRow) → IsOnlyAt s serial p → IsLive p.place
       → Contains rows p × (p.row.serial ≡ serial)
-  pub only : (p : PlacedRow) → Contains rows p → StandsAt s p.row.serial p × IsLive p.place
+  pub only : (p : PlacedRow) → Contains rows p → IsOnlyAt s p.row.serial p × IsLive p.place
 
 -- the lists are the long-term plan, the current plan and history of the sets
 pub record HasLists (s : Sets) (planned : List Row) (current : List CurrentRow) (completed : List Row) : Type 0 where

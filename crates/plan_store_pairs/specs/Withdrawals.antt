@@ -8,7 +8,7 @@ use Rattle.external_dependencies.specs.Nearest.{ArrivesWithin}
 use Rattle.external_dependencies.specs.declared.change.PairChange.{PairChange}
 use Rattle.external_dependencies.specs.declared.live.Arrival.{Arrival}
 use Rattle.external_dependencies.specs.declared.pairs.Pair.{Pair}
-use Rattle.planner_machine.specs.Content.{Content, Sets, StandsAt}
+use Rattle.planner_machine.specs.Content.{Content, Sets, IsOnlyAt}
 use Rattle.planner_machine.specs.Pairs.{pair_of}
 use Rattle.plan_store.specs.Views.{IsLastBefore}
 use Rattle.plan_store_pairs.specs.Gathering.{IsReached}
@@ -19,11 +19,11 @@ use Rattle.plan_store_pairs.specs.declared.gathering.Reached.{Reached}
 pub record LosesRow (s s' : Sets) (row : Row) : Type 0 where
   pub placed : PlacedRow
   pub of_row : placed.row ≡ row
-  pub stood : StandsAt s row.serial placed
+  pub stood : IsOnlyAt s row.serial placed
   pub lived : IsLive placed.place
   pub planned : placed.place ≢ History
-  pub gone : (p : PlacedRow) → StandsAt s' row.serial p → IsLive p.place → ⊥
-  pub others : (serial : ℕ) → serial ≢ row.serial → (p : PlacedRow) → StandsAt s serial p ↔ StandsAt s' serial p
+  pub gone : (p : PlacedRow) → IsOnlyAt s' row.serial p → IsLive p.place → ⊥
+  pub others : (serial : ℕ) → serial ≢ row.serial → (p : PlacedRow) → IsOnlyAt s serial p ↔ IsOnlyAt s' serial p
 
 -- the pair of the occurrence with the row
 abbrev pub IsLostPair : List Pair → Row → Reached → Pair → Type 0

@@ -5,7 +5,7 @@ ghost use Rattle.planner_machine.specs.Content.{Content};
 ghost use Rattle.planner_machine.specs.Sound.{AreNumbered, IsSound};
 ghost use Rattle.plan_store.specs.Changes.{LeadsOn, pairs_after};
 ghost use Rattle.plan_store.specs.Verdicts.{VerdictIs};
-ghost use Rattle.plan_store.specs.Views.{Behind, BehindAny, BehindPairs, Shows, shown};
+ghost use Rattle.plan_store.specs.Views.{HoldsOfSound, HoldsOfAny, HoldsOfPairs, Shows, shown};
 ghost use Rattle.plan_store_pairs.specs.Additions.{AddsRow, ArePairsWith, IsAddable, IsNewRow, IsNewSerial, IsPutIn};
 ghost use Rattle.plan_store_pairs.specs.Additions.{IsLeftPair, IsPredecessorIn, IsTurnedPair, place_in};
 ghost use Rattle.plan_store_pairs.specs.Gathering.{AddsEach, AddsIf, IsReached};
@@ -59,7 +59,7 @@ pub fn add(alloc: Global, view: &View<'_>, plan: Plan, key: &Key) -> Result<Verd
 
 // The row that is added under the key, or why none is.
 fn new_row(view: &View<'_>, plan: Plan, key: &Key) -> Result<Row, Refusal>
-    ensures { Behind (Need.Key key.now) view.now (λ c. IsNewRow c plan key.now result) }
+    ensures { HoldsOfSound (Need.Key key.now) view.now (λ c. IsNewRow c plan key.now result) }
 {
     let Some(bounds) = view.bounds() else {
         return Err(Refusal::NoPlan);
@@ -99,7 +99,7 @@ fn is_outside(bounds: &Bounds, plan: Plan, ia: Moment) -> bool
 
 // The next serial, where the plans have room for one more row.
 fn new_serial(view: &View<'_>) -> Option<Serial>
-    ensures { BehindAny view.now (λ c. AreNumbered c.sets → IsNewSerial c.sets result) }
+    ensures { HoldsOfAny view.now (λ c. AreNumbered c.sets → IsNewSerial c.sets result) }
 {
     if view.ltp().len() + view.cp().len() >= MOST_PLANNED_ROWS {
         return None;
@@ -109,7 +109,7 @@ fn new_serial(view: &View<'_>) -> Option<Serial>
 
 // The change that adds the row to the plan.
 fn add_row(alloc: Global, view: &View<'_>, plan: Plan, row: &Row) -> Result<Verdict, AllocError>
-    ensures { IfOk result (λ verdict. Behind (Need.Key row.now.key) view.now (λ c.
+    ensures { IfOk result (λ verdict. HoldsOfSound (Need.Key row.now.key) view.now (λ c.
         IsAddable c plan row.now → AddsRow c plan row.now verdict)) }
 {
     let (planned, current) = put_in(alloc, plan, row)?;
@@ -147,7 +147,7 @@ fn pairs_with(
     plan: Plan,
     row: &Row,
 ) -> Result<PairChange, AllocError>
-    ensures { IfOk result (λ change. Behind (Need.Key row.now.key) view.now (λ c.
+    ensures { IfOk result (λ change. HoldsOfSound (Need.Key row.now.key) view.now (λ c.
         IsAddable c plan row.now → ArePairsWith c plan row.now (pairs_after change c.pairs)
         × LeadsOn c.pairs change)) }
 {
@@ -170,7 +170,7 @@ fn turn_each(
     removed: &mut Vec<Pair>,
     added: &mut Vec<Pair>,
 ) -> Result<(), AllocError>
-    ensures { OnOk result (Behind (Need.Key row.now.key) view.now (λ c. AreNamedOnce c.in_force
+    ensures { OnOk result (HoldsOfSound (Need.Key row.now.key) view.now (λ c. AreNamedOnce c.in_force
         → ((x : ReachedValue) → Contains found.now x → IsReached c row.now x)
         → AddsEach (IsLeftPair c row.now) found.now removed.old.items removed.new.items
         × AddsEach (IsTurnedPair c row.now) found.now added.old.items added.new.items)) }
@@ -189,7 +189,7 @@ fn turn(
     removed: &mut Vec<Pair>,
     added: &mut Vec<Pair>,
 ) -> Result<(), AllocError>
-    ensures { OnOk result (Behind (Need.Key row.now.key) view.now (λ c. AreNamedOnce c.in_force
+    ensures { OnOk result (HoldsOfSound (Need.Key row.now.key) view.now (λ c. AreNamedOnce c.in_force
         → IsReached c row.now x.now
         → AddsIf (IsLeftPair c row.now x.now) removed.old.items removed.new.items
         × AddsIf (IsTurnedPair c row.now x.now) added.old.items added.new.items)) }
@@ -222,7 +222,7 @@ fn arrives_later(first: &Row, other: &Row) -> bool
 
 // The predecessor that the pairs shown of the successor have in the application.
 fn predecessor_in(view: &View<'_>, successor: Serial, app: &App) -> Option<PlacedRow>
-    ensures { BehindPairs view.now (λ c.
+    ensures { HoldsOfPairs view.now (λ c.
         IsPredecessorIn (shown view.now).pairs c.sets successor app.now result) }
 {
     for pair in view.pairs_of_successor(successor) {

@@ -2,7 +2,7 @@ ghost use Rattle.std.specs.Prelude.{◌↔◌, Contains, IfOk, IsTrue, OnOk};
 ghost use Rattle.external_dependencies.specs.Nearest.{IsCandidate, arrival_of};
 ghost use Rattle.external_dependencies.specs.declared.rows.PlacedRow.{PlacedRow as PlacedValue};
 ghost use Rattle.planner_machine.specs.Sound.{AreNumbered};
-ghost use Rattle.plan_store.specs.Views.{BehindAny};
+ghost use Rattle.plan_store.specs.Views.{HoldsOfAny};
 ghost use Rattle.plan_store_pairs.specs.Gathering.{AddsBetween, AddsEach, AddsIf, AreReached, IsOpenBetween};
 ghost use Rattle.plan_store_pairs.specs.Gathering.{IsReachedAmong, IsReachedBy};
 
@@ -29,7 +29,7 @@ pub(crate) fn reached_by(
     view: &View<'_>,
     row: &Row,
 ) -> Result<Vec<Reached>, AllocError>
-    ensures { IfOk result (λ found. BehindAny view.now (λ c. AreNumbered c.sets
+    ensures { IfOk result (λ found. HoldsOfAny view.now (λ c. AreNumbered c.sets
         → AreReached c row.now found.items)) }
 {
     let last = view.next_planned(&row.key.app, row.key.ia);
@@ -51,7 +51,7 @@ fn push_link(
     last: &Option<Moment>,
     found: &mut Vec<Reached>,
 ) -> Result<(), AllocError>
-    ensures { OnOk result (BehindAny view.now (λ c. AreNumbered c.sets
+    ensures { OnOk result (HoldsOfAny view.now (λ c. AreNumbered c.sets
         → AddsIf (IsReachedBy c.sets row.now last.now link.now) found.old.items found.new.items)) }
 {
     let mut rows = Vec::new(alloc);
@@ -68,7 +68,7 @@ fn push_between(
     last: &Option<Moment>,
     rows: &mut Vec<PlacedRow>,
 ) -> Result<(), AllocError>
-    ensures { OnOk result (BehindAny view.now (λ c. AreNumbered c.sets
+    ensures { OnOk result (HoldsOfAny view.now (λ c. AreNumbered c.sets
         → AddsBetween c.sets app.now first last.now rows.old.items rows.new.items
         × ((p : PlacedValue) → IsOpenBetween c.sets app.now first last.now p
         → Contains rows.new.items p))) }

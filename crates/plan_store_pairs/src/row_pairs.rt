@@ -1,6 +1,6 @@
 ghost use Rattle.std.specs.Prelude.{◌↔◌, Contains, IfOk};
 ghost use Rattle.external_dependencies.specs.declared.pairs.Pair.{Pair as PairValue};
-ghost use Rattle.plan_store.specs.Views.{BehindPart};
+ghost use Rattle.plan_store.specs.Views.{HoldsOfPart};
 ghost use Rattle.plan_store_pairs.specs.Gathering.{ShowsList};
 ghost use Rattle.plan_store_pairs.specs.RowPairs.{IsRowPair};
 
@@ -12,7 +12,7 @@ use std::alloc::{AllocError, Global};
 /// The pairs of one row, were it open: with its nearest predecessor in each application of its list, within its limit,
 /// where there is one. No pair of another row is looked at.
 pub fn row_pairs_of(alloc: Global, view: &View<'_>, row: &Row) -> Result<Pairs, AllocError>
-    ensures { IfOk result (λ own. BehindPart view.now (λ c. ShowsList c view.now row.now
+    ensures { IfOk result (λ own. HoldsOfPart view.now (λ c. ShowsList c view.now row.now
         → (pair : PairValue) → Contains own pair ↔ IsRowPair c.in_force c.sets row.now pair)) }
 {
     let mut own = Vec::new(alloc);

@@ -2,7 +2,7 @@ ghost use Rattle.std.specs.Prelude.{◌≡◌, ◌↔◌, Contains, IfOk, IsTrue
 ghost use Rattle.planner_machine.specs.Content.{Sets};
 ghost use Rattle.planner_machine.specs.Pairs.{ArePairs};
 ghost use Rattle.plan_store.specs.Changes.{LeadsOn, pairs_after};
-ghost use Rattle.plan_store.specs.Views.{Behind, shown};
+ghost use Rattle.plan_store.specs.Views.{HoldsOfSound, shown};
 ghost use Rattle.plan_store_pairs.specs.Gathering.{AddsEach, AddsIf};
 ghost use Rattle.plan_store_pairs.specs.Withdrawals.{IsBackPair, IsBehind, IsLostPair, LosesRow};
 
@@ -16,7 +16,7 @@ use std::alloc::{AllocError, Global};
 /// others stay as they are. Its own pairs go. Each open occurrence that has a pair with it gets one with the row
 /// before it in its application instead, if the limit allows it.
 pub fn pairs_without(alloc: Global, view: &View<'_>, row: &Row) -> Result<PairChange, AllocError>
-    ensures { IfOk result (λ change. Behind (Need.Key row.now.key) view.now (λ c. (s : Sets)
+    ensures { IfOk result (λ change. HoldsOfSound (Need.Key row.now.key) view.now (λ c. (s : Sets)
         → LosesRow c.sets s row.now → ArePairs c.pairs c.in_force s (pairs_after change c.pairs)
         × LeadsOn c.pairs change)) }
 {

@@ -18,7 +18,7 @@ use Rattle.external_dependencies.specs.declared.rows.PlacedRow.{PlacedRow}
 use Rattle.occurrences.specs.declared.place.Place.{Place}
 use Rattle.occurrences.specs.declared.place.Place.TheVariants.{LongTerm, Current, History, Deleted}
 use Rattle.occurrences.specs.declared.status.Status.TheVariants.{W, S, E, C, D}
-use Rattle.planner_machine.specs.Content.{Sets, StandsAt}
+use Rattle.planner_machine.specs.Content.{Sets, IsOnlyAt}
 use Rattle.planner_machine.specs.Pairs.{IsClosedAt, IsClosedPair, pair_of}
 use Rattle.planner_machine.specs.Sound.{AreNumbered}
 use Rattle.planner_machine.proofs.SeatLemmas.{one_place}
@@ -81,7 +81,7 @@ ring_of From To to n (ring, is, at) = (
 )
 
 module _ (s : Sets) where
-  placed_some : (n : ℕ) (o : Option PlacedRow) (p : PlacedRow) → IsPlacedAt s n o → StandsAt s n p → o ≡ Some p
+  placed_some : (n : ℕ) (o : Option PlacedRow) (p : PlacedRow) → IsPlacedAt s n o → IsOnlyAt s n p → o ≡ Some p
   placed_some n None p none stands = absurd (none p stands)
   placed_some n (Some a) p at stands = ap (λ x. Some x) (one_place s n a p at stands)
 
@@ -97,11 +97,11 @@ module _ (s : Sets) where
   record TellsSlot (u v : ℕ) (slot : Slot) : Type 0 where
     closed : IsClosedAt s u
     placed : PlacedRow
-    stands : StandsAt s v placed
+    stands : IsOnlyAt s v placed
     successor : slot.successor ≡ u
     app : slot.app ≡ placed.row.key.app
 
-  tells_by : (u v : ℕ) (p q : PlacedRow) (slot : Slot) → StandsAt s u p → StandsAt s v q → (b : Bool)
+  tells_by : (u v : ℕ) (p q : PlacedRow) (slot : Slot) → IsOnlyAt s u p → IsOnlyAt s v q → (b : Bool)
       → is_closed_place p.place ≡ b
       → (if b then Some (record { successor = u; app = q.row.key.app }) else None) ≡ Some slot → TellsSlot u v slot
   tells_by u v p q slot at at' false t is = cc
@@ -125,7 +125,7 @@ module _ (s : Sets) where
 
   -- the slot between two rows that stand there
   slot_known : (u v : ℕ) (o o' : Option PlacedRow) (q : PlacedRow) → IsPlacedAt s u o → IsPlacedAt s v o'
-      → IsClosedAt s u → StandsAt s v q → slot_between u o o' ≡ Some (record { successor = u; app = q.row.key.app })
+      → IsClosedAt s u → IsOnlyAt s v q → slot_between u o o' ≡ Some (record { successor = u; app = q.row.key.app })
   slot_known u v o o' q at at' (p, stands, live, waits) stands' =
       ap₂ (λ x y. slot_between u x y) (placed_some u o p at stands) (placed_some v o' q at' stands')
       ∙ ap (λ b. if b then Some (record { successor = u; app = q.row.key.app }) else None)

@@ -10,7 +10,7 @@ use Rattle.occurrences.specs.declared.place.Place.{Place}
 use Rattle.occurrences.specs.declared.place.Place.TheVariants.{LongTerm, Current, History, Deleted}
 use Rattle.occurrences.specs.declared.row.Row.{Row}
 use Rattle.external_dependencies.specs.declared.rows.PlacedRow.{PlacedRow}
-use Rattle.planner_machine.specs.Content.{Seat, Sets, StandsAt, alone, seat}
+use Rattle.planner_machine.specs.Content.{Seat, Sets, IsOnlyAt, alone, seat}
 use Rattle.planner_machine.specs.Sound.{AreNumbered}
 use Rattle.planner_machine.proofs.SeatLemmas.{not_empty, one_place}
 use Rattle.plan_store_lists.specs.Rows.{AreRows, of_current, of_deletion, of_row}
@@ -136,7 +136,7 @@ module _ (kept : Kept) (rows : HasRows kept) where
   held_there row (Deleted reason) is = ap (λ (x : Seat). x.deletions) is
 
   -- what stands under a serial stands in the list
-  pub stands_listed : (serial : ℕ) (p : PlacedRow) → StandsAt s serial p → Contains all p × (p.row.serial ≡ serial)
+  pub stands_listed : (serial : ℕ) (p : PlacedRow) → IsOnlyAt s serial p → Contains all p × (p.row.serial ≡ serial)
   stands_listed serial p stands =
       let same = has_serial serial p.row p.place stands in
       let here = subst (λ n. seat s n ≡ alone p.row p.place) (sym same) stands in
@@ -145,14 +145,14 @@ module _ (kept : Kept) (rows : HasRows kept) where
   -- under its serial alone, where the rows are numbered
   module _ (numbered : AreNumbered s) where
     held_stands : (row : Row) (place : Place) → IsHeldIn s row place
-        → StandsAt s row.serial (record { row = row; place = place })
+        → IsOnlyAt s row.serial (record { row = row; place = place })
     held_stands row LongTerm is = stands_ltp s numbered row.serial row is
     held_stands row (Current status) is = stands_cp s numbered row.serial (record { row = row; status = status }) is
     held_stands row History is = stands_history s numbered row.serial row is
     held_stands row (Deleted reason) is =
         stands_deleted s numbered row.serial (record { row = row; reason = reason }) is
 
-    pub listed_stands : (p : PlacedRow) → Contains all p → StandsAt s p.row.serial p
+    pub listed_stands : (p : PlacedRow) → Contains all p → IsOnlyAt s p.row.serial p
     listed_stands p there = held_stands p.row p.place (held p there)
 
     pub seated_from_numbered : AreSeated s.issued all
@@ -163,7 +163,7 @@ module _ (kept : Kept) (rows : HasRows kept) where
       within = λ p there.
           issued_from s numbered p.row.serial (not_empty s p.row.serial p (listed_stands p there));
       own = λ p q at_p at_q same.
-          one_place s q.row.serial p q (subst (λ n. StandsAt s n p) same (listed_stands p at_p)) (listed_stands q at_q);
+          one_place s q.row.serial p q (subst (λ n. IsOnlyAt s n p) same (listed_stands p at_p)) (listed_stands q at_q);
     }
 
   -- where each serial stands once, it stands in no other set
@@ -249,7 +249,7 @@ module _ (kept : Kept) (rows : HasRows kept) where
     numbered_from_seated = record {
       placed = λ serial low high.
           let (p, there, same) = seated.each serial low high in
-          (p, subst (λ n. StandsAt s n p) same (stands_alone p.row p.place there));
+          (p, subst (λ n. IsOnlyAt s n p) same (stands_alone p.row p.place there));
       unissued = λ serial out.
           let ltp = no_ltp serial (λ x at same. outside serial out (in_place LongTerm x) at same) in
           let cp = no_cp serial (λ x at same. outside serial out (current_place x) at same) in

@@ -10,7 +10,7 @@ use Rattle.external_dependencies.specs.declared.links.Link.{Link}
 use Rattle.external_dependencies.specs.declared.pairs.Pair.{Pair}
 use Rattle.external_dependencies.specs.declared.rows.PlacedRow.{PlacedRow}
 use Rattle.occurrences.specs.Place.{IsComplete}
-use Rattle.planner_machine.specs.Content.{Sets, StandsAt}
+use Rattle.planner_machine.specs.Content.{Sets, IsOnlyAt}
 use Rattle.planner_machine.specs.Pairs.{ArePairs}
 use Rattle.planner_machine.specs.Sound.{AreNumbered}
 use Rattle.planner_machine.proofs.SeatLemmas.{not_empty, one_place}
@@ -41,7 +41,7 @@ table_at kept rows numbered table is (suc k) =
       | Some p ↦ λ at.
           let found = is.from k p at in
           let serial : p.row.serial ≡ suc k = omega (arith, found.1) in
-          subst (λ n. StandsAt (content_of kept).sets n p) serial (listed_stands kept rows numbered p found.0)
+          subst (λ n. IsOnlyAt (content_of kept).sets n p) serial (listed_stands kept rows numbered p found.0)
       | None ↦ λ none p stands.
           let there = stands_listed kept rows (suc k) p stands in
           let at = (is.kept p there.0).2 in

@@ -17,7 +17,7 @@ use Rattle.occurrences.specs.declared.place.Reason.TheVariants.{Operator, Withdr
 use Rattle.occurrences.specs.declared.row.Row.{Row}
 use Rattle.occurrences.specs.declared.status.Status.TheVariants.{W, S, E, C, D}
 use Rattle.external_dependencies.specs.declared.rows.PlacedRow.{PlacedRow}
-use Rattle.planner_machine.specs.Content.{Content, Sets, StandsAt}
+use Rattle.planner_machine.specs.Content.{Content, Sets, IsOnlyAt}
 use Rattle.planner_machine.specs.Fate.{IsGenerated}
 use Rattle.planner_machine.specs.RowsSound.{IsPlacedIn, RowsSound}
 use Rattle.planner_machine.proofs.SeatLemmas.{not_empty}
@@ -129,13 +129,13 @@ module _ (kept : Kept) (rows : HasRows kept) (numbered : AreNumbered (content_of
 
   -- arrivals
   pub arrive_from : (b : Bounds) → All (λ (p : PlacedRow). ArrivesIn b p.row.key.ia p.place) all
-      → (serial : ℕ) (p : PlacedRow) → StandsAt s serial p → ArrivesIn b p.row.key.ia p.place
+      → (serial : ℕ) (p : PlacedRow) → IsOnlyAt s serial p → ArrivesIn b p.row.key.ia p.place
   arrive_from b arrive serial p stands =
       All-contains (λ (x : PlacedRow). ArrivesIn b x.row.key.ia x.place) all p arrive
       (stands_listed kept rows serial p stands).0
 
   pub arrive_to : (b : Bounds)
-      → ((serial : ℕ) (p : PlacedRow) → StandsAt s serial p → ArrivesIn b p.row.key.ia p.place)
+      → ((serial : ℕ) (p : PlacedRow) → IsOnlyAt s serial p → ArrivesIn b p.row.key.ia p.place)
       → All (λ (p : PlacedRow). ArrivesIn b p.row.key.ia p.place) all
   arrive_to b arrive =
       All-weaker (Contains all) (λ (x : PlacedRow). ArrivesIn b x.row.key.ia x.place)

@@ -6,7 +6,7 @@ use Rattle.occurrences.specs.declared.place.Reason.{Reason}
 use Rattle.occurrences.specs.declared.place.Reason.TheVariants.{Operator, Withdrawn, Plan}
 use Rattle.occurrences.specs.declared.row.Row.{Row}
 use Rattle.external_dependencies.specs.declared.rows.PlacedRow.{PlacedRow}
-use Rattle.planner_machine.specs.Content.{Sets, StandsAt}
+use Rattle.planner_machine.specs.Content.{Sets, IsOnlyAt}
 use Rattle.planner_machine.specs.Fate.{IsGenerated}
 use Rattle.planner_machine.specs.Sound.{ArrivesIn}
 use Rattle.planner_machine.specs.declared.content.Bounds.{Bounds}
@@ -31,5 +31,5 @@ by_operator deletion = is_operator deletion.reason
 
 -- all rows arrive within the bounds
 abbrev pub AllInBounds : Sets → Type 0
-AllInBounds s = (b : Bounds) → s.bounds ≡ Some b → (serial : ℕ) (p : PlacedRow) → StandsAt s serial p
+AllInBounds s = (b : Bounds) → s.bounds ≡ Some b → (serial : ℕ) (p : PlacedRow) → IsOnlyAt s serial p
     → ArrivesIn b p.row.key.ia p.place

@@ -6,7 +6,7 @@ use Rattle.external_dependencies.specs.Loop.{OnRing}
 use Rattle.external_dependencies.specs.Nearest.{IsCandidate, arrival_of}
 use Rattle.external_dependencies.specs.declared.pairs.Pair.{Pair}
 use Rattle.external_dependencies.specs.declared.rows.PlacedRow.{PlacedRow}
-use Rattle.planner_machine.specs.Content.{Sets, StandsAt}
+use Rattle.planner_machine.specs.Content.{Sets, IsOnlyAt}
 use Rattle.planner_machine.specs.Pairs.{IsClosedAt, IsClosedPair, IsCompleteAt}
 
 -- the row at a serial of a table by serials
@@ -32,7 +32,7 @@ FitsRows (Some successor) predecessor = IsClosedPlace successor.place → HasCom
 -- the same of the sets: the predecessor of what is live and no longer open is complete, and arrives as one may
 abbrev pub FitsAt : Sets → Pair → Type 0
 FitsAt s pair = IsClosedAt s pair.successor → IsCompleteAt s pair.predecessor
-    × ((p q : PlacedRow) → StandsAt s pair.successor p → StandsAt s pair.predecessor q
+    × ((p q : PlacedRow) → IsOnlyAt s pair.successor p → IsOnlyAt s pair.predecessor q
     → IsCandidate p.row.key q.row.key.app None (arrival_of q.row))
 
 -- what is live and no longer open has at most one predecessor of each application
@@ -40,7 +40,7 @@ abbrev pub HaveOneEach : Sets → List Pair → Type 0
 HaveOneEach s pairs = (successor m n : ℕ) (p q : PlacedRow) → IsClosedAt s successor
     → Contains pairs (record { successor = successor; predecessor = m })
     → Contains pairs (record { successor = successor; predecessor = n })
-    → StandsAt s m p → StandsAt s n q → p.row.key.app ≡ q.row.key.app → m ≡ n
+    → IsOnlyAt s m p → IsOnlyAt s n q → p.row.key.app ≡ q.row.key.app → m ≡ n
 
 -- the rules of pairs of what is live and no longer open
 pub record AreClosedPairs (s : Sets) (pairs : List Pair) : Type 0 where

@@ -3,7 +3,7 @@ use Rattle.std.specs.Prelude.{◌≡◌, ℕ, Some}
 use Rattle.work_calendars.specs.Day.{IsDay}
 use Rattle.work_calendars.specs.Moment.{IsMoment}
 use Rattle.external_dependencies.specs.declared.rows.PlacedRow.{PlacedRow}
-use Rattle.planner_machine.specs.Content.{Sets, StandsAt}
+use Rattle.planner_machine.specs.Content.{Sets, IsOnlyAt}
 use Rattle.planner_machine.specs.Sound.{IsRow}
 use Rattle.planner_machine.specs.declared.content.Bounds.{Bounds}
 
@@ -16,4 +16,4 @@ HasBoundsInRange s = (b : Bounds) → s.bounds ≡ Some b → IsBoundsValue b
 
 -- all rows have the ranges and forms of rows
 abbrev pub HaveRanges : Sets → Type 0
-HaveRanges s = (serial : ℕ) (p : PlacedRow) → StandsAt s serial p → IsRow p.row
+HaveRanges s = (serial : ℕ) (p : PlacedRow) → IsOnlyAt s serial p → IsRow p.row

@@ -18,8 +18,8 @@ use Rattle.plan_store.specs.declared.stores.StoreFault.{StoreFault}
 use Rattle.plan_store.specs.declared.stores.StoreFault.TheVariants.{Device, Memory}
 use Rattle.plan_tables_opening.specs.Opened.{IsStored}
 use Rattle.plan_tables_schema.specs.Rows.{MayFail, Tables, tables_of}
-use Rattle.plan_tables_schema.specs.Schema.{HasOwnIndexes}
-use Rattle.plan_tables_writing.specs.Taking.{TakesChange}
+use Rattle.plan_tables_schema.specs.Schema.{HasOnlyKeyIndexes}
+use Rattle.plan_tables_writing.specs.Accepted.{AcceptsChange}
 use Rattle.plan_tables_writing.specs.declared.redefining.DefinitionMoves.{DefinitionMoves}
 use Rattle.external_dependencies.specs.Pair.{pair_cmp}
 use Rattle.external_dependencies.specs.Rising.{IsRising}
@@ -31,11 +31,11 @@ use Rattle.plan_store.specs.Redefining.{half_redefined}
 use Rattle.plan_store.specs.Room.{with_definitions, with_pairs_of}
 use Rattle.plan_store.specs.declared.changes.Change.{Change}
 use Rattle.plan_store.specs.declared.changes.DefinitionChange.TheVariants.{AsBefore}
-use Rattle.plan_tables.specs.Causes.{CountsOn, CanTake, fault_in, HasFailed}
+use Rattle.plan_tables.specs.Causes.{CountsOn, CanAccept, fault_in, HasFailed}
 use Rattle.plan_tables.specs.Kept.{StaysPut}
-use Rattle.plan_tables.specs.Taken.{HasRoomFor, KeepsSchema}
-use Rattle.plan_tables_constraints.specs.Taken.{AreTaken, FindsRoom, FittingIsTaken}
-use Rattle.plan_tables_writing.specs.Writing.{IsTellableChange}
+use Rattle.plan_tables.specs.Accepted.{HasRoomFor, KeepsSchema}
+use Rattle.plan_tables_constraints.specs.Accepted.{AreAccepted, FindsRoom, FittingIsAccepted}
+use Rattle.plan_tables_writing.specs.Writing.{IsRepresentableChange}
 use Rattle.plan_tables.proofs.BegunLemmas.{same_options}
 
 -- ---- it is asked whether a connection is open
@@ -131,31 +131,31 @@ failed_so old mid new e P Q opens calm one two (inl (cause, is, has)) why = go c
 -- of the definitions the tables look at the options alone
 takes_alike : (c : Content) (a b : Definitions) (moves : DefinitionMoves) (change : Change) (all : Tables)
     → a.options ≡ b.options
-    → TakesChange (with_definitions a c) moves change all → TakesChange (with_definitions b c) moves change all
+    → AcceptsChange (with_definitions a c) moves change all → AcceptsChange (with_definitions b c) moves change all
 takes_alike c a b moves change all same =
-    subst (λ (o : Options). TakesChange (with_definitions (record a { options = o }) c) moves change all) same
+    subst (λ (o : Options). AcceptsChange (with_definitions (record a { options = o }) c) moves change all) same
 
 -- so it is of what is left of the change, once the definitions are changed and the pairs are out of the lists
 pub taken_rest : (c : Content) (change : Change) (moves : DefinitionMoves) (left : Change)
     → left ≡ record change { definitions = AsBefore } → (d : Content) (pairs : List Pair)
     → d ≡ with_definitions (half_redefined change.definitions c.definitions) (with_pairs_of [] c) → pairs ≡ c.pairs
     → (all : Tables)
-    → TakesChange (with_definitions (redefined change.definitions c.definitions) c) moves change all
-    → TakesChange (with_pairs_of pairs d) moves left all
-taken_rest c change moves left is_rest d pairs is out all takes =
-    subst (λ (k : Change). TakesChange (with_pairs_of pairs d) moves k all) (sym is_rest)
-    (subst (λ (k : Content). TakesChange k moves (record change { definitions = AsBefore }) all)
+    → AcceptsChange (with_definitions (redefined change.definitions c.definitions) c) moves change all
+    → AcceptsChange (with_pairs_of pairs d) moves left all
+taken_rest c change moves left is_rest d pairs is out all accepts =
+    subst (λ (k : Change). AcceptsChange (with_pairs_of pairs d) moves k all) (sym is_rest)
+    (subst (λ (k : Content). AcceptsChange k moves (record change { definitions = AsBefore }) all)
     (sym (λ i. with_pairs_of (out i) (is i)))
     (takes_alike c (redefined change.definitions c.definitions) (half_redefined change.definitions c.definitions)
-    moves (record change { definitions = AsBefore }) all (sym (same_options change.definitions c.definitions)) takes))
+    moves (record change { definitions = AsBefore }) all (sym (same_options change.definitions c.definitions)) accepts))
 
 -- ---- a store that asks before it changes
 
-pub can_still : (old mid : State) (c d : Content) (change : Change) → mid.now ≡ old.now → d ≡ c → CanTake old c change
-    → CanTake mid d change
+pub can_still : (old mid : State) (c d : Content) (change : Change) → mid.now ≡ old.now → d ≡ c → CanAccept old c change
+    → CanAccept mid d change
 can_still old mid c d change now is can =
-    subst (λ (k : Content). CanTake mid k change) (sym is)
-    (subst (λ (db : Database). HasOwnIndexes db.schema × AreTaken c change (tables_of db.trees)) (sym now) can)
+    subst (λ (k : Content). CanAccept mid k change) (sym is)
+    (subst (λ (db : Database). HasOnlyKeyIndexes db.schema × AreAccepted c change (tables_of db.trees)) (sym now) can)
 
 -- why it failed since it was asked is why it failed since before
 pub caused_since : {T : Type 0} (r : Result T StoreFault) (old mid new : State) → CountsOn old mid
@@ -230,13 +230,13 @@ steady_since (Err e) a b d h is = λ memory. h memory ∙ is
 -- ---- tables with room
 
 pub room_still : (old mid : State) (change : Change) → mid.now ≡ old.now → HasRoomFor old change → HasRoomFor mid change
-room_still old mid change now room = subst (λ (db : Database). HasOwnIndexes db.schema
+room_still old mid change now room = subst (λ (db : Database). HasOnlyKeyIndexes db.schema
     × FindsRoom change (tables_of db.trees)) (sym now) room
 
 -- tables of a content that have room for a change take it
-pub room_takes : FittingIsTaken → (s : State) (c : Content) (change : Change) → IsStored s c → Fits change c
-    → IsSound (after change c) → IsTellableChange change → IsRising pair_cmp change.pairs.added → HasRoomFor s change
-    → CanTake s c change
+pub room_takes : FittingIsAccepted → (s : State) (c : Content) (change : Change) → IsStored s c → Fits change c
+    → IsSound (after change c) → IsRepresentableChange change → IsRising pair_cmp change.pairs.added → HasRoomFor s change
+    → CanAccept s c change
 room_takes taken s c change stored fits sound told rising room = (
   room.0,
   taken (tables_of s.now.trees) c change stored.content fits sound told rising room.1,

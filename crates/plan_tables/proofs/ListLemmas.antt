@@ -15,10 +15,10 @@ use Rattle.occurrences.specs.declared.row.Row.{Row}
 use Rattle.planner_machine.specs.Content.{Content}
 use Rattle.planner_machine.specs.Sound.{AreNumbered}
 use Rattle.plan_store_lists.specs.Rows.{of_deletion, of_row}
-use Rattle.plan_store.specs.Listings.{HandsAll, HandsPart as HandsSome, IsListing, Shown}
+use Rattle.plan_store.specs.Listings.{EmitsAll, EmitsPart as EmitsSome, IsListing, Shown}
 use Rattle.plan_store.specs.Parts.{ListsAll}
 use Rattle.plan_store.specs.declared.listings.ListFault.TheVariants as list
-use Rattle.plan_store.specs.declared.listings.SinkFault.{SinkFault}
+use Rattle.plan_store.specs.declared.listings.ItemRefused.{ItemRefused}
 use Rattle.plan_tables_schema.specs.Rows.{StaysOrIsUndone, tables_of}
 use Rattle.plan_tables_schema.specs.Schema.{HasTables}
 use Rattle.plan_tables_schema.specs.declared.tables.Table.{Table}
@@ -28,12 +28,12 @@ use Rattle.plan_tables_loading.proofs.LookLemmas.{undone_since}
 use Rattle.plan_tables_queries.specs.Finding.{FindsFact, StopsFor}
 use Rattle.plan_tables_queries.specs.declared.faults.LookupFault.{LookupFault}
 use Rattle.plan_tables_queries.specs.declared.faults.LookupFault.TheVariants as lookup
-use Rattle.plan_tables_queries.specs.Listing.{HandsPart, HoldsContent, Lists, StopsFor as StopsListing}
+use Rattle.plan_tables_queries.specs.Listing.{EmitsPart, HoldsContent, Lists, StopsFor as StopsListing}
 use Rattle.plan_tables_queries.specs.declared.listing_faults.ListedFault.{ListedFault}
 use Rattle.plan_tables_queries.specs.declared.listing_faults.ListedFault.TheVariants as listed
 use Rattle.plan_tables.specs.Kept.{IsKept, kept_in}
 use Rattle.plan_tables.specs.Listing.{LeavesOpen, ListsKept, fault_so, listed_so, what_of}
-use Rattle.plan_tables.specs.declared.listing.Asked.{Asked}
+use Rattle.plan_tables.specs.declared.listing.ListedTable.{ListedTable}
 use Rattle.plan_tables.specs.declared.keeping.Unmade.{Unmade}
 use Rattle.plan_tables.specs.declared.keeping.Unmade.TheVariants as unmade
 use Rattle.plan_tables.specs.declared.listing.Unlisted.TheVariants as unlisted
@@ -49,7 +49,7 @@ module _ (a b c : State) (same : IsUnchanged a b) where
   stops_since : a.faults ≤ b.faults → b.step_limit ≡ a.step_limit → (fault : LookupFault) → StopsFor b c fault
       → StopsFor a c fault
   stops_since more limit lookup.Memory h = unchanged_then a b c same h
-  stops_since more limit lookup.Untold h = unchanged_then a b c same h
+  stops_since more limit lookup.Malformed h = unchanged_then a b c same h
   stops_since more limit (lookup.Store e) h = vain_since a b c e more (λ _. same.0.is_open) limit h
 
 module _ {S T U : Type 0} (g : Ghosts S) (old mid new : Held S) (x : T) (P : Content → T → Type 0)
@@ -136,14 +136,14 @@ holds_kept s lists t kept = record {
   rowids = kept.stored.plan.rowids t;
 }
 
-module _ {S K : Type 0} (g : Ghosts S) (old new : Held S) (lists : Content) (Takes Refuses : K → Shown → K → Type 0)
-    (before after : K) (what : Asked) (app : Option (List ℕ)) where
+module _ {S K : Type 0} (g : Ghosts S) (old new : Held S) (lists : Content) (Accepts Refuses : K → Shown → K → Type 0)
+    (before after : K) (what : ListedTable) (app : Option (List ℕ)) where
   abbrev kept : Content
   kept = kept_in (state g old) lists
 
   pub lists_kept : (t : Table) (result : Result ℕ ListedFault)
-      → Lists g old new t Takes Refuses before after (IsListing (what_of what) app) result
-      → ListsKept g old new lists Takes Refuses before after what app result
+      → Lists g old new t Accepts Refuses before after (IsListing (what_of what) app) result
+      → ListsKept g old new lists Accepts Refuses before after what app result
   lists_kept t result did = record {
     all = λ clean is _. did.all clean kept (∥∥₁_map is (holds_kept (state g old) lists t));
     part = λ clean is _. did.part clean kept (∥∥₁_map is (holds_kept (state g old) lists t));
@@ -164,7 +164,7 @@ module _ {S K : Type 0} (g : Ghosts S) (old new : Held S) (lists : Content) (Tak
   -- the rest was not read
   pub unread_kept : {T : Type 0} (P : Content → T → Type 0) (why : LookupFault) → FindsFact g old new (Err why) P
       → (AreNumbered kept.sets → (items : List Shown) × IsListing (what_of what) app kept items) → after ≡ before
-      → ListsKept g old new lists Takes Refuses before after what app (Err (listed_so why))
+      → ListsKept g old new lists Accepts Refuses before after what app (Err (listed_so why))
   unread_kept P why did some still = record {
     all = λ clean is _. tt;
     part = λ clean is numbered. none why (some numbered);
@@ -177,24 +177,24 @@ module _ {S K : Type 0} (g : Ghosts S) (old new : Held S) (lists : Content) (Tak
     survives = did.survives;
   }
     where
-      no_fault : IsProp (listed_so why ≢ listed.Untold)
+      no_fault : IsProp (listed_so why ≢ listed.Malformed)
       no_fault f h = λ i is. no_prop (f is) (h is) i
 
       none : (f : LookupFault) → (items : List Shown) × IsListing (what_of what) app kept items
-          → HandsPart Takes Refuses (IsListing (what_of what) app kept) before after (listed_so f)
+          → EmitsPart Accepts Refuses (IsListing (what_of what) app kept) before after (listed_so f)
       none lookup.Memory (items, is) = record { done = []; rest = items; whole = is; ends = still }
-      none lookup.Untold (items, is) = record { done = []; rest = items; whole = is; ends = still }
+      none lookup.Malformed (items, is) = record { done = []; rest = items; whole = is; ends = still }
       none (lookup.Store e) (items, is) = record { done = []; rest = items; whole = is; ends = still }
 
-      untold : (f : LookupFault) → f ≢ lookup.Untold → listed_so f ≢ listed.Untold
+      untold : (f : LookupFault) → f ≢ lookup.Malformed → listed_so f ≢ listed.Malformed
       untold lookup.Memory other is = cc
-      untold lookup.Untold other is = other refl
+      untold lookup.Malformed other is = other refl
       untold (lookup.Store e) other is = cc
 
       stops : (f : LookupFault) → StopsFor (state g old) (state g new) f
           → StopsListing (state g old) (state g new) (listed_so f)
       stops lookup.Memory h = h
-      stops lookup.Untold h = h
+      stops lookup.Malformed h = h
       stops (lookup.Store e) h = h
 
   -- it was read
@@ -217,8 +217,8 @@ module _ {S K : Type 0} (g : Ghosts S) (old new : Held S) (lists : Content) (Tak
         )
 
     pub pairs_ok : (count : ℕ) → (AreNumbered kept.sets → ListsAll of_row h kept.sets.history
-        → ListsAll of_deletion d kept.sets.deletions → HandsAll Takes (IsListing (what_of what) app kept) before after count)
-        → ListsKept g old new lists Takes Refuses before after what app (Ok count)
+        → ListsAll of_deletion d kept.sets.deletions → EmitsAll Accepts (IsListing (what_of what) app kept) before after count)
+        → ListsKept g old new lists Accepts Refuses before after what app (Ok count)
     pairs_ok count all = record {
       all = λ clean is numbered. let both = read_rest clean is in all numbered both.0 both.1;
       part = λ clean is numbered. tt;
@@ -231,8 +231,8 @@ module _ {S K : Type 0} (g : Ghosts S) (old new : Held S) (lists : Content) (Tak
     }
 
     pub pairs_memory : (AreNumbered kept.sets → ListsAll of_row h kept.sets.history
-        → ListsAll of_deletion d kept.sets.deletions → HandsSome Takes Refuses (IsListing (what_of what) app kept) before after list.Memory)
-        → ListsKept g old new lists Takes Refuses before after what app (Err listed.Memory)
+        → ListsAll of_deletion d kept.sets.deletions → EmitsSome Accepts Refuses (IsListing (what_of what) app kept) before after list.Memory)
+        → ListsKept g old new lists Accepts Refuses before after what app (Err listed.Memory)
     pairs_memory part = record {
       all = λ clean is numbered. tt;
       part = λ clean is numbered.
@@ -247,10 +247,10 @@ module _ {S K : Type 0} (g : Ghosts S) (old new : Held S) (lists : Content) (Tak
       survives = did.survives;
     }
 
-    pub pairs_refused : (fault : SinkFault) → (AreNumbered kept.sets → ListsAll of_row h kept.sets.history
-        → ListsAll of_deletion d kept.sets.deletions → HandsSome Takes Refuses (IsListing (what_of what) app kept) before after
+    pub pairs_refused : (fault : ItemRefused) → (AreNumbered kept.sets → ListsAll of_row h kept.sets.history
+        → ListsAll of_deletion d kept.sets.deletions → EmitsSome Accepts Refuses (IsListing (what_of what) app kept) before after
         (list.Sink fault))
-        → ListsKept g old new lists Takes Refuses before after what app (Err (listed.Sink fault))
+        → ListsKept g old new lists Accepts Refuses before after what app (Err (listed.Sink fault))
     pairs_refused fault part = record {
       all = λ clean is numbered. tt;
       part = λ clean is numbered.
@@ -267,34 +267,34 @@ module _ {S K : Type 0} (g : Ghosts S) (old new : Held S) (lists : Content) (Tak
 
 -- ---- why it ended
 
-module _ {K : Type 0} (Takes Refuses : K → Shown → K → Type 0) (IsWhole : List Shown → Type 0) (old new : K) where
-  pub handed_short : (fault : ListedFault) → fault ≡ listed.Memory → HandsPart Takes Refuses IsWhole old new fault
-      → HandsSome Takes Refuses IsWhole old new list.Memory
+module _ {K : Type 0} (Accepts Refuses : K → Shown → K → Type 0) (IsWhole : List Shown → Type 0) (old new : K) where
+  pub handed_short : (fault : ListedFault) → fault ≡ listed.Memory → EmitsPart Accepts Refuses IsWhole old new fault
+      → EmitsSome Accepts Refuses IsWhole old new list.Memory
   handed_short fault is did =
-      let d = subst (λ (f : ListedFault). HandsPart Takes Refuses IsWhole old new f) is did in
+      let d = subst (λ (f : ListedFault). EmitsPart Accepts Refuses IsWhole old new f) is did in
       record { done = d.done; rest = d.rest; whole = d.whole; ends = d.ends }
 
-  pub handed_refused : (fault : ListedFault) (f : SinkFault) → fault ≡ listed.Sink f
-      → HandsPart Takes Refuses IsWhole old new fault → HandsSome Takes Refuses IsWhole old new (list.Sink f)
+  pub handed_refused : (fault : ListedFault) (f : ItemRefused) → fault ≡ listed.Sink f
+      → EmitsPart Accepts Refuses IsWhole old new fault → EmitsSome Accepts Refuses IsWhole old new (list.Sink f)
   handed_refused fault f is did =
-      let d = subst (λ (f : ListedFault). HandsPart Takes Refuses IsWhole old new f) is did in
+      let d = subst (λ (f : ListedFault). EmitsPart Accepts Refuses IsWhole old new f) is did in
       record { done = d.done; rest = d.rest; whole = d.whole; ends = d.ends }
 
-  pub handed_untold : (fault : ListedFault) → fault ≡ listed.Untold → HandsPart Takes Refuses IsWhole old new fault
-      → HandsSome Takes Refuses IsWhole old new list.Device
+  pub handed_untold : (fault : ListedFault) → fault ≡ listed.Malformed → EmitsPart Accepts Refuses IsWhole old new fault
+      → EmitsSome Accepts Refuses IsWhole old new list.Device
   handed_untold fault is did =
-      let d = subst (λ (f : ListedFault). HandsPart Takes Refuses IsWhole old new f) is did in
+      let d = subst (λ (f : ListedFault). EmitsPart Accepts Refuses IsWhole old new f) is did in
       record { done = d.done; rest = d.rest; whole = d.whole; ends = d.ends }
 
   pub handed_unread : (fault : ListedFault) (e : Error) (why : Unmade) → fault ≡ listed.Store e
-      → HandsPart Takes Refuses IsWhole old new fault
-      → HandsSome Takes Refuses IsWhole old new (fault_so (unlisted.Unmade why))
+      → EmitsPart Accepts Refuses IsWhole old new fault
+      → EmitsSome Accepts Refuses IsWhole old new (fault_so (unlisted.Unmade why))
   handed_unread fault e why is did = go why
     where
-      d : HandsPart Takes Refuses IsWhole old new (listed.Store e)
-      d = subst (λ (f : ListedFault). HandsPart Takes Refuses IsWhole old new f) is did
+      d : EmitsPart Accepts Refuses IsWhole old new (listed.Store e)
+      d = subst (λ (f : ListedFault). EmitsPart Accepts Refuses IsWhole old new f) is did
 
-      go : (w : Unmade) → HandsSome Takes Refuses IsWhole old new (fault_so (unlisted.Unmade w))
+      go : (w : Unmade) → EmitsSome Accepts Refuses IsWhole old new (fault_so (unlisted.Unmade w))
       go unmade.Memory = record { done = d.done; rest = d.rest; whole = d.whole; ends = d.ends }
       go unmade.Doubt = record { done = d.done; rest = d.rest; whole = d.whole; ends = d.ends }
       go unmade.Device = record { done = d.done; rest = d.rest; whole = d.whole; ends = d.ends }

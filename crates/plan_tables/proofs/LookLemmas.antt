@@ -18,12 +18,12 @@ use Rattle.plan_store.specs.declared.stores.StoreFault.{StoreFault}
 use Rattle.plan_store.specs.declared.stores.StoreFault.TheVariants.{Device, Memory}
 use Rattle.plan_tables_schema.specs.Rows.{StaysOrIsUndone}
 use Rattle.plan_tables_schema.specs.Schema.{HasTables}
-use Rattle.plan_tables_windows.specs.Gathering.{Grows}
+use Rattle.plan_tables_windows.specs.Fetching.{Grows}
 use Rattle.plan_tables_queries.specs.Finding.{StopsFor}
 use Rattle.plan_tables_queries.specs.declared.faults.LookupFault.{LookupFault}
 use Rattle.plan_tables.specs.Kept.{CanRead, IsKept, LooksOn, StaysPut, kept_in}
 use Rattle.plan_tables.specs.Stored.{LeavesSound, MayLeave}
-use Rattle.plan_tables.specs.Taken.{KeepsSchema}
+use Rattle.plan_tables.specs.Accepted.{KeepsSchema}
 use Rattle.plan_tables.proofs.CauseLemmas.{certain}
 use Rattle.plan_tables.proofs.SetLemmas.{content_set, no_prop, truth_prop}
 use Rattle.plan_tables.proofs.StoredLemmas.{kept_more, kept_still, put_still}

@@ -10,12 +10,12 @@ use Rattle.plan_store.specs.Parts.{IsPartOf, Rest, rest_of}
 use Rattle.plan_store.specs.Room.{no_jobs}
 use Rattle.plan_store.specs.declared.changes.Change.{Change}
 use Rattle.plan_tables_schema.specs.Rows.{tables_of}
-use Rattle.plan_tables_content.specs.ToldSets.{AllTellSets}
-use Rattle.plan_tables_windows.specs.Gathering.{told_rest}
+use Rattle.plan_tables_content.specs.DecodedSets.{AllRepresentSets}
+use Rattle.plan_tables_windows.specs.Fetching.{told_rest}
 use Rattle.plan_tables_opening.specs.Opened.{IsStored}
 use Rattle.plan_tables_writing.specs.declared.redefining.DefinitionMoves.{DefinitionMoves}
 use Rattle.plan_tables.specs.Kept.{CanRead, IsKept, IsMet, jobless, kept_in}
-use Rattle.plan_tables.specs.Told.{BringMoves}
+use Rattle.plan_tables.specs.Representable.{BringMoves}
 use Rattle.plan_tables.proofs.StorableMoves.{told_moves}
 use Rattle.plan_tables.proofs.StoredLemmas.{kept_after, kept_still, told_kept}
 use Rattle.plan_tables.proofs.ToldLemmas.{told_by_tables}
@@ -48,7 +48,7 @@ module _ (s : State) (lists : Content) (change : Change) (moves : DefinitionMove
       }
 
   -- the tables have all of it, and the lists have it without its job, and a part of the rest
-  pub keeps_after : AllTellSets → (t : State) (new : Content) → new ≡ after (jobless change) lists
+  pub keeps_after : AllRepresentSets → (t : State) (new : Content) → new ≡ after (jobless change) lists
       → IsPartOf own_rest lists → KnowsNamed own_rest change lists → Fits change (kept_in s lists)
       → IsStored t (after change (kept_in s lists)) → IsSound (after change (kept_in s lists)) → IsKept t new
   keeps_after tell t new is part knows fits' stored sound' =

@@ -13,7 +13,7 @@ use Rattle.plan_store.specs.Parts.{Rest}
 use Rattle.plan_store.specs.declared.stores.StoreFault.TheVariants as fault
 use Rattle.plan_tables_queries.specs.declared.faults.LookupFault.{LookupFault}
 use Rattle.plan_tables_queries.specs.declared.faults.LookupFault.TheVariants as lookup
-use Rattle.plan_tables_windows.specs.Gathering.{AreOfTables, Gathers}
+use Rattle.plan_tables_windows.specs.Fetching.{AreOfTables, Fetches}
 use Rattle.plan_tables.specs.Causes.{fault_in}
 use Rattle.plan_tables.specs.Kept.{IsKept, StaysPut}
 use Rattle.plan_tables.specs.Sought.{Seeks}
@@ -38,7 +38,7 @@ module _ {S : Type 0} (g : Ghosts S) (old new : Held S) (was now : Content) (IsF
   abbrev to : State
   to = state g new
 
-  pub seeks_ok : Gathers {T = Unit {0}} g old new was now (Ok tt) IsFound → Seeks g old new was now (Ok tt) IsFound
+  pub seeks_ok : Fetches {T = Unit {0}} g old new was now (Ok tt) IsFound → Seeks g old new was now (Ok tt) IsFound
   seeks_ok did = record {
     found = λ clean kept. did.ready clean (∥∥₁_map kept (of_kept from was));
     grows = did.grows;
@@ -51,7 +51,7 @@ module _ {S : Type 0} (g : Ghosts S) (old new : Held S) (was now : Content) (IsF
     survives = did.survives;
   }
 
-  seeks_memory : (why : LookupFault) → why ≡ lookup.Memory → Gathers {T = Unit {0}} g old new was now (Err why) IsFound
+  seeks_memory : (why : LookupFault) → why ≡ lookup.Memory → Fetches {T = Unit {0}} g old new was now (Err why) IsFound
       → Seeks g old new was now (Err unmade.Memory) IsFound
   seeks_memory why is did = record {
     found = λ clean kept. tt;
@@ -65,7 +65,7 @@ module _ {S : Type 0} (g : Ghosts S) (old new : Held S) (was now : Content) (IsF
     survives = did.survives;
   }
 
-  seeks_untold : (why : LookupFault) → why ≡ lookup.Untold → Gathers {T = Unit {0}} g old new was now (Err why) IsFound
+  seeks_untold : (why : LookupFault) → why ≡ lookup.Malformed → Fetches {T = Unit {0}} g old new was now (Err why) IsFound
       → Seeks g old new was now (Err unmade.Device) IsFound
   seeks_untold why is did = record {
     found = λ clean kept. tt;
@@ -85,7 +85,7 @@ module _ {S : Type 0} (g : Ghosts S) (old new : Held S) (was now : Content) (IsF
     last = state g end
 
     seeks_asked : (error : Error) (why : LookupFault) (cause : Unmade) → why ≡ lookup.Store error
-        → Gathers {T = Unit {0}} g old new was now (Err why) IsFound
+        → Fetches {T = Unit {0}} g old new was now (Err why) IsFound
         → (HasCleanDisk last → cause ≡ unmade.Memory → IsUnchanged to last)
         → (HasCleanDisk last → cause ≡ unmade.Device → (fault_in error ≡ Some fault.Memory → ⊥)
         ⊎ MoreFaults to.faults last.faults ⊎ (to.is_open ≡ false))
@@ -94,8 +94,8 @@ module _ {S : Type 0} (g : Ghosts S) (old new : Held S) (was now : Content) (IsF
         → Survives to last (λ _. ⊥)
         → Seeks g old end was now (Err cause) IsFound
     seeks_asked error why cause is did opens shut stays mode survives =
-        let fails : Gathers {T = Unit {0}} g old new was now (Err (lookup.Store error)) IsFound
-        = subst (λ (f : LookupFault). Gathers {T = Unit {0}} g old new was now (Err f) IsFound) is did in
+        let fails : Fetches {T = Unit {0}} g old new was now (Err (lookup.Store error)) IsFound
+        = subst (λ (f : LookupFault). Fetches {T = Unit {0}} g old new was now (Err f) IsFound) is did in
         let calm : HasCleanDisk last → HasCleanDisk to = λ clean. omega (arith, survives.clean, clean) in
         record {
           found = λ clean kept. tt;
@@ -113,13 +113,13 @@ module _ {S : Type 0} (g : Ghosts S) (old new : Held S) (was now : Content) (IsF
         }
 
   pub seeks_why : (end : Held S) (fault : LookupFault) (why : Unmade)
-      → Gathers {T = Unit {0}} g old new was now (Err fault) IsFound → IsWhyOf g new end fault why
+      → Fetches {T = Unit {0}} g old new was now (Err fault) IsFound → IsWhyOf g new end fault why
       → Seeks g old end was now (Err why) IsFound
   seeks_why end lookup.Memory why did (is, same) =
       subst (λ (h : Held S). Seeks g old h was now (Err why) IsFound) (sym same)
       (subst (λ (w : Unmade). Seeks g old new was now (Err w) IsFound) (sym is) (seeks_memory lookup.Memory refl did))
-  seeks_why end lookup.Untold why did (is, same) =
+  seeks_why end lookup.Malformed why did (is, same) =
       subst (λ (h : Held S). Seeks g old h was now (Err why) IsFound) (sym same)
-      (subst (λ (w : Unmade). Seeks g old new was now (Err w) IsFound) (sym is) (seeks_untold lookup.Untold refl did))
+      (subst (λ (w : Unmade). Seeks g old new was now (Err w) IsFound) (sym is) (seeks_untold lookup.Malformed refl did))
   seeks_why end (lookup.Store error) why did cause =
       seeks_asked end error (lookup.Store error) why refl did cause.asked cause.shut cause.stays cause.mode cause.survives

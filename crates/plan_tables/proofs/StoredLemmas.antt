@@ -20,15 +20,15 @@ use Rattle.plan_store.specs.Room.{with_definitions, with_pairs_of}
 use Rattle.plan_store.specs.declared.changes.Change.{Change}
 use Rattle.plan_store.specs.declared.changes.DefinitionChange.TheVariants.{AsBefore}
 use Rattle.plan_tables_content.specs.Content.{HaveOneContent, IsContentOf}
-use Rattle.plan_tables_content.specs.ToldSets.{AllTellSets}
-use Rattle.plan_tables_windows.specs.Gathering.{Grows, told_rest, told_with}
+use Rattle.plan_tables_content.specs.DecodedSets.{AllRepresentSets}
+use Rattle.plan_tables_windows.specs.Fetching.{Grows, told_rest, told_with}
 use Rattle.plan_tables_opening.specs.Opened.{IsStored}
 use Rattle.plan_tables_opening.specs.Stored.{AllHaveRowids}
 use Rattle.plan_tables.specs.Found.{Tells}
 use Rattle.plan_tables.specs.Kept.{IsKept, LooksOn, StaysPut, jobless, kept_in}
 use Rattle.plan_tables.specs.Stored.{LeavesSound, MayLeave}
 use Rattle.plan_tables_writing.specs.Redefining.{AreMovesOf, definitions_moved, written}
-use Rattle.plan_tables_writing.specs.Writing.{HoldsWritten, IsTellableChange}
+use Rattle.plan_tables_writing.specs.Writing.{HoldsWritten, IsRepresentableChange}
 use Rattle.plan_tables_writing.specs.declared.redefining.DefinitionMoves.{DefinitionMoves}
 use Rattle.plan_tables.proofs.BegunLemmas.{same_options}
 use Rattle.plan_tables_constraints.proofs.ContentAfter.{plans_after}
@@ -67,7 +67,7 @@ left_fits c change fits left is_left d is = subst (λ (k : Change). Fits k d) (s
     }))
 
 module _ (c : Content) (change : Change) (moves : DefinitionMoves) (fits : Fits change c)
-    (are : AreMovesOf change.definitions moves) (told : IsTellableChange change) where
+    (are : AreMovesOf change.definitions moves) (told : IsRepresentableChange change) where
   -- what is left of the change once the definitions are changed
   abbrev rest : Change
   rest = record change { definitions = AsBefore }
@@ -185,19 +185,19 @@ stays_so (Err e) P Q h = tt
 -- ---- lists beside tables
 
 -- what the tables of a kept content tell beside lists is its own
-pub told_kept : AllTellSets → (s : State) (c : Content) → IsStored s c
+pub told_kept : AllRepresentSets → (s : State) (c : Content) → IsStored s c
     → told_rest (tables_of s.now.trees) ≡ rest_of c
 told_kept tell s c stored =
     let sets = tell (tables_of s.now.trees) c stored.content in
     λ i. record { history = sets.history i; deletions = sets.deletions i; jobs = sets.jobs i }
 
 -- a store that keeps a part of a content that the tables keep, keeps it
-pub kept_part : AllTellSets → (s : State) (c lists : Content) → with_rest (rest_of c) lists ≡ c → IsStored s c
+pub kept_part : AllRepresentSets → (s : State) (c lists : Content) → with_rest (rest_of c) lists ≡ c → IsStored s c
     → kept_in s lists ≡ c
 kept_part tell s c lists is stored = ap (λ (rest : Rest). with_rest rest lists) (told_kept tell s c stored) ∙ is
 
 -- what is kept after a change: the lists have it without its job, and the tables have all of it
-pub kept_after : AllTellSets → (s : State) (rest : Rest) (change : Change) (lists new : Content)
+pub kept_after : AllRepresentSets → (s : State) (rest : Rest) (change : Change) (lists new : Content)
     → new ≡ after (jobless change) lists → IsStored s (after change (with_rest rest lists))
     → kept_in s new ≡ after change (with_rest rest lists)
 kept_after tell s rest change lists new is stored =

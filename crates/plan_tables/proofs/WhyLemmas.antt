@@ -45,7 +45,7 @@ module _ {S T : Type 0} (g : Ghosts S) (old mid : Held S) (P : Content → T →
     survives = did.survives;
   }
 
-  ends_untold : FindsFact g old mid (Err lookup.Untold) P → EndsFor g old mid unmade.Device
+  ends_untold : FindsFact g old mid (Err lookup.Malformed) P → EndsFor g old mid unmade.Device
   ends_untold did = record {
     stays = λ clean lists kept. put_by from to (did.leaves clean kept.stored.plan.schema);
     memory = λ clean lists kept memory. absurd (let h : ⊥ = cc memory in h);
@@ -75,6 +75,6 @@ module _ {S T : Type 0} (g : Ghosts S) (old mid : Held S) (P : Content → T →
       → IsWhyOf g mid end fault why → EndsFor g old end why
   ends_for end lookup.Memory why did (is, same) = subst (λ (h : Held S). EndsFor g old h why) (sym same)
       (subst (EndsFor g old mid) (sym is) (ends_memory did))
-  ends_for end lookup.Untold why did (is, same) = subst (λ (h : Held S). EndsFor g old h why) (sym same)
+  ends_for end lookup.Malformed why did (is, same) = subst (λ (h : Held S). EndsFor g old h why) (sym same)
       (subst (EndsFor g old mid) (sym is) (ends_untold did))
   ends_for end (lookup.Store error) why did cause = ends_asked end error why did cause

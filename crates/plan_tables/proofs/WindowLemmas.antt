@@ -11,7 +11,7 @@ use Rattle.plan_store.specs.declared.views.View.{View}
 use Rattle.plan_tables_windows.specs.Windows.{IsReadyFor}
 use Rattle.plan_tables_windows.proofs.WindowLemmas.{window_of_part}
 use Rattle.plan_tables_schema.specs.Rows.{tables_of}
-use Rattle.plan_tables_windows.specs.Gathering.{told_rest}
+use Rattle.plan_tables_windows.specs.Fetching.{told_rest}
 use Rattle.plan_tables.specs.Kept.{IsKept, kept_in}
 use Rattle.plan_tables.proofs.SetLemmas.{size_set}
 

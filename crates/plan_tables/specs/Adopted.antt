@@ -6,7 +6,7 @@ use Rattle.sqlite.specs.Store.{Ghosts}
 use Rattle.plan_store.specs.Contents.{content_of}
 use Rattle.plan_store.specs.Parts.{IsPartOf}
 use Rattle.plan_tables_schema.specs.Rows.{tables_of}
-use Rattle.plan_tables_windows.specs.Gathering.{told_rest}
+use Rattle.plan_tables_windows.specs.Fetching.{told_rest}
 use Rattle.plan_tables_opening.specs.Held.{HoldsPlan}
 use Rattle.plan_tables_opening.specs.Opened.{IsCommon, MakesFirst}
 use Rattle.plan_tables_opening.specs.Opening.{IsOpened, IsUnopened}

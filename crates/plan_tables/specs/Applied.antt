@@ -3,7 +3,7 @@ use Rattle.std.specs.Prelude.{◌≡◌, ◌⊎◌, ◌≤◌, ℕ, List, Option
 use Rattle.planner_machine.specs.Content.{Content}
 use Rattle.planner_machine.specs.Sound.{AreNumbered}
 use Rattle.plan_store.specs.Faults.{IsMildListing, MoreFailures}
-use Rattle.plan_store.specs.Listings.{HandsAll, HandsPart, IsListing, Shown}
+use Rattle.plan_store.specs.Listings.{EmitsAll, EmitsPart, IsListing, Shown}
 use Rattle.plan_store.specs.Stores.{Applies, ReadsStore}
 use Rattle.plan_store.specs.declared.changes.Change.{Change}
 use Rattle.plan_store.specs.declared.listings.ListFault.{ListFault}
@@ -21,12 +21,12 @@ abbrev pub ReadsBy : {S T : Type 0} → Ghosts S → (before now : S) → Result
 ReadsBy g = ReadsStore g.is_honest g.content g.failures g.may_leave g.is_clean g.is_whole g.has_failed
 
 -- a store before and after it lists, the sink before and after, and what the call returns
-pub record ListsBy {S K : Type 0} (g : Ghosts S) (before now : S) (Takes Refuses : K → Shown → K → Type 0) (old new : K)
+pub record ListsBy {S K : Type 0} (g : Ghosts S) (before now : S) (Accepts Refuses : K → Shown → K → Type 0) (old new : K)
     (what : What) (app : Option (List ℕ)) (result : Result ℕ ListFault) : Type 0 where
   pub all : g.is_honest now → AreNumbered (g.content before).sets
-      → IfOk result (HandsAll Takes (IsListing what app (g.content before)) old new)
+      → IfOk result (EmitsAll Accepts (IsListing what app (g.content before)) old new)
   pub part : g.is_honest before → g.is_honest now ⊎ g.is_clean now → AreNumbered (g.content before).sets
-      → IfErr result (HandsPart Takes Refuses (IsListing what app (g.content before)) old new)
+      → IfErr result (EmitsPart Accepts Refuses (IsListing what app (g.content before)) old new)
   pub same : g.is_honest now → g.content now ≡ g.content before
   pub crash : (c : Content) → g.may_leave now c → g.may_leave before c
   pub blames : IfErr result (λ fault. fault ≡ list.Device → MoreFailures (g.failures before) (g.failures now))

@@ -11,8 +11,8 @@ use Rattle.plan_store.specs.declared.changes.Change.{Change}
 use Rattle.plan_store.specs.declared.stores.StoreFault.{StoreFault}
 use Rattle.plan_store.specs.declared.stores.StoreFault.TheVariants.{Device, Memory}
 use Rattle.plan_tables_schema.specs.Rows.{tables_of}
-use Rattle.plan_tables_schema.specs.Schema.{HasOwnIndexes}
-use Rattle.plan_tables_constraints.specs.Taken.{AreTaken}
+use Rattle.plan_tables_schema.specs.Schema.{HasOnlyKeyIndexes}
+use Rattle.plan_tables_constraints.specs.Accepted.{AreAccepted}
 
 -- lack of memory, a failure of the device or a connection that was closed, or neither
 abbrev pub fault_in : Error → Option StoreFault
@@ -29,8 +29,8 @@ closing_fault (SqliteFailure OutOfMemory) = Memory
 closing_fault _ = Device
 
 -- the database can accept a change of the content: no index made by hand is of its tables, and these accept it
-abbrev pub CanTake : State → Content → Change → Type 0
-CanTake s c change = HasOwnIndexes s.now.schema × AreTaken c change (tables_of s.now.trees)
+abbrev pub CanAccept : State → Content → Change → Type 0
+CanAccept s c change = HasOnlyKeyIndexes s.now.schema × AreAccepted c change (tables_of s.now.trees)
 
 -- of an open connection the device failed meanwhile, or a limit on steps is set
 abbrev pub HasFailed : State → State → Type 0

@@ -8,7 +8,7 @@ use Rattle.plan_store.specs.Changes.{Fits}
 use Rattle.plan_store.specs.Parts.{IsPartOf, Rest, with_rest}
 use Rattle.plan_store.specs.declared.changes.Change.{Change}
 use Rattle.plan_tables_schema.specs.Rows.{tables_of}
-use Rattle.plan_tables_windows.specs.Gathering.{told_rest, told_with}
+use Rattle.plan_tables_windows.specs.Fetching.{told_rest, told_with}
 use Rattle.plan_tables_opening.specs.Opened.{IsStored}
 use Rattle.plan_tables_writing.specs.Redefining.{AreMovesOf}
 use Rattle.plan_tables.specs.Stored.{MayLeave}

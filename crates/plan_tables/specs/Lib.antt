@@ -6,8 +6,8 @@ pub mod Adopted
 pub mod Unopened
 pub mod Found
 pub mod Refused
-pub mod Told
+pub mod Representable
 pub mod Causes
 pub mod Whys
-pub mod Taken
+pub mod Accepted
 pub mod Applied

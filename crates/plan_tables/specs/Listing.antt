@@ -5,27 +5,27 @@ use Rattle.sqlite.specs.State.{HasCleanDisk, IsUnchanged, Survives}
 use Rattle.sqlite.specs.Store.{Ghosts}
 use Rattle.planner_machine.specs.Content.{Content}
 use Rattle.planner_machine.specs.Sound.{AreNumbered}
-use Rattle.plan_store.specs.Listings.{HandsAll, IsListing, Shown}
+use Rattle.plan_store.specs.Listings.{EmitsAll, IsListing, Shown}
 use Rattle.plan_store.specs.declared.listings.ListFault.{ListFault}
 use Rattle.plan_store.specs.declared.listings.ListFault.TheVariants as list
 use Rattle.plan_store.specs.declared.listings.What.{What}
 use Rattle.plan_store.specs.declared.listings.What.TheVariants as whats
 use Rattle.plan_tables_schema.specs.Rows.{StaysOrIsUndone}
 use Rattle.plan_tables_schema.specs.Schema.{HasTables}
-use Rattle.plan_tables_queries.specs.Listing.{HandsPart, StopsFor}
+use Rattle.plan_tables_queries.specs.Listing.{EmitsPart, StopsFor}
 use Rattle.plan_tables_queries.specs.declared.listing_faults.ListedFault.{ListedFault}
 use Rattle.plan_tables_queries.specs.declared.listing_faults.ListedFault.TheVariants as listed
 use Rattle.plan_tables_queries.specs.declared.faults.LookupFault.{LookupFault}
 use Rattle.plan_tables_queries.specs.declared.faults.LookupFault.TheVariants as lookup
 use Rattle.plan_tables.specs.Kept.{IsKept, kept_in}
 use Rattle.plan_tables.specs.declared.keeping.Unmade.TheVariants as unmade
-use Rattle.plan_tables.specs.declared.listing.Asked.{Asked}
-use Rattle.plan_tables.specs.declared.listing.Asked.TheVariants as asked
+use Rattle.plan_tables.specs.declared.listing.ListedTable.{ListedTable}
+use Rattle.plan_tables.specs.declared.listing.ListedTable.TheVariants as asked
 use Rattle.plan_tables.specs.declared.listing.Unlisted.{Unlisted}
 use Rattle.plan_tables.specs.declared.listing.Unlisted.TheVariants as unlisted
 
 -- what is listed
-abbrev pub what_of : Asked → What
+abbrev pub what_of : ListedTable → What
 what_of asked.History = whats.History
 what_of asked.Deletions = whats.Deletions
 what_of asked.Pairs = whats.Dependencies
@@ -33,7 +33,7 @@ what_of asked.Pairs = whats.Dependencies
 -- the fault of a look-up as one of a listing
 abbrev pub listed_so : LookupFault → ListedFault
 listed_so lookup.Memory = listed.Memory
-listed_so lookup.Untold = listed.Untold
+listed_so lookup.Malformed = listed.Malformed
 listed_so (lookup.Store e) = listed.Store e
 
 -- the fault of a store
@@ -55,15 +55,15 @@ LeavesOpen (unlisted.Unmade unmade.Device) = ⊥
 -- an Ok changes nothing, and it fails by the sink, for lack of memory, for a malformed row or for one of the four
 -- general errors; a crash finds what it found before.
 pub record ListsKept {S K : Type 0} (g : Ghosts S) (old new : Held S) (lists : Content)
-    (Takes Refuses : K → Shown → K → Type 0) (before after : K) (what : Asked) (app : Option (List ℕ))
+    (Accepts Refuses : K → Shown → K → Type 0) (before after : K) (what : ListedTable) (app : Option (List ℕ))
     (result : Result ℕ ListedFault) : Type 0 where
   pub all : HasCleanDisk (state g new) → ∥ IsKept (state g old) lists ∥₁
       → AreNumbered (kept_in (state g old) lists).sets
-      → IfOk result (HandsAll Takes (IsListing (what_of what) app (kept_in (state g old) lists)) before after)
+      → IfOk result (EmitsAll Accepts (IsListing (what_of what) app (kept_in (state g old) lists)) before after)
   pub part : HasCleanDisk (state g new) → ∥ IsKept (state g old) lists ∥₁
       → AreNumbered (kept_in (state g old) lists).sets
-      → IfErr result (HandsPart Takes Refuses (IsListing (what_of what) app (kept_in (state g old) lists)) before after)
-  pub told : HasCleanDisk (state g new) → ∥ IsKept (state g old) lists ∥₁ → IfErr result (λ fault. fault ≢ listed.Untold)
+      → IfErr result (EmitsPart Accepts Refuses (IsListing (what_of what) app (kept_in (state g old) lists)) before after)
+  pub told : HasCleanDisk (state g new) → ∥ IsKept (state g old) lists ∥₁ → IfErr result (λ fault. fault ≢ listed.Malformed)
   pub same : HasCleanDisk (state g new) → HasTables (state g old).now.schema
       → OnOk result (IsUnchanged (state g old) (state g new))
   pub fails : HasCleanDisk (state g new) → HasTables (state g old).now.schema

@@ -9,7 +9,7 @@ use Rattle.plan_tables_windows.specs.Changes.{KnowsNamed}
 use Rattle.plan_tables_windows.specs.Windows.{IsReadyFor}
 use Rattle.plan_tables_schema.specs.Rows.{tables_of}
 use Rattle.plan_tables_schema.specs.Schema.{HasTables}
-use Rattle.plan_tables_windows.specs.Gathering.{Grows, told_rest}
+use Rattle.plan_tables_windows.specs.Fetching.{Grows, told_rest}
 use Rattle.plan_tables.specs.Causes.{HasFailed}
 use Rattle.plan_tables.specs.Kept.{IsKept, StaysPut}
 use Rattle.plan_tables.specs.declared.keeping.Unmade.{Unmade}

@@ -28,5 +28,5 @@ pub record IsCauseOf {S : Type 0} (g : Ghosts S) (old new : Held S) (error : Err
 -- want of memory, or a row that tells no fact, which the device is blamed for; nothing was asked of the connection
 abbrev pub IsWhyOf : {S : Type 0} → Ghosts S → (old new : Held S) → LookupFault → Unmade → Type 0
 IsWhyOf g old new lookup.Memory why = (why ≡ unmade.Memory) × (new ≡ old)
-IsWhyOf g old new lookup.Untold why = (why ≡ unmade.Device) × (new ≡ old)
+IsWhyOf g old new lookup.Malformed why = (why ≡ unmade.Device) × (new ≡ old)
 IsWhyOf g old new (lookup.Store error) why = IsCauseOf g old new error why

@@ -6,7 +6,7 @@ ghost use Rattle.external_dependencies.specs.Pair.{pair_cmp};
 ghost use Rattle.external_dependencies.specs.Rising.{IsRising};
 ghost use Rattle.planner_machine.specs.declared.job.Job.{Job as JobValue};
 ghost use Rattle.plan_tables_content.specs.Content.{answer_text, IsSmall};
-ghost use Rattle.plan_tables_writing.specs.Writing.{IsTellableChange};
+ghost use Rattle.plan_tables_writing.specs.Writing.{IsRepresentableChange};
 
 use external_dependencies::Links;
 use plan_store::Change;
@@ -43,8 +43,8 @@ fn job_is_small(job: &Option<Job>)
 }
 
 /// The tables can encode what a change brings.
-pub(crate) fn change_is_tellable(change: &Change)
-    ensures { IsTellableChange change.now }
+pub(crate) fn change_is_representable(change: &Change)
+    ensures { IsRepresentableChange change.now }
 {
     links_rise(&change.in_force);
     job_is_small(&change.job);

@@ -17,8 +17,8 @@ ghost use Rattle.plan_tables_content.specs.Content.{answer_text};
 ghost use Rattle.plan_tables_opening.specs.Opened.{IsStored};
 ghost use Rattle.plan_tables_opening.specs.Stored.{AllHaveRowids};
 ghost use Rattle.plan_tables_writing.specs.Redefining.{AreStorableMoves};
-ghost use Rattle.plan_tables_writing.specs.Writing.{IsTellableChange};
-ghost use Rattle.plan_tables.specs.Causes.{CanTake, HasFailed, fault_in};
+ghost use Rattle.plan_tables_writing.specs.Writing.{IsRepresentableChange};
+ghost use Rattle.plan_tables.specs.Causes.{CanAccept, HasFailed, fault_in};
 ghost use Rattle.plan_tables.specs.Found.{Tells};
 ghost use Rattle.plan_tables.specs.Kept.{IsMet, StaysPut, jobless};
 ghost use Rattle.plan_tables.specs.Whys.{IsWhyOf};
@@ -114,14 +114,14 @@ pub(crate) fn why_of<S: Alter>(conn: &mut Connection<S>, fault: &LookupFault) ->
 {
     match fault {
         LookupFault::Memory => Unmade::Memory,
-        LookupFault::Untold => Unmade::Device,
+        LookupFault::Malformed => Unmade::Device,
         LookupFault::Store(error) => cause_of(conn, error),
     }
 }
 
 // What a change has begun in the lists: room for it, and the change of their definitions.
 #[derive(Drop)]
-struct Begun {
+struct PendingChange {
     room: Room,
     redefining: Redefining,
 }
@@ -129,7 +129,7 @@ struct Begun {
 // A change under way: what it has begun in the lists, and what is left of it.
 #[derive(Drop)]
 struct Underway {
-    begun: Begun,
+    begun: PendingChange,
     rest: Change,
 }
 
@@ -139,7 +139,7 @@ fn begin(
     alloc: Global,
     change: &Change,
     definitions: DefinitionChange,
-) -> Result<Begun, AllocError>
+) -> Result<PendingChange, AllocError>
     requires { Fits change.now (content_of lists.old) }
     ensures pairs { IfOk result (λ begun. begun.room.pairs.items ≡ (content_of lists.old).pairs) }
     ensures room { IfOk result (λ begun. HasRoom change.now lists.new begun.room) }
@@ -157,7 +157,7 @@ fn begin(
 {
     let room = lists.make_room(alloc, change)?;
     match lists.begin_redefining(definitions) {
-        Ok(redefining) => Ok(Begun { room, redefining }),
+        Ok(redefining) => Ok(PendingChange { room, redefining }),
         Err(error) => {
             lists.put_back(room);
             Err(error)
@@ -199,7 +199,7 @@ fn undo(lists: &mut Content, underway: Underway)
         (with_definitions (undone underway.begun.redefining (content_of lists.old).definitions)
         (content_of lists.old)) }
 {
-    let Begun { room, redefining } = underway.begun;
+    let PendingChange { room, redefining } = underway.begun;
     lists.undo_redefining(redefining);
     lists.put_back(room);
 }
@@ -215,7 +215,7 @@ fn complete(lists: &mut Content, underway: Underway)
         (content_of lists.old))) }
 {
     let Underway { begun, rest } = underway;
-    let Begun { room, redefining } = begun;
+    let PendingChange { room, redefining } = begun;
     lists.finish(room, rest);
     lists.end_redefining(redefining);
 }
@@ -233,7 +233,7 @@ pub(crate) fn change_both<S: Alter>(
     requires mode { conn.old.in_transaction ≡ false }
     requires fits { Fits change (content_of lists.old) }
     requires storable { AreStorableMoves moves.now }
-    requires told { IsTellableChange change }
+    requires told { IsRepresentableChange change }
     requires number { IfSome change.job (λ (job : JobValue). job.number < 2 ^ 63) }
     requires line { IfSome change.job (λ (job : JobValue). line.now ≡ answer_text job.reply) }
     ensures lists { OnOk result (content_of lists.new
@@ -253,7 +253,7 @@ pub(crate) fn change_both<S: Alter>(
         → IfErr result (λ why. why ≡ Unmade.Memory → IsTrue (state S.Store conn.new).is_open) }
     ensures blames { HasCleanDisk (state S.Store conn.new) → (rest : Rest)
         → IsMet (state S.Store conn.old) (content_of lists.old) change moves.now rest
-        → CanTake (state S.Store conn.old) (with_rest rest (content_of lists.old)) change
+        → CanAccept (state S.Store conn.old) (with_rest rest (content_of lists.old)) change
         → IfErr result (λ why. why ≡ Unmade.Device
         → HasFailed (state S.Store conn.old) (state S.Store conn.new)) }
     ensures schema { HasCleanDisk (state S.Store conn.new) → (rest : Rest)

@@ -12,6 +12,6 @@ mod prepared;
 mod seeking;
 mod table_store;
 
-pub use plan_tables_constraints::fitting_changes_are_taken;
+pub use plan_tables_constraints::fitting_changes_are_accepted;
 pub use plan_tables_opening::{OpenFault, open_connection};
 pub use table_store::TableStore;

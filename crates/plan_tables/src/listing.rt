@@ -6,7 +6,7 @@ ghost use Rattle.sqlite.specs.State.{HasCleanDisk, IsUnchanged, Survives};
 ghost use Rattle.planner_machine.specs.Sound.{AreNumbered};
 ghost use Rattle.plan_store_lists.specs.Rows.{of_deletion, of_row};
 ghost use Rattle.plan_store.specs.Contents.{content_of};
-ghost use Rattle.plan_store.specs.Listings.{HandsAll, HandsPart, IsListing};
+ghost use Rattle.plan_store.specs.Listings.{EmitsAll, EmitsPart, IsListing};
 ghost use Rattle.plan_store.specs.Parts.{ListsAll};
 ghost use Rattle.plan_tables_schema.specs.Schema.{HasTables};
 ghost use Rattle.plan_tables_queries.specs.Finding.{FindsFact};
@@ -16,7 +16,7 @@ ghost use Rattle.plan_tables.specs.Listing.{LeavesOpen, ListsKept, fault_so, lis
 
 use crate::keeping::{Unmade, cause_of};
 use occurrences::{Deletion, Row};
-use plan_store::{Content, ListFault, RowSink, SinkFault};
+use plan_store::{Content, ItemRefused, ItemSink, ListFault};
 use plan_tables_queries::{
     ListedFault, LookupFault, completed_rows, deleted_rows, list_deletions, list_history,
 };
@@ -26,7 +26,7 @@ use work_calendars::App;
 
 /// What is listed.
 #[derive(Clone, Copy)]
-pub(crate) enum Asked {
+pub(crate) enum ListedTable {
     History,
     Deletions,
     Pairs,
@@ -36,7 +36,7 @@ pub(crate) enum Asked {
 #[derive(Clone, Copy)]
 pub(crate) enum Unlisted {
     /// The sink refused an item.
-    Sink(SinkFault),
+    Sink(ItemRefused),
     /// Memory was refused, or a query of the tables failed.
     Unmade(Unmade),
 }
@@ -47,7 +47,7 @@ fn listed_so(fault: LookupFault) -> ListedFault
 {
     match fault {
         LookupFault::Memory => ListedFault::Memory,
-        LookupFault::Untold => ListedFault::Untold,
+        LookupFault::Malformed => ListedFault::Malformed,
         LookupFault::Store(error) => ListedFault::Store(error),
     }
 }
@@ -72,15 +72,15 @@ fn read_rest<S: Alter>(
 }
 
 // Passes the sink the pairs of one application or of all, each with both its rows.
-fn list_pairs<S: Alter, K: RowSink>(
+fn list_pairs<S: Alter, K: ItemSink>(
     alloc: Global,
     conn: &mut Connection<S>,
     lists: &Content,
     app: Option<&App>,
     sink: &mut K,
 ) -> Result<usize, ListedFault>
-    ensures { ListsKept S.Store conn.old conn.new (content_of lists.now) K.takes K.refuses
-        sink.old sink.new Asked.Pairs (option_copied app.entry) result }
+    ensures { ListsKept S.Store conn.old conn.new (content_of lists.now) K.accepts K.refuses
+        sink.old sink.new ListedTable.Pairs (option_copied app.entry) result }
 {
     lists.has_listings_with();
     let (history, deletions) = match read_rest(alloc, conn) {
@@ -99,42 +99,42 @@ fn list_pairs<S: Alter, K: RowSink>(
 }
 
 // Passes the sink a listing, of one application or of all.
-fn list_facts<S: Alter, K: RowSink>(
+fn list_facts<S: Alter, K: ItemSink>(
     alloc: Global,
     conn: &mut Connection<S>,
     lists: &Content,
-    asked: Asked,
+    asked: ListedTable,
     app: Option<&App>,
     sink: &mut K,
 ) -> Result<usize, ListedFault>
-    ensures { ListsKept S.Store conn.old conn.new (content_of lists.now) K.takes K.refuses
+    ensures { ListsKept S.Store conn.old conn.new (content_of lists.now) K.accepts K.refuses
         sink.old sink.new asked (option_copied app.entry) result }
 {
     match asked {
-        Asked::History => list_history(alloc, conn, app, sink),
-        Asked::Deletions => list_deletions(alloc, conn, app, sink),
-        Asked::Pairs => list_pairs(alloc, conn, lists, app, sink),
+        ListedTable::History => list_history(alloc, conn, app, sink),
+        ListedTable::Deletions => list_deletions(alloc, conn, app, sink),
+        ListedTable::Pairs => list_pairs(alloc, conn, lists, app, sink),
     }
 }
 
 /// The same; and if it fails, why.
-pub(crate) fn list_kept<S: Alter, K: RowSink>(
+pub(crate) fn list_kept<S: Alter, K: ItemSink>(
     alloc: Global,
     conn: &mut Connection<S>,
     lists: &Content,
-    asked: Asked,
+    asked: ListedTable,
     app: Option<&App>,
     sink: &mut K,
 ) -> Result<usize, Unlisted>
     ensures all { HasCleanDisk (state S.Store conn.new)
         → ∥ IsKept (state S.Store conn.old) (content_of lists.now) ∥₁
         → AreNumbered (kept_in (state S.Store conn.old) (content_of lists.now)).sets
-        → IfOk result (HandsAll K.takes (IsListing (what_of asked) (option_copied app.entry)
+        → IfOk result (EmitsAll K.accepts (IsListing (what_of asked) (option_copied app.entry)
         (kept_in (state S.Store conn.old) (content_of lists.now))) sink.old sink.new) }
     ensures part { HasCleanDisk (state S.Store conn.new)
         → ∥ IsKept (state S.Store conn.old) (content_of lists.now) ∥₁
         → AreNumbered (kept_in (state S.Store conn.old) (content_of lists.now)).sets
-        → IfErr result (λ why. HandsPart K.takes K.refuses
+        → IfErr result (λ why. EmitsPart K.accepts K.refuses
         (IsListing (what_of asked) (option_copied app.entry)
         (kept_in (state S.Store conn.old) (content_of lists.now))) sink.old sink.new
         (fault_so why)) }
@@ -159,7 +159,7 @@ pub(crate) fn list_kept<S: Alter, K: RowSink>(
         Ok(count) => Ok(count),
         Err(ListedFault::Sink(fault)) => Err(Unlisted::Sink(fault)),
         Err(ListedFault::Memory) => Err(Unlisted::Unmade(Unmade::Memory)),
-        Err(ListedFault::Untold) => Err(Unlisted::Unmade(Unmade::Device)),
+        Err(ListedFault::Malformed) => Err(Unlisted::Unmade(Unmade::Device)),
         Err(ListedFault::Store(error)) => Err(Unlisted::Unmade(cause_of(conn, &error))),
     }
 }

@@ -3,7 +3,7 @@
 ghost use Rattle.std.specs.Prelude.{◌≡◌, ◌↔◌, ◌<◌, ◌^◌, IfOk, IfSome, IsTrue};
 ghost use Rattle.planner_machine.specs.declared.job.Job.{Job as JobValue};
 ghost use Rattle.plan_tables_content.specs.Content.{answer_text};
-ghost use Rattle.plan_tables.specs.Told.{BringMoves};
+ghost use Rattle.plan_tables.specs.Representable.{BringMoves};
 
 use crate::answers::job_line;
 use crate::definition_moves::moves_of;

@@ -1,13 +1,13 @@
 // What is fetched from the tables before a window is lent or a change is made, and loaded into the lists.
 
 ghost use Rattle.plan_store.specs.Contents.{content_of};
-ghost use Rattle.plan_tables_windows.specs.Gathering.{Gathers};
+ghost use Rattle.plan_tables_windows.specs.Fetching.{Fetches};
 ghost use Rattle.plan_tables.specs.Sought.{IsFoundFor, Seeks};
 
 use crate::keeping::{Unmade, why_of};
 use plan_store::{Change, Content, Need};
 use plan_tables_queries::LookupFault;
-use plan_tables_windows::{gather, gather_for_change};
+use plan_tables_windows::{load_for_change, load_for_need};
 use sqlite::{Alter, Connection};
 use std::alloc::Global;
 
@@ -19,18 +19,18 @@ pub(crate) enum Sought<'a> {
 }
 
 // Fetches what is sought, and loads it into the lists.
-fn gather_sought<S: Alter>(
+fn load_sought<S: Alter>(
     alloc: Global,
     conn: &mut Connection<S>,
     lists: &mut Content,
     sought: Sought<'_>,
 ) -> Result<(), LookupFault>
-    ensures { Gathers S.Store conn.old conn.new (content_of lists.old) (content_of lists.new)
+    ensures { Fetches S.Store conn.old conn.new (content_of lists.old) (content_of lists.new)
         result (IsFoundFor sought.entry) }
 {
     match sought {
-        Sought::Window(need) => gather(alloc, conn, lists, need),
-        Sought::Change(change) => gather_for_change(alloc, conn, lists, change),
+        Sought::Window(need) => load_for_need(alloc, conn, lists, need),
+        Sought::Change(change) => load_for_change(alloc, conn, lists, change),
     }
 }
 
@@ -44,7 +44,7 @@ pub(crate) fn seek<S: Alter>(
     ensures { Seeks S.Store conn.old conn.new (content_of lists.old) (content_of lists.new) result
         (IsFoundFor sought.entry) }
 {
-    match gather_sought(alloc, conn, lists, sought) {
+    match load_sought(alloc, conn, lists, sought) {
         Ok(()) => Ok(()),
         Err(fault) => Err(why_of(conn, &fault)),
     }

@@ -13,37 +13,37 @@ ghost use Rattle.planner_machine.specs.declared.job.Job.{Job as JobValue};
 ghost use Rattle.plan_store.specs.Changes.{Fits, after};
 ghost use Rattle.plan_store.specs.Contents.{content_of};
 ghost use Rattle.plan_store.specs.Faults.{IsMildListing, MoreFailures};
-ghost use Rattle.plan_store.specs.Listings.{HandsAll, HandsPart, IsListing};
+ghost use Rattle.plan_store.specs.Listings.{EmitsAll, EmitsPart, IsListing};
 ghost use Rattle.plan_store.specs.Parts.{IsPartOf};
 ghost use Rattle.plan_store.specs.Room.{no_jobs};
 ghost use Rattle.plan_tables_windows.specs.Changes.{KnowsNamed};
 ghost use Rattle.plan_store.specs.declared.stores.StoreFault.TheVariants.{Device, Memory};
 ghost use Rattle.plan_tables_content.specs.Content.{answer_text};
 ghost use Rattle.plan_tables_schema.specs.Rows.{tables_of};
-ghost use Rattle.plan_tables_schema.specs.Schema.{HasOwnIndexes, HasTables};
-ghost use Rattle.plan_tables_windows.specs.Gathering.{told_rest};
+ghost use Rattle.plan_tables_schema.specs.Schema.{HasOnlyKeyIndexes, HasTables};
+ghost use Rattle.plan_tables_windows.specs.Fetching.{told_rest};
 ghost use Rattle.plan_tables_opening.specs.Opened.{IsStored};
 ghost use Rattle.plan_tables.specs.Applied.{AppliesBy, ListsBy, ReadsBy};
-ghost use Rattle.plan_tables.specs.Causes.{CanTake, HasFailed, CountsOn};
+ghost use Rattle.plan_tables.specs.Causes.{CanAccept, HasFailed, CountsOn};
 ghost use Rattle.plan_tables.specs.Kept.{CanRead, IsKept, LooksOn, kept_in};
 ghost use Rattle.plan_tables.specs.Listing.{what_of};
 ghost use Rattle.plan_tables.specs.Sought.{IsFoundFor};
 ghost use Rattle.plan_tables.specs.Stored.{LeavesSound, MayLeave};
-ghost use Rattle.plan_tables.specs.Taken.{HasRoomFor, KeepsSchema};
-ghost use Rattle.plan_tables.specs.Told.{BringMoves};
+ghost use Rattle.plan_tables.specs.Accepted.{HasRoomFor, KeepsSchema};
+ghost use Rattle.plan_tables.specs.Representable.{BringMoves};
 
-use crate::answers::{added_rise, change_is_tellable};
+use crate::answers::{added_rise, change_is_representable};
 use crate::keeping::{Unmade, ask_open, change_both};
-use crate::listing::{Asked, Unlisted, list_kept};
+use crate::listing::{ListedTable, Unlisted, list_kept};
 use crate::looking::job_kept;
 use crate::prepared::{Prepared, can_number, prepare};
 use crate::seeking::{Sought, seek};
 use app_definitions::Definitions;
 use external_dependencies::Links;
-use plan_store::{Change, Content, ListFault, Need, PlanStore, RowSink, StoreFault, View, What};
-use plan_tables_constraints::fitting_changes_are_taken;
-use plan_tables_content::{tables_have_one_content, tables_tell_sets};
-use plan_tables_opening::has_own_indexes;
+use plan_store::{Change, Content, ItemSink, ListFault, Need, PlanStore, StoreFault, View, What};
+use plan_tables_constraints::fitting_changes_are_accepted;
+use plan_tables_content::{tables_have_one_content, tables_represent_sets};
+use plan_tables_opening::has_only_key_indexes;
 use planner_machine::{Bounds, Job};
 use sqlite::{Alter, Connection, Error};
 use std::alloc::Global;
@@ -75,12 +75,12 @@ pub struct TableStore<S: Alter> {
 impl<S: Alter + Drop> TableStore<S> {
     /// Whether the tables have no indexes but those of their keys: one that someone made beside may refuse a row. Its
     /// only error is want of memory.
-    pub fn has_own_indexes(&self, alloc: Global) -> Result<bool, Error>
+    pub fn has_only_key_indexes(&self, alloc: Global) -> Result<bool, Error>
         ensures own { IfOk result (λ own. HasTables (state S.Store self.now.conn).now.schema
-            → (IsTrue own ↔ HasOwnIndexes (state S.Store self.now.conn).now.schema)) }
+            → (IsTrue own ↔ HasOnlyKeyIndexes (state S.Store self.now.conn).now.schema)) }
         ensures refused { IfErr result (λ error. error ≡ SqliteFailure OutOfMemory) }
     {
-        has_own_indexes(alloc, &self.conn)
+        has_only_key_indexes(alloc, &self.conn)
     }
 
     /// The connection, given back.
@@ -107,7 +107,7 @@ impl<S: Alter + Drop> TableStore<S> {
         ensures whole { result.failures ≡ 0 }
         ensures sure { result.in_doubt ≡ false }
     {
-        tables_tell_sets();
+        tables_represent_sets();
         // its clause says that an open connection has a database
         let _ = conn.schema();
         let mut lists = lists;
@@ -292,10 +292,10 @@ impl<S: Alter + Drop> TableStore<S> {
     }
 
     // Passes the sink a listing that queries the tables, if nothing failed and the connection is known to be open.
-    fn list_asked<K: RowSink>(
+    fn list_asked<K: ItemSink>(
         &mut self,
         alloc: Global,
-        asked: Asked,
+        asked: ListedTable,
         app: Option<&App>,
         sink: &mut K,
     ) -> Result<usize, ListFault>
@@ -303,12 +303,12 @@ impl<S: Alter + Drop> TableStore<S> {
         requires sure { self.old.in_doubt ≡ false }
         ensures all { HasCleanDisk (state S.Store self.new.conn)
             → AreNumbered (kept_in (state S.Store self.old.conn) (content_of self.old.lists)).sets
-            → IfOk result (HandsAll K.takes (IsListing (what_of asked) (option_copied app.entry)
+            → IfOk result (EmitsAll K.accepts (IsListing (what_of asked) (option_copied app.entry)
             (kept_in (state S.Store self.old.conn) (content_of self.old.lists)))
             sink.old sink.new) }
         ensures part { HasCleanDisk (state S.Store self.new.conn)
             → AreNumbered (kept_in (state S.Store self.old.conn) (content_of self.old.lists)).sets
-            → IfErr result (HandsPart K.takes K.refuses
+            → IfErr result (EmitsPart K.accepts K.refuses
             (IsListing (what_of asked) (option_copied app.entry)
             (kept_in (state S.Store self.old.conn) (content_of self.old.lists)))
             sink.old sink.new) }
@@ -348,15 +348,15 @@ impl<S: Alter + Drop> TableStore<S> {
     }
 
     // The same, where nothing failed.
-    fn list_sure<K: RowSink>(
+    fn list_sure<K: ItemSink>(
         &mut self,
         alloc: Global,
-        asked: Asked,
+        asked: ListedTable,
         app: Option<&App>,
         sink: &mut K,
     ) -> Result<usize, ListFault>
         requires { self.old.failures ≡ 0 }
-        ensures { ListsBy ⟦<TableStore<S> as PlanStore>⟧ self.old self.new K.takes K.refuses
+        ensures { ListsBy ⟦<TableStore<S> as PlanStore>⟧ self.old self.new K.accepts K.refuses
             sink.old sink.new (what_of asked) (option_copied app.entry) result }
     {
         self.lists.has_listings_with();
@@ -473,7 +473,7 @@ impl<S: Alter + Drop> TableStore<S> {
         ensures blames { IfErr result (λ fault. fault ≡ Device
             → MoreFailures self.old.failures self.new.failures) }
         ensures caused { HasCleanDisk (state S.Store self.new.conn)
-            → CanTake (state S.Store self.old.conn)
+            → CanAccept (state S.Store self.old.conn)
             (kept_in (state S.Store self.old.conn) (content_of self.old.lists)) change
             → IfErr result (λ fault. fault ≡ Device
             → ∥ HasFailed (state S.Store self.old.conn) (state S.Store self.new.conn) ∥₁) }
@@ -491,9 +491,9 @@ impl<S: Alter + Drop> TableStore<S> {
             → self.new.failures ≡ self.old.failures) }
     {
         tables_have_one_content();
-        tables_tell_sets();
-        fitting_changes_are_taken();
-        change_is_tellable(&change);
+        tables_represent_sets();
+        fitting_changes_are_accepted();
+        change_is_representable(&change);
         added_rise(&change);
         match change_both(
             &mut self.conn,
@@ -601,7 +601,7 @@ impl<S: Alter + Drop> PlanStore for TableStore<S> {
         }
     }
 
-    fn rows_to<K: RowSink>(
+    fn rows_to<K: ItemSink>(
         &mut self,
         alloc: Global,
         what: What,
@@ -616,9 +616,9 @@ impl<S: Alter + Drop> PlanStore for TableStore<S> {
             What::Ltp => self.lists.ltp_to(alloc, app, sink),
             What::Cp => self.lists.cp_to(alloc, app, sink),
             What::Links => self.lists.links_to(app, sink),
-            What::History => self.list_sure(alloc, Asked::History, app, sink),
-            What::Deletions => self.list_sure(alloc, Asked::Deletions, app, sink),
-            What::Dependencies => self.list_sure(alloc, Asked::Pairs, app, sink),
+            What::History => self.list_sure(alloc, ListedTable::History, app, sink),
+            What::Deletions => self.list_sure(alloc, ListedTable::Deletions, app, sink),
+            What::Dependencies => self.list_sure(alloc, ListedTable::Pairs, app, sink),
         }
     }
 
@@ -632,7 +632,7 @@ impl<S: Alter + Drop> PlanStore for TableStore<S> {
             (kept_in (state S.Store self.old.conn) (content_of self.old.lists))) }
         ensures applies { AppliesBy ⟦<TableStore<S> as PlanStore>⟧ self.old self.new change result }
         ensures caused { self.old.failures ≡ 0 → HasCleanDisk (state S.Store self.new.conn)
-            → CanTake (state S.Store self.old.conn)
+            → CanAccept (state S.Store self.old.conn)
             (kept_in (state S.Store self.old.conn) (content_of self.old.lists)) change
             → IfErr result (λ fault. fault ≡ StoreFault.Device
             → ∥ HasFailed (state S.Store self.old.conn) (state S.Store self.new.conn)

@@ -34,7 +34,7 @@ use Rattle.plan_tables_writing.proofs.LinkLemmas.{holds_link-Decides}
 use Rattle.plan_tables_constraints.proofs.Held.{Shows, matched, natural_itself, one_natural, one_text, same_cell}
 use Rattle.plan_tables_constraints.proofs.Held.{text_itself}
 use Rattle.plan_tables_constraints.proofs.SetMoves.{shows_cells, shows_with, shows_without}
-use Rattle.plan_tables_content.proofs.Told.{is_some as same_some, none_some}
+use Rattle.plan_tables_content.proofs.SameOptions.{is_some as same_some, none_some}
 
 -- ---- pairs
 

@@ -9,8 +9,8 @@ use Rattle.std.proofs.lemmas.List.Kept.{AllPairs-filter}
 use Rattle.sqlite.specs.Order.{Row as Values, column}
 use Rattle.work_calendars.specs.Name.{IsName}
 use Rattle.app_definitions.specs.declared.options.Options.{Options}
-use Rattle.app_definitions.specs.declared.kinds.Block.{Block}
-use Rattle.app_definitions.specs.declared.kinds.Block.TheVariants as block
+use Rattle.app_definitions.specs.declared.kinds.DefinitionBlock.{DefinitionBlock}
+use Rattle.app_definitions.specs.declared.kinds.DefinitionBlock.TheVariants as block
 use Rattle.app_definitions.specs.declared.kinds.Kind.{Kind}
 use Rattle.app_definitions.specs.declared.kinds.Kind.TheVariants as kind
 use Rattle.occurrences.specs.declared.place.CurrentRow.{CurrentRow}
@@ -31,7 +31,7 @@ use Rattle.planner_machine.specs.declared.job.Job.{Job}
 use Rattle.plan_store_lists.specs.Rows.{of_current, of_deletion, of_row}
 use Rattle.plan_store_lists.proofs.KeyLemmas.{contains_filter, contains_first, filter_contains}
 use Rattle.plan_tables_schema.specs.Rows.{Tables, with_cells, without_key}
-use Rattle.plan_tables_schema.specs.Takes.{TakesRow}
+use Rattle.plan_tables_schema.specs.Accepted.{AcceptsRow}
 use Rattle.plan_tables_schema.specs.declared.tables.Table.{Table}
 use Rattle.plan_tables_schema.specs.declared.tables.Table.TheVariants as table
 use Rattle.plan_store.specs.Changes.{Fits, after, is_among, jobs_after, redefined}
@@ -43,22 +43,22 @@ use Rattle.plan_store.proofs.PairLemmas.{pair_total}
 use Rattle.run_cycles.specs.declared.cycles.RunCycle.{RunCycle}
 use Rattle.app_definition_records.specs.declared.predecessors.Predecessor.{Predecessor}
 use Rattle.app_definition_records.specs.ByName.{overlaid}
-use Rattle.plan_tables_definitions.specs.Telling.{IsTellableBlock}
+use Rattle.plan_tables_definitions.specs.Representable.{IsRepresentableBlock}
 use Rattle.plan_tables_content.specs.Content.{IsApplicationRow, IsContentOf, IsFact, IsNamed, IsOfList, IsOfSet, IsUnderOwn, job_values, meta_values}
 use Rattle.plan_tables_content.specs.Facts.{current_key, current_values, deletion_key, deletion_values, link_key, link_values}
 use Rattle.plan_tables_content.specs.Facts.{natural, pair_values, row_key, row_values}
 use Rattle.plan_tables_content.specs.Facts.{IsCalendarRow, IsCycleRow, IsOffsetRow, IsPeriodRow, IsPredecessorRow}
-use Rattle.plan_tables_content.proofs.Told.{none_some}
+use Rattle.plan_tables_content.proofs.SameOptions.{none_some}
 use Rattle.plan_tables_writing.specs.Redefining.{AreMovesOf, BringsRows, definitions_moved, kind_of, moved_by, rows_of}
-use Rattle.plan_tables_writing.specs.Taking.{TakesChange, TakesEach, TakesJob, TakesKind, TakesLinks, TakesMeta, TakesNewMeta, TakesPairs}
-use Rattle.plan_tables_writing.specs.Taking.{TakesPlans, TakesRows}
-use Rattle.plan_tables_writing.specs.Writing.{IsTellableChange, beside, cp_moved, history_moved, links_moved, ltp_moved}
+use Rattle.plan_tables_writing.specs.Accepted.{AcceptsChange, AcceptsEach, AcceptsJob, AcceptsKind, AcceptsLinks, AcceptsMeta, AcceptsNewMeta, AcceptsPairs}
+use Rattle.plan_tables_writing.specs.Accepted.{AcceptsPlans, AcceptsRows}
+use Rattle.plan_tables_writing.specs.Writing.{IsRepresentableChange, beside, cp_moved, history_moved, links_moved, ltp_moved}
 use Rattle.plan_tables_writing.specs.Writing.{meta_moved, pairs_moved, rows_moved, standing, without_each}
 use Rattle.plan_tables_writing.proofs.PairLemmas.{is_among-Decides}
 use Rattle.plan_tables_writing.specs.declared.redefining.DefinitionMoves.{DefinitionMoves}
 use Rattle.plan_tables_writing.proofs.KindLemmas.{job_storable, links_storable, meta_storable, pairs_storable}
 use Rattle.plan_tables_constraints.specs.Room.{CanBeStored, HaveRoom}
-use Rattle.plan_tables_constraints.specs.Taken.{FindKind, FindMoves, FindsRoom, FittingIsTaken}
+use Rattle.plan_tables_constraints.specs.Accepted.{FindKind, FindMoves, FindsRoom, FittingIsAccepted}
 use Rattle.plan_tables_constraints.proofs.ChangeLemmas.{lacked_by, link_among, link_itself, link_lacks, link_shows, meta_key}
 use Rattle.plan_tables_constraints.proofs.ChangeLemmas.{pair_itself, pair_shows, pairs_told}
 use Rattle.plan_tables_constraints.proofs.ContentAfter.{current_shows, deletion_shows, history_shows, row_shows}
@@ -106,7 +106,7 @@ pairs_apart pairs rising i j d lt within same =
 
 one_pair : (x : Pair) (xs : List Pair) (now : Tables) → AnyPair x → RoomFor (x ∷ xs) (now table.Dependency)
     → StandBeside table.Dependency pair_values AnyPair AreOtherPairs (x ∷ []) (now table.Dependency)
-    → TakesRow table.Dependency (pair_values x) now
+    → AcceptsRow table.Dependency (pair_values x) now
 one_pair x xs now so room beside =
     let (n, le, has) = room_for_one x xs (now table.Dependency) room in
     next_taken table.Dependency refl now n has (pair_values x)
@@ -123,7 +123,7 @@ less_pair x xs now room = subst (RoomFor xs) (sym (at_itself table.Dependency _ 
 pairs_taken : (change : PairChange) (pairs : List Pair) (now : Tables)
     → ((v : Values) → Shows table.Dependency (now table.Dependency) v → IsOfList pair_values pairs v)
     → IsRising pair_cmp change.added → HaveRoom (length change.added) (now table.Dependency)
-    → TakesPairs pairs change now
+    → AcceptsPairs pairs change now
 pairs_taken change pairs now held rising room = each_taken table.Dependency pair_values AnyPair AreOtherPairs
     (λ xs at. RoomFor xs (at table.Dependency)) (λ p so. pair_shows p) one_pair (λ x xs at so. less_pair x xs at) change.added left (pairs_apart change.added rising) (λ x has. tt) (
       length change.added,
@@ -170,7 +170,7 @@ module _ (old new : List Link) (rising : IsRising link_cmp new) (are : (l : Link
 
   one_link : (x : Link) (xs : List Link) (now : Tables) → IsNew x → RoomFor (x ∷ xs) (now table.LinkInForce)
       → StandBeside table.LinkInForce link_values IsNew HaveOtherNames (x ∷ []) (now table.LinkInForce)
-      → TakesRow table.LinkInForce (link_values x) now
+      → AcceptsRow table.LinkInForce (link_values x) now
   one_link x xs now so room beside =
       let (n, le, has) = room_for_one x xs (now table.LinkInForce) room in
       next_taken table.LinkInForce refl now n has (link_values x) (
@@ -189,7 +189,7 @@ module _ (old new : List Link) (rising : IsRising link_cmp new) (are : (l : Link
 
   new_links_taken : (now : Tables)
       → ((v : Values) → Shows table.LinkInForce (now table.LinkInForce) v → IsOfList link_values old v)
-      → HaveRoom (length new) (now table.LinkInForce) → TakesLinks old (Some new) now
+      → HaveRoom (length new) (now table.LinkInForce) → AcceptsLinks old (Some new) now
   new_links_taken now held room = each_taken table.LinkInForce link_values IsNew HaveOtherNames
       (λ xs at. RoomFor xs (at table.LinkInForce)) (λ l so. link_shows l) one_link (λ x xs at so. less_link x xs at) (beside old new) left links_apart
       (λ x has. (contains_filter (lacked_by old) new x has).0) (
@@ -223,7 +223,7 @@ module _ (old new : List Link) (rising : IsRising link_cmp new) (are : (l : Link
 links_taken : (old : List Link) (new : Option (List Link)) → IfSome new (IsRising link_cmp)
     → IfSome new (λ (links : List Link). (l : Link) → Contains links l → IsLink l) → (now : Tables)
     → ((v : Values) → Shows table.LinkInForce (now table.LinkInForce) v → IsOfList link_values old v)
-    → IfSome new (λ (links : List Link). HaveRoom (length links) (now table.LinkInForce)) → TakesLinks old new now
+    → IfSome new (λ (links : List Link). HaveRoom (length links) (now table.LinkInForce)) → AcceptsLinks old new now
 links_taken old None rising are now held room = tt
 links_taken old (Some new) rising are now held room = new_links_taken old new rising are now held room
 
@@ -231,7 +231,7 @@ links_taken old (Some new) rising are now held room = new_links_taken old new ri
 
 meta_row_taken : (bounds : Option Bounds) (issued : ℕ) (options : Options) → IsName options.default_calendar
     → (now : Tables) (was : Values) → matched table.Meta (natural 1 ∷ []) was ≡ true
-    → ((v : Values) → Shows table.Meta (now table.Meta) v → v ≡ was) → TakesMeta bounds issued options now
+    → ((v : Values) → Shows table.Meta (now table.Meta) v → v ≡ was) → AcceptsMeta bounds issued options now
 meta_row_taken bounds issued options named now was key held =
     meta_taken (without_key table.Meta (natural 1 ∷ []) now) bounds issued options named
     (meta_storable bounds issued options) (no_rows table.Meta _ (λ v there.
@@ -241,10 +241,10 @@ meta_row_taken bounds issued options named now was key held =
 
 new_meta_taken : (change : Change) (bounds : Option Bounds) (issued : ℕ) (options : Options)
     → IsName options.default_calendar → (now : Tables) (was : Values) → matched table.Meta (natural 1 ∷ []) was ≡ true
-    → ((v : Values) → Shows table.Meta (now table.Meta) v → v ≡ was) → TakesNewMeta change bounds issued options now
+    → ((v : Values) → Shows table.Meta (now table.Meta) v → v ≡ was) → AcceptsNewMeta change bounds issued options now
 new_meta_taken change bounds issued options named now was key held = go (is_some change.bounds || is_some change.issued)
   where
-    go : (b : Bool) → MatchBool b (TakesMeta (or_else change.bounds bounds)
+    go : (b : Bool) → MatchBool b (AcceptsMeta (or_else change.bounds bounds)
         (unwrap_or change.issued issued) options now) ⊤
     go true = meta_row_taken (or_else change.bounds bounds) (unwrap_or change.issued issued) options named now was key
         held
@@ -252,7 +252,7 @@ new_meta_taken change bounds issued options named now was key held = go (is_some
 
 new_job_taken : (job : Option Job) (jobs : ℕ → Option Job) → IsUnderOwn (λ (j : Job). j.number) jobs
     → IfSome job (λ (j : Job). (jobs j.number ≡ None) × (j.number < 2 ^ 63)) → IfSome job CanBeStored
-    → (now : Tables) → ((v : Values) → Shows table.Job (now table.Job) v → IsOfSet job_values jobs v) → TakesJob job now
+    → (now : Tables) → ((v : Values) → Shows table.Job (now table.Job) v → IsOfSet job_values jobs v) → AcceptsJob job now
 new_job_taken None jobs own is short now held = tt
 new_job_taken (Some job) jobs own is short now held =
     job_taken now job is.1 short (job_storable job) (each_shown (HasOtherNumber job.number) table.Job (now table.Job)
@@ -266,7 +266,7 @@ new_job_taken (Some job) jobs own is short now held =
 -- ---- the whole
 
 module _ (c : Content) (change : Change) (all : Tables) (is : IsContentOf all c) (fits : Fits change c)
-    (sound : IsSound (after change c)) (told : IsTellableChange change) where
+    (sound : IsSound (after change c)) (told : IsRepresentableChange change) where
   abbrev rows : Tables
   rows = rows_moved change all
 
@@ -283,26 +283,26 @@ module _ (c : Content) (change : Change) (all : Tables) (is : IsContentOf all c)
   held : (t : Table) (now : Tables) → now t ≡ all t → (v : Values) → Shows t (now t) v ↔ IsFact t c v
   held t now same v = subst (λ r. Shows t r v ↔ IsFact t c v) (sym same) (is.facts t v)
 
-  rows_taken : TakesRows change all
+  rows_taken : AcceptsRows change all
   rows_taken = (
-    moves_taken of_row change.ltp c.sets.ltp fits.ltp is.tellable.ltp table.LongTerm row_values row_key
+    moves_taken of_row change.ltp c.sets.ltp fits.ltp is.representable.ltp table.LongTerm row_values row_key
         (λ x y. number_told (λ (r : Row). r.serial) x y true)
         (λ x y. number_tells (λ (r : Row). r.serial) x y true refl) row_shows all (held table.LongTerm all refl)
         (λ x now so beside. ltp_one (after change c) sound now x so beside),
-    moves_taken of_current change.cp c.sets.cp fits.cp is.tellable.cp table.Current current_values current_key
+    moves_taken of_current change.cp c.sets.cp fits.cp is.representable.cp table.Current current_values current_key
         (λ x y. number_told (λ (r : CurrentRow). r.row.serial) x y true)
         (λ x y. number_tells (λ (r : CurrentRow). r.row.serial) x y true refl) current_shows (ltp_moved change all)
         (held table.Current (ltp_moved change all)
         (moved_other table.LongTerm table.Current row_values row_key change.ltp all refl))
         (λ x now so beside. cp_one (after change c) sound now x so beside),
-    moves_taken of_row change.history c.sets.history fits.history is.tellable.history table.History row_values
+    moves_taken of_row change.history c.sets.history fits.history is.representable.history table.History row_values
         row_key (λ x y. number_told (λ (r : Row). r.serial) x y true)
         (λ x y. number_tells (λ (r : Row). r.serial) x y true refl) history_shows
         (cp_moved change (ltp_moved change all)) (held table.History (cp_moved change (ltp_moved change all))
         (moved_other table.Current table.History current_values current_key change.cp (ltp_moved change all) refl
         ∙ moved_other table.LongTerm table.History row_values row_key change.ltp all refl))
         (λ x now so beside. history_one (after change c) sound now x so beside),
-    moves_taken of_deletion change.deletions c.sets.deletions fits.deletions is.tellable.deletions table.Deletion
+    moves_taken of_deletion change.deletions c.sets.deletions fits.deletions is.representable.deletions table.Deletion
         deletion_values deletion_key (λ x y. number_told (λ (r : Deletion). r.row.serial) x y true)
         (λ x y. number_tells (λ (r : Deletion). r.row.serial) x y true refl) deletion_shows
         (history_moved change (cp_moved change (ltp_moved change all)))
@@ -336,7 +336,7 @@ module _ (c : Content) (change : Change) (all : Tables) (is : IsContentOf all c)
     named = subst (λ d. IsName (redefined d c.definitions).options.default_calendar) same
         sound.ranges.definitions.default_calendar
 
-    pub plans_taken : TakesPlans c change all
+    pub plans_taken : AcceptsPlans c change all
     plans_taken = (
       rows_taken,
       pairs_taken change.pairs c.pairs rows (λ v. (held table.Dependency rows at_pairs v).0) rising
@@ -349,7 +349,7 @@ module _ (c : Content) (change : Change) (all : Tables) (is : IsContentOf all c)
           (meta_values c.sets.bounds c.sets.issued c.definitions.options)
           (meta_key c.sets.bounds c.sets.issued c.definitions.options)
           (λ v. (held table.Meta linked at_meta v).0),
-      new_job_taken change.job c.jobs is.tellable.jobs (new_job change.job refl) room.job noted
+      new_job_taken change.job c.jobs is.representable.jobs (new_job change.job refl) room.job noted
           (λ v. (held table.Job noted at_jobs v).0),
     )
       where
@@ -371,8 +371,8 @@ module _ (c : Content) (change : Change) (all : Tables) (is : IsContentOf all c)
 
 -- ---- definitions
 
-none_each : (t : Table) (come : List Values) → come ≡ [] → (all : Tables) → TakesEach t rows_of come all
-none_each t come none all = subst (λ (xs : List Values). TakesEach t rows_of xs all) (sym none) tt
+none_each : (t : Table) (come : List Values) → come ≡ [] → (all : Tables) → AcceptsEach t rows_of come all
+none_each t come none all = subst (λ (xs : List Values). AcceptsEach t rows_of xs all) (sym none) tt
 
 module _ (bounds : Option Bounds) (issued : ℕ) (options : Options) (moves : DefinitionMoves) (all : Tables) where
   -- tables that are none of definitions
@@ -392,9 +392,9 @@ module _ (bounds : Option Bounds) (issued : ℕ) (options : Options) (moves : De
       cycles_other moves.names.items moves.rows.items moves.offsets.items all u e f
   kind_other u a b c d e f g (Some kind.Options) = told_other u g bounds issued options all
 
-  module _ (meta : TakesMeta bounds issued options all) where
+  module _ (meta : AcceptsMeta bounds issued options all) where
     removed_taken : (k : Kind) → moves.rows.items ≡ [] → moves.offsets.items ≡ []
-        → TakesKind (Some k) bounds issued options moves all
+        → AcceptsKind (Some k) bounds issued options moves all
     removed_taken kind.Applications none no_offsets = none_each table.Application moves.rows.items none _
     removed_taken kind.Calendars none no_offsets = none_each table.CalendarEntry moves.rows.items none _
     removed_taken kind.Periods none no_offsets = none_each table.Period moves.rows.items none _
@@ -404,7 +404,7 @@ module _ (bounds : Option Bounds) (issued : ℕ) (options : Options) (moves : De
     removed_taken kind.Options none no_offsets = meta
 
 module _ (all : Tables) (c : Content) (change : Change) (is : IsContentOf all c) (fits : Fits change c)
-    (sound : IsSound (after change c)) (told : IsTellableChange change)
+    (sound : IsSound (after change c)) (told : IsRepresentableChange change)
     (rising : IsRising pair_cmp change.pairs.added) (room : FindsRoom change all) (moves : DefinitionMoves) where
   abbrev options : Options
   options = (redefined change.definitions c.definitions).options
@@ -421,56 +421,56 @@ module _ (all : Tables) (c : Content) (change : Change) (is : IsContentOf all c)
   held_by : (t : Table) (v : Values) → Shows t (all t) v ↔ IsFact t c v
   held_by t v = is.facts t v
 
-  meta : TakesMeta c.sets.bounds c.sets.issued options all
+  meta : AcceptsMeta c.sets.bounds c.sets.issued options all
   meta = meta_row_taken c.sets.bounds c.sets.issued options sound.ranges.definitions.default_calendar all
       (meta_values c.sets.bounds c.sets.issued c.definitions.options)
       (meta_key c.sets.bounds c.sets.issued c.definitions.options) (λ v. (is.facts table.Meta v).0)
 
   -- of one kind
-  block_taken : (b : Block) → AreDefinitions (redefined (Merged b) c.definitions) → BringsRows b moves
-      → IsTellableBlock b → FindKind (kind_of b) moves all
-      → TakesKind (Some (kind_of b)) c.sets.bounds c.sets.issued options moves all
-  block_taken (block.Applications more) sounds are tellable found =
+  block_taken : (b : DefinitionBlock) → AreDefinitions (redefined (Merged b) c.definitions) → BringsRows b moves
+      → IsRepresentableBlock b → FindKind (kind_of b) moves all
+      → AcceptsKind (Some (kind_of b)) c.sets.bounds c.sets.issued options moves all
+  block_taken (block.Applications more) sounds are representable found =
       let old = c.definitions.applications in
       applications_taken moves.names.items moves.rows.items all old more are (held_by table.Application)
       (found_rows table.Application IsApplicationRow old more moves.names.items moves.rows.items all are
       (applications_cells (overlaid old more) sounds.applications) found)
-  block_taken (block.Calendars more) sounds are tellable found =
+  block_taken (block.Calendars more) sounds are representable found =
       let old = c.definitions.calendars in
       calendars_taken moves.names.items moves.rows.items all old more are (held_by table.CalendarEntry)
       (found_rows table.CalendarEntry IsCalendarRow old more moves.names.items moves.rows.items all are
       (calendars_cells (overlaid old more) sounds.calendars) found)
-  block_taken (block.Periods more) sounds are tellable found =
+  block_taken (block.Periods more) sounds are representable found =
       let old = c.definitions.periods in
       periods_taken moves.names.items moves.rows.items all old more are (held_by table.Period)
       (found_rows table.Period IsPeriodRow old more moves.names.items moves.rows.items all are
       (periods_cells (overlaid old more) sounds.periods) found)
-  block_taken (block.Predecessors more) sounds are tellable found =
+  block_taken (block.Predecessors more) sounds are representable found =
       let old = c.definitions.predecessors in
       predecessors_taken moves.names.items moves.rows.items all old more (each_overlaid (IsNamed (λ (p : Predecessor). p.name)) old
-      more is.tellable.predecessors tellable) are (held_by table.Predecessor)
+      more is.representable.predecessors representable) are (held_by table.Predecessor)
       (found_rows table.Predecessor IsPredecessorRow old more moves.names.items moves.rows.items all are
       (predecessors_cells (overlaid old more) sounds.predecessors) found)
-  block_taken (block.RunCycles more) sounds are tellable found =
+  block_taken (block.RunCycles more) sounds are representable found =
       let old = c.definitions.run_cycles in
       cycles_taken moves all old more
-      (each_overlaid (IsNamed (λ (cycle : RunCycle). cycle.name)) old more is.tellable.run_cycles tellable) are.0 are.1
+      (each_overlaid (IsNamed (λ (cycle : RunCycle). cycle.name)) old more is.representable.run_cycles representable) are.0 are.1
       (held_by table.RunCycle) (held_by table.Offset)
       (found_rows table.RunCycle IsCycleRow old more moves.names.items moves.rows.items all are.0
       (cycles_cells (overlaid old more) sounds.run_cycles) found.0)
       (found_rows table.Offset IsOffsetRow old more moves.names.items moves.offsets.items all are.1
       (offsets_cells (overlaid old more) sounds.run_cycles) found.1)
-  block_taken (block.Options given) sounds are tellable found = meta
+  block_taken (block.Options given) sounds are representable found = meta
 
   kind_taken : (d : DefinitionChange) → AreDefinitions (redefined d c.definitions) → AreMovesOf d moves
-      → FindMoves d moves all → TakesKind moves.kind c.sets.bounds c.sets.issued options moves all
+      → FindMoves d moves all → AcceptsKind moves.kind c.sets.bounds c.sets.issued options moves all
   kind_taken AsBefore sounds none found =
-      subst (λ (k : Option Kind). TakesKind k c.sets.bounds c.sets.issued options moves all) (sym none) tt
-  kind_taken (Merged b) sounds (at, are, tellable) found =
-      subst (λ (k : Option Kind). TakesKind k c.sets.bounds c.sets.issued options moves all) (sym at)
-      (block_taken b sounds are tellable found)
+      subst (λ (k : Option Kind). AcceptsKind k c.sets.bounds c.sets.issued options moves all) (sym none) tt
+  kind_taken (Merged b) sounds (at, are, representable) found =
+      subst (λ (k : Option Kind). AcceptsKind k c.sets.bounds c.sets.issued options moves all) (sym at)
+      (block_taken b sounds are representable found)
   kind_taken (Removed k name) sounds (at, one, none, no_offsets) found =
-      subst (λ (o : Option Kind). TakesKind o c.sets.bounds c.sets.issued options moves all) (sym at)
+      subst (λ (o : Option Kind). AcceptsKind o c.sets.bounds c.sets.issued options moves all) (sym at)
       (removed_taken c.sets.bounds c.sets.issued options moves all meta k none no_offsets)
 
   other : (u : Table) → IsApart u table.Application → IsApart u table.CalendarEntry → IsApart u table.Period
@@ -479,7 +479,7 @@ module _ (all : Tables) (c : Content) (change : Change) (is : IsContentOf all c)
   other u a b d e f g h = kind_other c.sets.bounds c.sets.issued options moves all u a b d e f g h moves.kind
 
   moves_taken_all : AreMovesOf change.definitions moves → FindMoves change.definitions moves all
-      → TakesChange now moves change all
+      → AcceptsChange now moves change all
   moves_taken_all are found = (
     kind_taken change.definitions sound.ranges.definitions are found,
     plans_taken now rest written_so (redefined_content c all is change.definitions moves are)
@@ -495,6 +495,6 @@ module _ (all : Tables) (c : Content) (change : Change) (is : IsContentOf all c)
         }),
   )
 
-pub fitting_is_taken : FittingIsTaken
+pub fitting_is_taken : FittingIsAccepted
 fitting_is_taken all c change is fits sound told rising room moves are =
     moves_taken_all all c change is fits sound told rising room moves are (room.rows moves are)

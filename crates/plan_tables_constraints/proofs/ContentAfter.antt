@@ -34,18 +34,18 @@ use Rattle.plan_tables_content.specs.Facts.{pair_values, row_key, row_values}
 use Rattle.plan_tables_writing.specs.Writing.{cp_moved, deletions_moved, history_moved, ltp_moved}
 use Rattle.std.proofs.Common.{filter, not}
 use Rattle.plan_tables_content.specs.Content.{AreEach, HasEntry, IsContentOf, IsFact, IsNamed, IsOfList, IsOfSet, IsSmall}
-use Rattle.plan_tables_content.specs.Content.{IsTellable}
+use Rattle.plan_tables_content.specs.Content.{IsRepresentable}
 use Rattle.plan_tables_content.specs.Content.{IsTold, IsUnderOwn, job_values, meta_values}
 use Rattle.run_cycles.specs.declared.cycles.RunCycle.{RunCycle}
 use Rattle.app_definition_records.specs.declared.predecessors.Predecessor.{Predecessor}
-use Rattle.plan_tables_writing.specs.Writing.{IsTellableChange, job_kept, links_moved, meta_moved, meta_told, pairs_moved}
+use Rattle.plan_tables_writing.specs.Writing.{IsRepresentableChange, job_kept, links_moved, meta_moved, meta_told, pairs_moved}
 use Rattle.plan_tables_writing.specs.Writing.{beside, rows_moved, plans_written, standing}
 use Rattle.plan_tables_constraints.proofs.ChangeLemmas.{job_shown, links_shown, meta_key, meta_shown}
 use Rattle.plan_tables_constraints.proofs.ChangeLemmas.{pairs_shown}
 use Rattle.plan_tables_constraints.proofs.Held.{Shows, natural_itself, one_natural, same_cell}
 use Rattle.plan_tables_constraints.proofs.MovedSets.{moved_other, moved_own, set_moved}
 use Rattle.plan_tables_constraints.proofs.SetMoves.{at_other, with_other, without_other}
-use Rattle.plan_tables_content.proofs.Told.{is_some as same_some}
+use Rattle.plan_tables_content.proofs.SameOptions.{is_some as same_some}
 
 abbrev pub IsApart : Table → Table → Type 0
 IsApart u t = (place u == place t) ≡ false
@@ -149,7 +149,7 @@ module _ (c : Content) (change : Change) (all : Tables) where
   whole u a b l d e f g h = upper u a b l d ∙ rows_other u e f g h change all
 
   module _ (is : IsContentOf all c) (fits : Fits change c) (same : change.definitions ≡ AsBefore)
-      (told : IsTellableChange change) where
+      (told : IsRepresentableChange change) where
     held : (t : Table) (v : Values) → Shows t (all t) v ↔ IsFact t c v
     held t v = is.facts t v
 
@@ -195,14 +195,14 @@ module _ (c : Content) (change : Change) (all : Tables) where
 
     ltp_facts : (v : Values) → ShowsAs table.LongTerm (plans_written c change all table.LongTerm) v
     ltp_facts v = on table.LongTerm (ltp_moved change all table.LongTerm) v ltp_at
-        (set_moved of_row change.ltp c.sets.ltp fits.ltp is.tellable.ltp table.LongTerm row_values row_key
+        (set_moved of_row change.ltp c.sets.ltp fits.ltp is.representable.ltp table.LongTerm row_values row_key
         (λ x y. number_told (λ (r : Row). r.serial) x y true) (λ x y. number_tells (λ
         (r : Row). r.serial) x y true refl) row_shows all
         (held table.LongTerm) v)
 
     cp_facts : (v : Values) → ShowsAs table.Current (plans_written c change all table.Current) v
     cp_facts v = on table.Current (cp_moved change (ltp_moved change all) table.Current) v cp_at
-        (set_moved of_current change.cp c.sets.cp fits.cp is.tellable.cp table.Current current_values current_key
+        (set_moved of_current change.cp c.sets.cp fits.cp is.representable.cp table.Current current_values current_key
         (λ x y. number_told (λ (r : CurrentRow). r.row.serial) x y true) (λ x y. number_tells (λ
         (r : CurrentRow). r.row.serial) x y true refl) current_shows
         (ltp_moved change all) (still table.Current (ltp_moved change all)
@@ -211,7 +211,7 @@ module _ (c : Content) (change : Change) (all : Tables) where
     history_facts : (v : Values) → ShowsAs table.History (plans_written c change all table.History) v
     history_facts v = on table.History (history_moved change (cp_moved change
         (ltp_moved change all)) table.History) v history_at
-        (set_moved of_row change.history c.sets.history fits.history is.tellable.history table.History row_values
+        (set_moved of_row change.history c.sets.history fits.history is.representable.history table.History row_values
         row_key
         (λ x y. number_told (λ (r : Row). r.serial) x y true) (λ x y. number_tells (λ
         (r : Row). r.serial) x y true refl) history_shows
@@ -222,7 +222,7 @@ module _ (c : Content) (change : Change) (all : Tables) where
     deletion_facts : (v : Values) → ShowsAs table.Deletion (plans_written c change all table.Deletion) v
     deletion_facts v = on table.Deletion (deletions_moved change (history_moved change (cp_moved change
         (ltp_moved change all))) table.Deletion) v deletions_at
-        (set_moved of_deletion change.deletions c.sets.deletions fits.deletions is.tellable.deletions
+        (set_moved of_deletion change.deletions c.sets.deletions fits.deletions is.representable.deletions
         table.Deletion deletion_values deletion_key
         (λ x y. number_told (λ (r : Deletion). r.row.serial) x y true) (λ x y. number_tells (λ
         (r : Deletion). r.row.serial) x y true refl) deletion_shows
@@ -253,7 +253,7 @@ module _ (c : Content) (change : Change) (all : Tables) where
         (rows_moved change all)) table.LinkInForce) v
         ↔ IsOfList link_values (unwrap_or new c.in_force) v
     link_facts_by None v = still table.LinkInForce (pairs_moved c.pairs change.pairs (rows_moved change all)) link_rows v
-    link_facts_by (Some new) v = links_shown c.in_force new is.tellable.in_force (pairs_moved c.pairs change.pairs (rows_moved change all))
+    link_facts_by (Some new) v = links_shown c.in_force new is.representable.in_force (pairs_moved c.pairs change.pairs (rows_moved change all))
         (still table.LinkInForce (pairs_moved c.pairs change.pairs (rows_moved change all)) link_rows) v
 
     link_facts : (v : Values) → ShowsAs table.LinkInForce (plans_written c change all table.LinkInForce) v
@@ -348,43 +348,43 @@ module _ (c : Content) (change : Change) (all : Tables) where
 
     links_rise : (new : Option (List Link)) → IfSome new (IsRising link_cmp)
         → IsRising link_cmp (unwrap_or new c.in_force)
-    links_rise None rise = is.tellable.in_force
+    links_rise None rise = is.representable.in_force
     links_rise (Some new) rise = rise
 
     jobs_own : (job : Option Job) → IsUnderOwn (λ (j : Job). j.number) (jobs_after job c.jobs)
-    jobs_own None n j e = is.tellable.jobs n j e
+    jobs_own None n j e = is.representable.jobs n j e
     jobs_own (Some job) n j e = go (nat_eq job.number n) refl e
       where
         go : (b : Bool) → nat_eq job.number n ≡ b → cond b (Some job) (c.jobs n) ≡ Some j → j.number ≡ n
         go true at f = ap (λ (k : Job). k.number) (sym (same_some job j f)) ∙ eqb-true job.number n at
-        go false at f = is.tellable.jobs n j f
+        go false at f = is.representable.jobs n j f
 
     answers_small : (job : Option Job) → IfSome job (λ (j : Job). IsSmall j.reply) → (n : ℕ) (j : Job)
         → jobs_after job c.jobs n ≡ Some j → IsSmall j.reply
-    answers_small None small n j e = is.tellable.answers n j e
+    answers_small None small n j e = is.representable.answers n j e
     answers_small (Some job) small n j e = go (nat_eq job.number n) e
       where
         go : (b : Bool) → cond b (Some job) (c.jobs n) ≡ Some j → IsSmall j.reply
         go true f = subst (λ (k : Job). IsSmall k.reply) (same_some job j f) small
-        go false f = is.tellable.answers n j f
+        go false f = is.representable.answers n j f
 
-    tellable : IsTellable (after change c)
-    tellable = record {
-      calendars = subst (λ (d : Definitions). AreEach IsTold d.calendars) (sym definitions) is.tellable.calendars;
-      periods = subst (λ (d : Definitions). AreEach HasEntry d.periods) (sym definitions) is.tellable.periods;
+    representable : IsRepresentable (after change c)
+    representable = record {
+      calendars = subst (λ (d : Definitions). AreEach IsTold d.calendars) (sym definitions) is.representable.calendars;
+      periods = subst (λ (d : Definitions). AreEach HasEntry d.periods) (sym definitions) is.representable.periods;
       run_cycles = subst (λ (d : Definitions). AreEach (IsNamed (λ (x : RunCycle). x.name)) d.run_cycles)
-          (sym definitions) is.tellable.run_cycles;
+          (sym definitions) is.representable.run_cycles;
       predecessors = subst (λ (d : Definitions). AreEach (IsNamed (λ (p : Predecessor). p.name)) d.predecessors)
-          (sym definitions) is.tellable.predecessors;
-      ltp = moved_own of_row change.ltp c.sets.ltp fits.ltp is.tellable.ltp;
-      cp = moved_own of_current change.cp c.sets.cp fits.cp is.tellable.cp;
-      history = moved_own of_row change.history c.sets.history fits.history is.tellable.history;
-      deletions = moved_own of_deletion change.deletions c.sets.deletions fits.deletions is.tellable.deletions;
+          (sym definitions) is.representable.predecessors;
+      ltp = moved_own of_row change.ltp c.sets.ltp fits.ltp is.representable.ltp;
+      cp = moved_own of_current change.cp c.sets.cp fits.cp is.representable.cp;
+      history = moved_own of_row change.history c.sets.history fits.history is.representable.history;
+      deletions = moved_own of_deletion change.deletions c.sets.deletions fits.deletions is.representable.deletions;
       in_force = links_rise change.in_force told.links;
-      pairs = pairs_after_rising change.pairs c.pairs is.tellable.pairs;
+      pairs = pairs_after_rising change.pairs c.pairs is.representable.pairs;
       jobs = jobs_own change.job;
       answers = answers_small change.job told.job;
     }
 
     pub plans_after : IsContentOf (plans_written c change all) (after change c)
-    plans_after = record { tellable = tellable; facts = all_facts }
+    plans_after = record { representable = representable; facts = all_facts }

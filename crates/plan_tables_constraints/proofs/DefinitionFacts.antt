@@ -9,8 +9,8 @@ use Rattle.app_definition_records.specs.ByName.{overlaid}
 use Rattle.app_definition_records.specs.declared.applications.Application.{Application}
 use Rattle.app_definition_records.specs.declared.predecessors.Predecessor.{Predecessor}
 use Rattle.app_definitions.specs.declared.definitions.Definitions.{Definitions}
-use Rattle.app_definitions.specs.declared.kinds.Block.{Block}
-use Rattle.app_definitions.specs.declared.kinds.Block.TheVariants as block
+use Rattle.app_definitions.specs.declared.kinds.DefinitionBlock.{DefinitionBlock}
+use Rattle.app_definitions.specs.declared.kinds.DefinitionBlock.TheVariants as block
 use Rattle.app_definitions.specs.declared.kinds.Kind.{Kind}
 use Rattle.app_definitions.specs.declared.kinds.Kind.TheVariants as kind
 use Rattle.app_definitions.specs.declared.options.Options.{Options}
@@ -23,9 +23,9 @@ use Rattle.plan_store.specs.Changes.{redefined}
 use Rattle.plan_store.specs.Room.{with_definitions}
 use Rattle.plan_store.specs.declared.changes.DefinitionChange.{DefinitionChange}
 use Rattle.plan_store.specs.declared.changes.DefinitionChange.TheVariants.{AsBefore, Merged, Removed}
-use Rattle.plan_tables_definitions.specs.Telling.{IsTellableBlock}
+use Rattle.plan_tables_definitions.specs.Representable.{IsRepresentableBlock}
 use Rattle.plan_tables_content.specs.Content.{AreEach, ByName, HasEntry, IsApplicationRow, IsContentOf, IsFact, IsNamed}
-use Rattle.plan_tables_content.specs.Content.{IsOfSome, IsTellable, IsTold, meta_values}
+use Rattle.plan_tables_content.specs.Content.{IsOfSome, IsRepresentable, IsTold, meta_values}
 use Rattle.plan_tables_content.specs.Facts.{IsCalendarRow, IsCycleRow, IsOffsetRow, IsPeriodRow, IsPredecessorRow}
 use Rattle.plan_tables_writing.specs.Redefining.{AreMovesOf, AreRowsOf, BringsRows, cycles_gone, cycles_renewed}
 use Rattle.plan_tables_writing.specs.Redefining.{definitions_moved, kind_moved, kind_of, moved_by, name_key}
@@ -206,34 +206,34 @@ module _ (c : Content) (all : Tables) (is : IsContentOf all c) where
       (told_other t refl c.sets.bounds c.sets.issued options all) v
 
   -- what tables can tell of the rest stays
-  tellable_with : (d : Definitions) → AreEach IsTold d.calendars → AreEach HasEntry d.periods
+  representable_with : (d : Definitions) → AreEach IsTold d.calendars → AreEach HasEntry d.periods
       → AreEach (IsNamed (λ (x : RunCycle). x.name)) d.run_cycles → AreEach (IsNamed (λ (p : Predecessor). p.name)) d.predecessors
-      → IsTellable (with_definitions d c)
-  tellable_with d calendars periods run_cycles predecessors = record {
+      → IsRepresentable (with_definitions d c)
+  representable_with d calendars periods run_cycles predecessors = record {
     calendars = calendars;
     periods = periods;
     run_cycles = run_cycles;
     predecessors = predecessors;
-    ltp = is.tellable.ltp;
-    cp = is.tellable.cp;
-    history = is.tellable.history;
-    deletions = is.tellable.deletions;
-    in_force = is.tellable.in_force;
-    pairs = is.tellable.pairs;
-    jobs = is.tellable.jobs;
-    answers = is.tellable.answers;
+    ltp = is.representable.ltp;
+    cp = is.representable.cp;
+    history = is.representable.history;
+    deletions = is.representable.deletions;
+    in_force = is.representable.in_force;
+    pairs = is.representable.pairs;
+    jobs = is.representable.jobs;
+    answers = is.representable.answers;
   }
 
   abbrev IsAfter : Tables → Definitions → Type 0
   IsAfter new d = IsContentOf new (with_definitions d c)
 
   -- with a block's definitions
-  block_content : (b : Block) (moves : DefinitionMoves) → BringsRows b moves → IsTellableBlock b
+  block_content : (b : DefinitionBlock) (moves : DefinitionMoves) → BringsRows b moves → IsRepresentableBlock b
       → IsAfter (kind_moved (kind_of b) c.sets.bounds c.sets.issued (redefined (Merged b) defs).options moves all)
       (redefined (Merged b) defs)
   block_content (block.Applications more) moves are told = record {
-    tellable = tellable_with (redefined (Merged (block.Applications more)) defs) is.tellable.calendars
-        is.tellable.periods is.tellable.run_cycles is.tellable.predecessors;
+    representable = representable_with (redefined (Merged (block.Applications more)) defs) is.representable.calendars
+        is.representable.periods is.representable.run_cycles is.representable.predecessors;
     facts = application_facts (overlaid defs.applications more)
         (renewed table.Application moves.names.items moves.rows.items all)
         (λ u apart. renewed_other table.Application u apart moves.names.items moves.rows.items all)
@@ -242,9 +242,9 @@ module _ (c : Content) (all : Tables) (is : IsContentOf all c) where
         moves.names.items moves.rows.items all are (held table.Application));
   }
   block_content (block.Calendars more) moves are told = record {
-    tellable = tellable_with (redefined (Merged (block.Calendars more)) defs)
-        (each_overlaid IsTold defs.calendars more is.tellable.calendars told) is.tellable.periods
-        is.tellable.run_cycles is.tellable.predecessors;
+    representable = representable_with (redefined (Merged (block.Calendars more)) defs)
+        (each_overlaid IsTold defs.calendars more is.representable.calendars told) is.representable.periods
+        is.representable.run_cycles is.representable.predecessors;
     facts = calendar_facts (overlaid defs.calendars more)
         (renewed table.CalendarEntry moves.names.items moves.rows.items all)
         (λ u apart. renewed_other table.CalendarEntry u apart moves.names.items moves.rows.items all)
@@ -253,9 +253,9 @@ module _ (c : Content) (all : Tables) (is : IsContentOf all c) where
         moves.names.items moves.rows.items all are (held table.CalendarEntry));
   }
   block_content (block.Periods more) moves are told = record {
-    tellable = tellable_with (redefined (Merged (block.Periods more)) defs) is.tellable.calendars
-        (each_overlaid HasEntry defs.periods more is.tellable.periods told) is.tellable.run_cycles
-        is.tellable.predecessors;
+    representable = representable_with (redefined (Merged (block.Periods more)) defs) is.representable.calendars
+        (each_overlaid HasEntry defs.periods more is.representable.periods told) is.representable.run_cycles
+        is.representable.predecessors;
     facts = period_facts (overlaid defs.periods more)
         (renewed table.Period moves.names.items moves.rows.items all)
         (λ u apart. renewed_other table.Period u apart moves.names.items moves.rows.items all)
@@ -263,9 +263,9 @@ module _ (c : Content) (all : Tables) (is : IsContentOf all c) where
         moves.names.items moves.rows.items all are (held table.Period));
   }
   block_content (block.Predecessors more) moves are told = record {
-    tellable = tellable_with (redefined (Merged
-        (block.Predecessors more)) defs) is.tellable.calendars is.tellable.periods is.tellable.run_cycles
-        (each_overlaid (IsNamed (λ (p : Predecessor). p.name)) defs.predecessors more is.tellable.predecessors told);
+    representable = representable_with (redefined (Merged
+        (block.Predecessors more)) defs) is.representable.calendars is.representable.periods is.representable.run_cycles
+        (each_overlaid (IsNamed (λ (p : Predecessor). p.name)) defs.predecessors more is.representable.predecessors told);
     facts = predecessor_facts (overlaid defs.predecessors more)
         (renewed table.Predecessor moves.names.items moves.rows.items all)
         (λ u apart. renewed_other table.Predecessor u apart moves.names.items moves.rows.items all)
@@ -274,9 +274,9 @@ module _ (c : Content) (all : Tables) (is : IsContentOf all c) where
         moves.names.items moves.rows.items all are (held table.Predecessor));
   }
   block_content (block.RunCycles more) moves are told = record {
-    tellable = tellable_with (redefined (Merged
-        (block.RunCycles more)) defs) is.tellable.calendars is.tellable.periods (each_overlaid (IsNamed (λ
-        (x : RunCycle). x.name)) defs.run_cycles more is.tellable.run_cycles told) is.tellable.predecessors;
+    representable = representable_with (redefined (Merged
+        (block.RunCycles more)) defs) is.representable.calendars is.representable.periods (each_overlaid (IsNamed (λ
+        (x : RunCycle). x.name)) defs.run_cycles more is.representable.run_cycles told) is.representable.predecessors;
     facts = cycle_facts (overlaid defs.run_cycles more)
         (cycles_renewed moves.names.items moves.rows.items moves.offsets.items all)
         (λ u a b. cycles_other moves.names.items moves.rows.items moves.offsets.items all u a b)
@@ -286,8 +286,8 @@ module _ (c : Content) (all : Tables) (is : IsContentOf all c) where
         (held table.RunCycle) (held table.Offset) more are.1);
   }
   block_content (block.Options given) moves are told = record {
-    tellable = tellable_with (redefined (Merged (block.Options given)) defs) is.tellable.calendars
-        is.tellable.periods is.tellable.run_cycles is.tellable.predecessors;
+    representable = representable_with (redefined (Merged (block.Options given)) defs) is.representable.calendars
+        is.representable.periods is.representable.run_cycles is.representable.predecessors;
     facts = option_facts given;
   }
 
@@ -297,9 +297,9 @@ module _ (c : Content) (all : Tables) (is : IsContentOf all c) where
       → IsAfter (kind_moved k c.sets.bounds c.sets.issued (redefined (Removed k name) defs).options moves all)
       (redefined (Removed k name) defs)
   removed_content kind.Applications name moves one none no_offsets = record {
-    tellable = tellable_with (redefined
-        (Removed kind.Applications name) defs) is.tellable.calendars is.tellable.periods is.tellable.run_cycles
-        is.tellable.predecessors;
+    representable = representable_with (redefined
+        (Removed kind.Applications name) defs) is.representable.calendars is.representable.periods is.representable.run_cycles
+        is.representable.predecessors;
     facts = application_facts (maps.remove defs.applications name)
         (renewed table.Application moves.names.items moves.rows.items all)
         (λ u apart. renewed_other table.Application u apart moves.names.items moves.rows.items all)
@@ -308,9 +308,9 @@ module _ (c : Content) (all : Tables) (is : IsContentOf all c) where
         moves.names.items moves.rows.items all one none (held table.Application));
   }
   removed_content kind.Calendars name moves one none no_offsets = record {
-    tellable = tellable_with (redefined (Removed kind.Calendars name) defs)
-        (each_removed IsTold defs.calendars name is.tellable.calendars) is.tellable.periods is.tellable.run_cycles
-        is.tellable.predecessors;
+    representable = representable_with (redefined (Removed kind.Calendars name) defs)
+        (each_removed IsTold defs.calendars name is.representable.calendars) is.representable.periods is.representable.run_cycles
+        is.representable.predecessors;
     facts = calendar_facts (maps.remove defs.calendars name)
         (renewed table.CalendarEntry moves.names.items moves.rows.items all)
         (λ u apart. renewed_other table.CalendarEntry u apart moves.names.items moves.rows.items all)
@@ -319,8 +319,8 @@ module _ (c : Content) (all : Tables) (is : IsContentOf all c) where
         moves.names.items moves.rows.items all one none (held table.CalendarEntry));
   }
   removed_content kind.Periods name moves one none no_offsets = record {
-    tellable = tellable_with (redefined (Removed kind.Periods name) defs) is.tellable.calendars
-        (each_removed HasEntry defs.periods name is.tellable.periods) is.tellable.run_cycles is.tellable.predecessors;
+    representable = representable_with (redefined (Removed kind.Periods name) defs) is.representable.calendars
+        (each_removed HasEntry defs.periods name is.representable.periods) is.representable.run_cycles is.representable.predecessors;
     facts = period_facts (maps.remove defs.periods name)
         (renewed table.Period moves.names.items moves.rows.items all)
         (λ u apart. renewed_other table.Period u apart moves.names.items moves.rows.items all)
@@ -328,9 +328,9 @@ module _ (c : Content) (all : Tables) (is : IsContentOf all c) where
         moves.names.items moves.rows.items all one none (held table.Period));
   }
   removed_content kind.Predecessors name moves one none no_offsets = record {
-    tellable = tellable_with (redefined
-        (Removed kind.Predecessors name) defs) is.tellable.calendars is.tellable.periods is.tellable.run_cycles
-        (each_removed (IsNamed (λ (p : Predecessor). p.name)) defs.predecessors name is.tellable.predecessors);
+    representable = representable_with (redefined
+        (Removed kind.Predecessors name) defs) is.representable.calendars is.representable.periods is.representable.run_cycles
+        (each_removed (IsNamed (λ (p : Predecessor). p.name)) defs.predecessors name is.representable.predecessors);
     facts = predecessor_facts (maps.remove defs.predecessors name)
         (renewed table.Predecessor moves.names.items moves.rows.items all)
         (λ u apart. renewed_other table.Predecessor u apart moves.names.items moves.rows.items all)
@@ -339,9 +339,9 @@ module _ (c : Content) (all : Tables) (is : IsContentOf all c) where
         moves.names.items moves.rows.items all one none (held table.Predecessor));
   }
   removed_content kind.RunCycles name moves one none no_offsets = record {
-    tellable = tellable_with (redefined
-        (Removed kind.RunCycles name) defs) is.tellable.calendars is.tellable.periods (each_removed (IsNamed (λ
-        (x : RunCycle). x.name)) defs.run_cycles name is.tellable.run_cycles) is.tellable.predecessors;
+    representable = representable_with (redefined
+        (Removed kind.RunCycles name) defs) is.representable.calendars is.representable.periods (each_removed (IsNamed (λ
+        (x : RunCycle). x.name)) defs.run_cycles name is.representable.run_cycles) is.representable.predecessors;
     facts = cycle_facts (maps.remove defs.run_cycles name)
         (cycles_renewed moves.names.items moves.rows.items moves.offsets.items all)
         (λ u a b. cycles_other moves.names.items moves.rows.items moves.offsets.items all u a b)
@@ -351,8 +351,8 @@ module _ (c : Content) (all : Tables) (is : IsContentOf all c) where
         (held table.RunCycle) (held table.Offset) name one none no_offsets);
   }
   removed_content kind.Options name moves one none no_offsets = record {
-    tellable = tellable_with defs is.tellable.calendars is.tellable.periods is.tellable.run_cycles
-        is.tellable.predecessors;
+    representable = representable_with defs is.representable.calendars is.representable.periods is.representable.run_cycles
+        is.representable.predecessors;
     facts = option_facts defs.options;
   }
 
@@ -362,7 +362,7 @@ module _ (c : Content) (all : Tables) (is : IsContentOf all c) where
   redefined_content AsBefore moves none =
       subst (λ (k : Option Kind). IsAfter (moved_by k c.sets.bounds c.sets.issued defs.options moves all) defs)
       (sym none)
-      (record { tellable = is.tellable; facts = is.facts })
+      (record { representable = is.representable; facts = is.facts })
   redefined_content (Merged b) moves (at, are, told) =
       subst (λ (k : Option Kind). IsAfter (moved_by k c.sets.bounds c.sets.issued
       (redefined (Merged b) defs).options moves all)

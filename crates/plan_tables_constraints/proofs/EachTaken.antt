@@ -8,9 +8,9 @@ use Rattle.plan_store_lists.proofs.KeyLemmas.{contains_first, contains_later, on
 use Rattle.sqlite_rules.specs.Edit.{next_rowid}
 use Rattle.sqlite_value.specs.declared.value.Value.TheVariants.{Int}
 use Rattle.plan_tables_schema.specs.Rows.{Tables, placed, shown, stored, with_cells, without_key}
-use Rattle.plan_tables_schema.specs.Takes.{TakesRow}
+use Rattle.plan_tables_schema.specs.Accepted.{AcceptsRow}
 use Rattle.plan_tables_schema.specs.declared.tables.Table.{Table}
-use Rattle.plan_tables_writing.specs.Taking.{TakesEach}
+use Rattle.plan_tables_writing.specs.Accepted.{AcceptsEach}
 use Rattle.plan_tables_writing.specs.Writing.{without_each}
 use Rattle.plan_tables_constraints.specs.Room.{HaveRoom}
 use Rattle.plan_tables_constraints.proofs.Held.{Shows}
@@ -35,11 +35,11 @@ module _ {X : Type 0} (t : Table) (values_of : X → Values) (Is : X → Type 0)
       (shows : (x : X) → Is x → (rows : List Values) → shown t (with_rowid Chosen rows (stored t
       (values_of x))) ≡ values_of x)
       (one : (x : X) (xs : List X) (all : Tables) → Is x → Room (x ∷ xs) all → StandBeside (x ∷ []) (all t)
-      → TakesRow t (values_of x) all)
+      → AcceptsRow t (values_of x) all)
       (less : (x : X) (xs : List X) (all : Tables) → Is x → Room (x ∷ xs) all
       → Room xs (with_cells t (values_of x) all)) where
     pub each_taken : (xs : List X) (all : Tables) → AllPairs Apart xs → ((x : X) → Contains xs x → Is x)
-        → Room xs all → StandBeside xs (all t) → TakesEach t values_of xs all
+        → Room xs all → StandBeside xs (all t) → AcceptsEach t values_of xs all
     each_taken [] all apart are room beside = tt
     each_taken (x ∷ xs) all apart are room beside = (
       one x xs all (are x (contains_first x xs)) room first,

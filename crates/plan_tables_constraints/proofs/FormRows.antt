@@ -33,7 +33,7 @@ use Rattle.plan_tables_schema.specs.Form.{checks_of, from_one, uniques_of}
 use Rattle.plan_tables_schema.specs.Forms.{form}
 use Rattle.plan_tables_schema.specs.Rows.{AreOfKinds, Tables, shown}
 use Rattle.plan_tables_schema.specs.Schema.{columns, key, table, uniques}
-use Rattle.plan_tables_schema.specs.Takes.{HasNone, HasParents, TakesRow, new_row}
+use Rattle.plan_tables_schema.specs.Accepted.{HasNone, HasParents, AcceptsRow, new_row}
 use Rattle.plan_tables_schema.specs.declared.tables.Table.{Table}
 use Rattle.plan_tables_schema.specs.declared.tables.Table.TheVariants as table_of
 use Rattle.plan_tables_content.specs.Facts.{flag, is_work, natural, or_null}
@@ -267,7 +267,7 @@ module _ (t : Table) (v : Values) (all : Tables) (id : ℤ) (rest : Values) (is 
 
   row_taken : are_typed (key t) 0 (columns t) rest ≡ true → are_present (key t) 0 (columns t) row ≡ true
       → passes_checks (table t) row ≡ true → fits_i64 id ≡ true → is_taken (all t) row ≡ false
-      → AllByRecursion (HasNone (all t) row) (uniques t) → HasParents t row all → TakesRow t v all
+      → AllByRecursion (HasNone (all t) row) (uniques t) → HasParents t row all → AcceptsRow t v all
   row_taken typed present checked within fresh unique parents =
       let wide : length v ≡ length (form t).columns = as_many (form t).columns v cells in
       let few : length (form t).columns ≤ 10 = (widths t).1 in record {
@@ -300,7 +300,7 @@ module _ (t : Table) (front : has_rowid (form t).key ≡ false) (all : Tables) (
       ap (column v) same))
 
   pub next_taken : AreOfKinds t v → ((w : Values) → Shows t (all t) w → HaveSameKey t w v → ⊥)
-      → HasParents t (Int next ∷ v) all → TakesRow t v all
+      → HasParents t (Int next ∷ v) all → AcceptsRow t v all
   next_taken kinds others parents = row_taken t v all next v numbered_so cells kinds (omega arith)
       (omega (arith, as_many (form t).columns v cells, (widths t).0)) (plain_cells (form t).columns v cells)
       (ap (λ b. are_typed (cond b (Some 0) None) 0 (with_key b (map column_of (form t).columns)) v) front
@@ -334,7 +334,7 @@ module _ (t : Table) (own : has_rowid (form t).key ≡ true) (all : Tables) (n :
   pub given_taken : n < 2 ^ 63 → AreOfKinds t (natural n ∷ vs)
       → passes_checks (table t) (natural n ∷ Null ∷ vs) ≡ true → AllByRecursion (IsBeside n) (all t)
       → AllByRecursion (HasNone (all t) (natural n ∷ Null ∷ vs)) (uniques t)
-      → HasParents t (natural n ∷ Null ∷ vs) all → TakesRow t (natural n ∷ vs) all
+      → HasParents t (natural n ∷ Null ∷ vs) all → AcceptsRow t (natural n ∷ vs) all
   given_taken small kinds checked others unique parents =
       let plains : AllByRecursion IsPlain (natural n ∷ vs) = plain_cells (form t).columns (natural n ∷ vs) cells in
       row_taken t (natural n ∷ vs) all (pos n) (Null ∷ vs) kept_so cells kinds (omega arith) (omega arith)

@@ -21,7 +21,7 @@ use Rattle.plan_tables_content.specs.Content.{IsOfSet, IsUnderOwn}
 use Rattle.plan_tables_writing.specs.Writing.{moved_in, with_each, without_each}
 use Rattle.plan_tables_constraints.proofs.Held.{Shows, matched}
 use Rattle.plan_tables_constraints.proofs.SetMoves.{shows_with, shows_without, with_other, without_other}
-use Rattle.plan_tables_content.proofs.Told.{is_some as same_some, none_some}
+use Rattle.plan_tables_content.proofs.SameOptions.{is_some as same_some, none_some}
 
 module _ {X : Type 0} (row_of : X → Row) where
   abbrev serial : X → ℕ

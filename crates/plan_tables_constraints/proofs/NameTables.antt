@@ -24,7 +24,7 @@ use Rattle.plan_tables_writing.specs.Redefining.{AreRowsOf, name_key, rows_of}
 use Rattle.plan_tables_writing.specs.Writing.{with_each, without_each}
 use Rattle.plan_tables_constraints.proofs.Held.{Shows, equal_from, matched, one_text, same_cell, text_itself}
 use Rattle.plan_tables_constraints.proofs.SetMoves.{shows_cells, shows_without}
-use Rattle.plan_tables_content.proofs.Told.{none_some}
+use Rattle.plan_tables_content.proofs.SameOptions.{none_some}
 
 same_text : (a b : List ℕ) → is_eq (slice_cmp nat_cmp a b) ≡ true → a ≡ b
 same_text a b e = slice_cmp-IsAntisymmetric nat_cmp-IsAntisymmetric a b (equal_from _ e)

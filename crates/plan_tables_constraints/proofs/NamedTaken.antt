@@ -18,7 +18,7 @@ use Rattle.plan_store_lists.proofs.KeyLemmas.{contains_first, contains_later}
 use Rattle.plan_tables_schema.specs.Form.{has_rowid}
 use Rattle.plan_tables_schema.specs.Forms.{form}
 use Rattle.plan_tables_schema.specs.Rows.{AreOfKinds, Tables, placed, stored, with_cells}
-use Rattle.plan_tables_schema.specs.Takes.{HasParents, TakesRow}
+use Rattle.plan_tables_schema.specs.Accepted.{HasParents, AcceptsRow}
 use Rattle.plan_tables_schema.specs.declared.tables.Table.{Table}
 use Rattle.plan_tables_schema.specs.declared.tables.Table.TheVariants as table
 use Rattle.plan_tables_definitions.specs.Adding.{HaveOwnKeys}
@@ -27,7 +27,7 @@ use Rattle.plan_tables_definitions.proofs.StorableRows.{offsets_storable, period
 use Rattle.plan_tables_content.specs.Content.{AreEach, ByName, IsApplicationRow, IsNamed, IsOfSome}
 use Rattle.plan_tables_content.specs.Facts.{IsCalendarRow, IsCycleRow, IsOffsetRow, IsPeriodRow, IsPredecessorRow, cycle_values}
 use Rattle.plan_tables_writing.specs.Redefining.{AreRowsOf, cycles_gone, name_key, rows_of}
-use Rattle.plan_tables_writing.specs.Taking.{TakesCycles, TakesEach, TakesNamed}
+use Rattle.plan_tables_writing.specs.Accepted.{AcceptsCycles, AcceptsEach, AcceptsNamed}
 use Rattle.plan_tables_writing.specs.declared.redefining.DefinitionMoves.{DefinitionMoves}
 use Rattle.plan_tables_writing.specs.Writing.{with_each, without_each}
 use Rattle.plan_tables_constraints.specs.Room.{HaveRoom}
@@ -86,7 +86,7 @@ module _ {D : Type 0} (t : Table) (IsRow : List ℕ → D → Values → Type 0)
       (gone : mid t ≡ without_each t name_key names all t) {cells : ℕ} (are : AreRowsOf cells IsRow more names rows)
       (held : (v : Values) → Shows t (all t) v ↔ IsOfSome IsRow old v) where
     one_of_rows : (x : Values) (xs : List Values) (now : Tables) → Is x → Room (x ∷ xs) now
-        → StandBeside t rows_of Is AreOthers (x ∷ []) (now t) → TakesRow t x now
+        → StandBeside t rows_of Is AreOthers (x ∷ []) (now t) → AcceptsRow t x now
     one_of_rows x xs now so (room, kept, cells) beside =
         let (n, le, has) = room_for_one x xs (now t) room in
         next_taken t front now n has x (cells x (contains_first x xs)) (kinds x so) (λ w there same.
@@ -114,7 +114,7 @@ module _ {D : Type 0} (t : Table) (IsRow : List ℕ → D → Values → Type 0)
           ∙ named_tells name v (named name d v is)),
     )
 
-    named_taken : FindRows t rows mid → Keeps mid → TakesEach t rows_of rows mid
+    named_taken : FindRows t rows mid → Keeps mid → AcceptsEach t rows_of rows mid
     named_taken found kept = each_taken t rows_of Is AreOthers Room
         (λ v (name, d, at, is). shows name d v is) one_of_rows less_room rows mid (each_once cells rows are.own) come
         ((length rows, omega arith, found.room), kept, found.cells) beside_these
@@ -158,7 +158,7 @@ found_left t names rows all mid gone found = record {
 module _ (names : List (List ℕ)) (rows : List Values) (all : Tables) where
   pub applications_taken : (old more : ByName Application) → AreRowsOf 1 IsApplicationRow more names rows
       → ((v : Values) → Shows table.Application (all table.Application) v ↔ IsOfSome IsApplicationRow old v)
-      → FindRows table.Application rows all → TakesNamed table.Application names rows all
+      → FindRows table.Application rows all → AcceptsNamed table.Application names rows all
   applications_taken old more are held found = named_taken table.Application IsApplicationRow (λ key v. refl)
       application_named application_shown refl old more Anything (λ v now kept. tt)
       (λ v fact. (applications_storable (overlaid old more) v fact).kinds)
@@ -168,7 +168,7 @@ module _ (names : List (List ℕ)) (rows : List Values) (all : Tables) where
 
   pub calendars_taken : (old more : ByName CalendarEntries) → AreRowsOf 3 IsCalendarRow more names rows
       → ((v : Values) → Shows table.CalendarEntry (all table.CalendarEntry) v ↔ IsOfSome IsCalendarRow old v)
-      → FindRows table.CalendarEntry rows all → TakesNamed table.CalendarEntry names rows all
+      → FindRows table.CalendarEntry rows all → AcceptsNamed table.CalendarEntry names rows all
   calendars_taken old more are held found = named_taken table.CalendarEntry IsCalendarRow (λ key v. refl)
       calendar_named calendar_shown refl old more Anything (λ v now kept. tt)
       (λ v fact. (calendars_storable (overlaid old more) v fact).kinds)
@@ -178,7 +178,7 @@ module _ (names : List (List ℕ)) (rows : List Values) (all : Tables) where
 
   pub periods_taken : (old more : ByName Period) → AreRowsOf 2 IsPeriodRow more names rows
       → ((v : Values) → Shows table.Period (all table.Period) v ↔ IsOfSome IsPeriodRow old v)
-      → FindRows table.Period rows all → TakesNamed table.Period names rows all
+      → FindRows table.Period rows all → AcceptsNamed table.Period names rows all
   periods_taken old more are held found = named_taken table.Period IsPeriodRow (λ key v. refl) period_named
       period_shown refl old more Anything (λ v now kept. tt)
       (λ v fact. (periods_storable (overlaid old more) v fact).kinds)
@@ -190,7 +190,7 @@ module _ (names : List (List ℕ)) (rows : List Values) (all : Tables) where
       → AreEach (IsNamed (λ (p : Predecessor). p.name)) (overlaid old more)
       → AreRowsOf 2 IsPredecessorRow more names rows
       → ((v : Values) → Shows table.Predecessor (all table.Predecessor) v ↔ IsOfSome IsPredecessorRow old v)
-      → FindRows table.Predecessor rows all → TakesNamed table.Predecessor names rows all
+      → FindRows table.Predecessor rows all → AcceptsNamed table.Predecessor names rows all
   predecessors_taken old more each are held found = named_taken table.Predecessor IsPredecessorRow (λ key v. refl)
       predecessor_named predecessor_shown refl old more Anything (λ v now kept. tt)
       (λ v fact. (predecessors_storable (overlaid old more) v fact).kinds)
@@ -226,7 +226,7 @@ module _ (moves : DefinitionMoves) (all : Tables) (old more : ByName (List RunCy
       ∙ without_other table.RunCycle name_key table.Offset refl moves.names.items bare
 
   pub cycles_taken : FindRows table.RunCycle moves.rows.items all → FindRows table.Offset moves.offsets.items all
-      → TakesCycles moves all
+      → AcceptsCycles moves all
   cycles_taken found found_offsets = (
     named_taken table.RunCycle IsCycleRow (λ key v. refl) cycle_named cycle_shown refl old more Anything
         (λ v now kept. tt) (λ v fact. (cycles_storable (overlaid old more) v fact).kinds)

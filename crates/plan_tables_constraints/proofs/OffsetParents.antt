@@ -11,7 +11,7 @@ use Rattle.sqlite_value.specs.declared.value.Value.TheVariants.{Int, Text}
 use Rattle.run_cycles.specs.declared.cycles.RunCycle.{RunCycle}
 use Rattle.plan_store_lists.proofs.KeyLemmas.{contains_cases, nothing}
 use Rattle.plan_tables_schema.specs.Rows.{Tables, shown}
-use Rattle.plan_tables_schema.specs.Takes.{HasParents}
+use Rattle.plan_tables_schema.specs.Accepted.{HasParents}
 use Rattle.plan_tables_schema.specs.declared.tables.Table.{Table}
 use Rattle.plan_tables_schema.specs.declared.tables.Table.TheVariants as table
 use Rattle.plan_tables_content.specs.Facts.{cycle_values, offset_values}

@@ -32,7 +32,7 @@ use Rattle.planner_machine.specs.declared.job.Job.{Job}
 use Rattle.plan_tables_schema.specs.Form.{needs}
 use Rattle.plan_tables_schema.specs.Forms.{form}
 use Rattle.plan_tables_schema.specs.Rows.{AreOfKinds, Tables, shown}
-use Rattle.plan_tables_schema.specs.Takes.{TakesRow}
+use Rattle.plan_tables_schema.specs.Accepted.{AcceptsRow}
 use Rattle.plan_tables_schema.specs.declared.tables.Table.TheVariants as table
 use Rattle.plan_tables_schema.specs.declared.tables.TheConstants.{SCHEMA_VERSION}
 use Rattle.plan_tables_content.specs.Content.{job_values, meta_values}
@@ -152,7 +152,7 @@ module _ (all : Tables) where
   module _ (x : Row) (is : IsRow x) (small : x.serial < 2 ^ 63) where
     pub ltp_taken : AreOfKinds table.LongTerm (row_values x)
         → AllByRecursion (λ r. IsOtherRow x (shown table.LongTerm r)) (all table.LongTerm)
-        → TakesRow table.LongTerm (row_values x) all
+        → AcceptsRow table.LongTerm (row_values x) all
     ltp_taken kinds others = given_taken table.LongTerm refl all x.serial (drop 1 (row_values x))
         (row_cells x is) small kinds refl
         (all_so (λ r. IsOtherRow x (shown table.LongTerm r)) (IsBeside x.serial)
@@ -165,7 +165,7 @@ module _ (all : Tables) where
 
     pub history_taken : AreOfKinds table.History (row_values x)
         → AllByRecursion (λ r. IsOtherRow x (shown table.History r)) (all table.History)
-        → TakesRow table.History (row_values x) all
+        → AcceptsRow table.History (row_values x) all
     history_taken kinds others = given_taken table.History refl all x.serial (drop 1 (row_values x))
         (row_cells x is) small kinds refl
         (all_so (λ r. IsOtherRow x (shown table.History r)) (IsBeside x.serial)
@@ -179,14 +179,14 @@ module _ (all : Tables) where
   pub current_taken : (x : CurrentRow) → IsRow x.row → x.row.serial < 2 ^ 63
       → AreOfKinds table.Current (current_values x)
       → AllByRecursion (λ r. HasOtherNumber x.row.serial (shown table.Current r)) (all table.Current)
-      → TakesRow table.Current (current_values x) all
+      → AcceptsRow table.Current (current_values x) all
   current_taken x is small kinds others = given_taken table.Current refl all x.row.serial (drop 1 (current_values x))
       (lettered_cells x.row is (codes "status") (status_letter x.status)) small kinds refl others tt tt
 
   pub deletion_taken : (x : Deletion) → IsRow x.row → x.row.serial < 2 ^ 63
       → AreOfKinds table.Deletion (deletion_values x)
       → AllByRecursion (λ r. HasOtherNumber x.row.serial (shown table.Deletion r)) (all table.Deletion)
-      → TakesRow table.Deletion (deletion_values x) all
+      → AcceptsRow table.Deletion (deletion_values x) all
   deletion_taken x is small kinds others = given_taken table.Deletion refl all x.row.serial (drop 1 (deletion_values x))
       (lettered_cells x.row is (codes "reason") (reason_letter x.reason)) small kinds refl others tt tt
 
@@ -194,25 +194,25 @@ module _ (all : Tables) where
 
   pub meta_taken : (bounds : Option Bounds) (issued : ℕ) (options : Options) → IsName options.default_calendar
       → AreOfKinds table.Meta (meta_values bounds issued options) → all table.Meta ≡ []
-      → TakesRow table.Meta (meta_values bounds issued options) all
+      → AcceptsRow table.Meta (meta_values bounds issued options) all
   meta_taken bounds issued options named kinds none = by_bounds bounds kinds
     where
       taken : (a b c d : ℕ) → AreOfKinds table.Meta (meta_row a b c d issued options)
-          → TakesRow table.Meta (meta_row a b c d issued options) all
+          → AcceptsRow table.Meta (meta_row a b c d issued options) all
       taken a b c d kinds = given_taken table.Meta refl all 1 (drop 1 (meta_row a b c d issued options))
           (meta_cells a b c d issued options named) (omega arith) kinds
           (one_passes (Null ∷ drop 1 (meta_row a b c d issued options)))
           (subst (AllByRecursion (IsBeside 1)) (sym none) tt) tt tt
 
       by_bounds : (o : Option Bounds) → AreOfKinds table.Meta (meta_values o issued options)
-          → TakesRow table.Meta (meta_values o issued options) all
+          → AcceptsRow table.Meta (meta_values o issued options) all
       by_bounds None kinds = taken 0 0 0 0 kinds
       by_bounds (Some b) kinds = taken 1 b.first_day b.last_day b.plan_end kinds
 
   pub job_taken : (job : Job) → job.number < 2 ^ 63 → CanBeStored job
       → AreOfKinds table.Job (job_values job)
       → AllByRecursion (λ r. HasOtherNumber job.number (shown table.Job r)) (all table.Job)
-      → TakesRow table.Job (job_values job) all
+      → AcceptsRow table.Job (job_values job) all
   job_taken job small short kinds others = record {
     whole = refl;
     kinds = kinds;

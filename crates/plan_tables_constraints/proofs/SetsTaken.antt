@@ -16,7 +16,7 @@ use Rattle.planner_machine.specs.Sound.{IsRow, IsSound}
 use Rattle.plan_store_lists.specs.Rows.{look_up}
 use Rattle.plan_store_lists.proofs.KeyLemmas.{contains_first}
 use Rattle.plan_tables_schema.specs.Rows.{Tables, shown, stored}
-use Rattle.plan_tables_schema.specs.Takes.{TakesRow}
+use Rattle.plan_tables_schema.specs.Accepted.{AcceptsRow}
 use Rattle.plan_tables_schema.specs.declared.tables.Table.{Table}
 use Rattle.plan_tables_schema.specs.declared.tables.Table.TheVariants as table
 use Rattle.plan_store.specs.Changes.{FitsSet, moved_set}
@@ -26,8 +26,8 @@ use Rattle.plan_store.proofs.PlaceLemmas.{stands_cp, stands_deleted, stands_hist
 use Rattle.plan_store.proofs.ViewLemmas.{issued_from}
 use Rattle.plan_tables_content.specs.Content.{IsOfSet, IsUnderOwn}
 use Rattle.plan_tables_content.specs.Facts.{current_values, deletion_values, row_values}
-use Rattle.plan_tables_content.proofs.Told.{none_some}
-use Rattle.plan_tables_writing.specs.Taking.{TakesMoves}
+use Rattle.plan_tables_content.proofs.SameOptions.{none_some}
+use Rattle.plan_tables_writing.specs.Accepted.{AcceptsMoves}
 use Rattle.plan_tables_writing.specs.Writing.{with_each, without_each}
 use Rattle.plan_tables_writing.proofs.KindLemmas.{cp_storable, deletions_storable, history_storable, ltp_storable}
 use Rattle.plan_tables_constraints.proofs.EachTaken.{StandBeside, each_taken}
@@ -105,8 +105,8 @@ module _ {X : Type 0} (row_of : X → Row) (moves : Moves X) (set : ℕ → Opti
       )
 
   module _ (one : (x : X) (now : Tables) → IsIn row_of then x → LacksSerial t values_of row_of then x (now t)
-      → TakesRow t (values_of x) now) where
-    pub moves_taken : TakesMoves t values_of key_of moves all
+      → AcceptsRow t (values_of x) now) where
+    pub moves_taken : AcceptsMoves t values_of key_of moves all
     moves_taken = (
       each_taken t values_of (IsIn row_of then) (HaveOther row_of) AnyRoom (λ x so. shows x)
           (λ x xs now so room beside. one x now so beside) (λ x xs now so room. tt) moves.changed.items bare
@@ -182,7 +182,7 @@ module _ (d : Content) (sound : IsSound d) where
   module _ (now : Tables) where
     pub ltp_one : (x : Row) → d.sets.ltp x.serial ≡ Some x
         → LacksSerial table.LongTerm row_values (λ (r : Row). r) d.sets.ltp x (now table.LongTerm)
-        → TakesRow table.LongTerm (row_values x) now
+        → AcceptsRow table.LongTerm (row_values x) now
     ltp_one x is beside =
         let (row, small) = ltp_row x is in
         ltp_taken now x row small (ltp_storable x) (each_shown (IsOtherRow x) table.LongTerm (now table.LongTerm)
@@ -197,7 +197,7 @@ module _ (d : Content) (sound : IsSound d) where
 
     pub history_one : (x : Row) → d.sets.history x.serial ≡ Some x
         → LacksSerial table.History row_values (λ (r : Row). r) d.sets.history x (now table.History)
-        → TakesRow table.History (row_values x) now
+        → AcceptsRow table.History (row_values x) now
     history_one x is beside =
         let (row, small) = history_row x is in
         history_taken now x row small (history_storable x) (each_shown (IsOtherRow x) table.History (now table.History)
@@ -212,7 +212,7 @@ module _ (d : Content) (sound : IsSound d) where
 
     pub cp_one : (x : CurrentRow) → d.sets.cp x.row.serial ≡ Some x
         → LacksSerial table.Current current_values (λ (r : CurrentRow). r.row) d.sets.cp x (now table.Current)
-        → TakesRow table.Current (current_values x) now
+        → AcceptsRow table.Current (current_values x) now
     cp_one x is beside =
         let (row, small) = cp_row x is in
         current_taken now x row small (cp_storable x)
@@ -222,7 +222,7 @@ module _ (d : Content) (sound : IsSound d) where
 
     pub deletion_one : (x : Deletion) → d.sets.deletions x.row.serial ≡ Some x
         → LacksSerial table.Deletion deletion_values (λ (r : Deletion). r.row) d.sets.deletions x (now table.Deletion)
-        → TakesRow table.Deletion (deletion_values x) now
+        → AcceptsRow table.Deletion (deletion_values x) now
     deletion_one x is beside =
         let (row, small) = deletion_row x is in
         deletion_taken now x row small (deletions_storable x)

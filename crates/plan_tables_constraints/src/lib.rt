@@ -1,6 +1,6 @@
 //! What the tables of a content accept.
 #![tactic(auto)]
 
-mod taking;
+mod accepting;
 
-pub use taking::fitting_changes_are_taken;
+pub use accepting::fitting_changes_are_accepted;

@@ -32,7 +32,7 @@ use Rattle.plan_tables_content.specs.Facts.{cycle_values, entry_values, is_work,
 use Rattle.plan_tables_content.specs.Content.{HasEntry, IsNamed, IsTold}
 use Rattle.plan_tables_content.specs.Decoded.{int_in, letter_in, nat_in, or_nat, text_in}
 use Rattle.plan_tables_content.proofs.Decoded.{nat_back}
-use Rattle.plan_tables_content.proofs.Told.{is_some, none_some, same_options}
+use Rattle.plan_tables_content.proofs.SameOptions.{is_some, none_some, same_options}
 
 -- lists of which each element stands at one place in both
 pub same_places : {X : Type 0} (xs ys : List X) → ((i : ℕ) (x : X) → slice_get xs i ≡ Some x → slice_get ys i ≡ Some x)

@@ -1,5 +1,5 @@
 pub mod Decoded
-pub mod Told
+pub mod SameOptions
 pub mod DefinitionLemmas
 pub mod AnswerLemmas
 pub mod OneContent

@@ -32,7 +32,7 @@ use Rattle.plan_tables_content.proofs.DefinitionLemmas.{IsEitherRow}
 use Rattle.plan_tables_content.proofs.DefinitionLemmas.{name_of, one_calendar, one_cycles, one_period, one_predecessors}
 use Rattle.plan_tables_content.proofs.DefinitionLemmas.{period_named, period_some, predecessor_named, predecessor_some}
 use Rattle.plan_tables_content.proofs.AnswerLemmas.{one_answer}
-use Rattle.plan_tables_content.proofs.Told.{has_same, one_by_name, one_set, one_such_set}
+use Rattle.plan_tables_content.proofs.SameOptions.{has_same, one_by_name, one_set, one_such_set}
 
 -- ---- how far the plans reach
 
@@ -113,8 +113,8 @@ module _ (pairs_by : RisingIsUnique pair_cmp) (links_by : RisingIsUnique link_cm
   one_content all c d ic id =
       let into = goes all c d ic id in
       let back = goes all d c id ic in
-      let m = ic.tellable in
-      let n = id.tellable in
+      let m = ic.representable in
+      let n = id.representable in
       let meta : meta_values c.sets.bounds c.sets.issued c.definitions.options
       ≡ meta_values d.sets.bounds d.sets.issued d.definitions.options = into table.Meta _ refl in
       let calendars : c.definitions.calendars ≡ d.definitions.calendars =

@@ -9,12 +9,12 @@ use Rattle.plan_tables_schema.specs.declared.tables.Table.TheVariants as table
 use Rattle.plan_tables_content.specs.Content.{IsOfSet, IsSmall, IsUnderOwn, job_values}
 use Rattle.plan_tables_content.specs.Decoded.{deletion_of, job_of, row_of}
 use Rattle.plan_tables_content.specs.Facts.{deletion_values, row_values}
-use Rattle.plan_tables_content.specs.ToldSets.{AllTellSets, told_set}
+use Rattle.plan_tables_content.specs.DecodedSets.{AllRepresentSets, told_set}
 use Rattle.app_definition_records.proofs.RisingLemmas.{Contains-map, Contains-map_back}
 use Rattle.plan_store_lists.proofs.LookLemmas.{look_none, look_some}
 use Rattle.plan_tables_content.proofs.AnswerLemmas.{answer_back}
 use Rattle.plan_tables_content.proofs.Decoded.{deletion_back, row_back}
-use Rattle.plan_tables_content.proofs.Told.{same_options}
+use Rattle.plan_tables_content.proofs.SameOptions.{same_options}
 
 job_back : (job : Job) → IsSmall job.reply → job_of (job_values job) ≡ job
 job_back job small = λ i. record job { reply = answer_back job.reply small i }
@@ -47,12 +47,12 @@ module _ {X : Type 0} (fact_of : Values → X) (values_of : X → Values) (numbe
   pub told_set_is : told_set fact_of number_of rows ≡ set
   told_set_is = λ i n. same_options (told_set fact_of number_of rows n) (set n) (told_is n) (is_told n) i
 
-pub all_tell_sets : AllTellSets
+pub all_tell_sets : AllRepresentSets
 all_tell_sets all c is = record {
   history = told_set_is row_of row_values (λ (r : Row). r.serial) (λ _. Unit {0}) (λ r _. row_back r) c.sets.history
-      (λ _ _ _. tt) is.tellable.history _ (is.facts table.History);
+      (λ _ _ _. tt) is.representable.history _ (is.facts table.History);
   deletions = told_set_is deletion_of deletion_values (λ (d : Deletion). d.row.serial) (λ _. Unit {0})
-      (λ d _. deletion_back d) c.sets.deletions (λ _ _ _. tt) is.tellable.deletions _ (is.facts table.Deletion);
+      (λ d _. deletion_back d) c.sets.deletions (λ _ _ _. tt) is.representable.deletions _ (is.facts table.Deletion);
   jobs = told_set_is job_of job_values (λ (j : Job). j.number) (λ (j : Job). IsSmall j.reply) job_back c.jobs
-      is.tellable.answers is.tellable.jobs _ (is.facts table.Job);
+      is.representable.answers is.representable.jobs _ (is.facts table.Job);
 }

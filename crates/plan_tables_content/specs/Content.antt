@@ -131,7 +131,7 @@ IsSmall (Err (refusal.PredecessorUncompleted serial)) = serial < 2 ^ 64
 IsSmall (Err _) = ⊤
 
 -- a content that tables can distinguish from all others
-pub record IsTellable (c : Content) : Type 0 where
+pub record IsRepresentable (c : Content) : Type 0 where
   pub calendars : AreEach IsTold c.definitions.calendars
   pub periods : AreEach HasEntry c.definitions.periods
   pub run_cycles : AreEach (IsNamed (λ (cycle : RunCycle). cycle.name)) c.definitions.run_cycles
@@ -147,7 +147,7 @@ pub record IsTellable (c : Content) : Type 0 where
 
 -- the content of the tables: one row for each fact, and no others
 pub record IsContentOf (all : Tables) (c : Content) : Type 0 where
-  pub tellable : IsTellable c
+  pub representable : IsRepresentable c
   pub facts : (t : Table) (values : Values) → Contains (map (shown t) (all t)) values ↔ IsFact t c values
 
 -- tables have one content at most

@@ -1,4 +1,4 @@
 pub mod Facts
 pub mod Content
 pub mod Decoded
-pub mod ToldSets
+pub mod DecodedSets

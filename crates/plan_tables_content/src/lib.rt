@@ -4,7 +4,7 @@
 mod answers;
 
 ghost use Rattle.plan_tables_content.specs.Content.{HaveOneContent};
-ghost use Rattle.plan_tables_content.specs.ToldSets.{AllTellSets};
+ghost use Rattle.plan_tables_content.specs.DecodedSets.{AllRepresentSets};
 
 pub use answers::{answer_is_small, answer_line};
 use external_dependencies::rising_is_unique;
@@ -17,6 +17,6 @@ pub fn tables_have_one_content()
 }
 
 /// The sets that are read back from the rows of tables are those of their content.
-pub fn tables_tell_sets()
-    ensures { AllTellSets }
+pub fn tables_represent_sets()
+    ensures { AllRepresentSets }
 {}

@@ -11,7 +11,7 @@ use Rattle.plan_tables_definitions.specs.DraftedCycles.{told_values}
 use Rattle.plan_tables_definitions.specs.Gathering.{Alike, Joins}
 use Rattle.plan_tables_definitions.specs.Placed.{HoldsPlaces, ByPlace, IsRowOfList, IsPlaced}
 use Rattle.plan_tables_definitions.specs.declared.cycle_parts.CyclePart.{CyclePart}
-use Rattle.plan_tables_definitions.specs.declared.told_cycles.ToldCycle.{ToldCycle}
+use Rattle.plan_tables_definitions.specs.declared.decoded_cycles.DecodedCycle.{DecodedCycle}
 use Rattle.plan_tables_definitions.proofs.PlaceLemmas.{listed_in_order}
 
 pub offset_back : (name : List ℕ) (k l : ℕ) (x y : ℤ) → offset_tail name k x ≡ offset_tail name l y
@@ -51,7 +51,7 @@ joins_right A B C row h v = (
 
 -- ---- the rows of a run cycle and those of offsets are of two widths
 
-nine : (name : List ℕ) (t : ToldCycle) (v : Values) → v ≡ told_values name t → length v ≡ 9
+nine : (name : List ℕ) (t : DecodedCycle) (v : Values) → v ≡ told_values name t → length v ≡ 9
 nine name t v is = ap length is
 
 three : (name : List ℕ) (place : ℕ) (k : ℤ) (v : Values) → v ≡ offset_tail name place k → length v ≡ 3

@@ -21,7 +21,7 @@ use Rattle.sqlite.specs.declared.types.Value.{Value}
 use Rattle.work_calendars.specs.Calendar.{CalendarEntries, no_entries, with_date, with_weekday}
 use Rattle.work_calendars.specs.declared.statuses.DayStatus.{DayStatus}
 use Rattle.work_calendars.specs.declared.statuses.DayStatus.TheVariants.{Work, Free}
-use Rattle.plan_tables_definitions.specs.Drafted.{IsReadApplication, TellsEntry}
+use Rattle.plan_tables_definitions.specs.Drafted.{IsReadApplication, RepresentsEntry}
 use Rattle.plan_tables_definitions.specs.Drafted.{calendar_values}
 use Rattle.plan_tables_definitions.specs.Gathering.{Alike, Joins, Within}
 
@@ -78,14 +78,14 @@ same_parts name other k l m n s t e then = then (ap kind_of e) (ap day_of e)
     (sym (status_back s) ∙ ap status_of e ∙ status_back t)
 
 pub entry_told : (name : List ℕ) (c : CalendarEntries) (kind day : ℕ) (status : DayStatus)
-    → IsCalendarRow name c (calendar_values name kind day status) → TellsEntry c kind day status
+    → IsCalendarRow name c (calendar_values name kind day status) → RepresentsEntry c kind day status
 entry_told name c kind day status (Weekday w t at is) = same_parts name name kind 0 day w status t is
     (λ k d s. inl (k, ap (λ n. get_or c.weekdays n None) d ∙ some_reads c.weekdays w t at ∙ ap Some (sym s)))
 entry_told name c kind day status (Date d t at is) = same_parts name name kind 1 day d status t is
     (λ k e s. inr (k, ap (map.get c.dates) e ∙ at ∙ ap Some (sym s)))
 
 pub told_entry : (name : List ℕ) (c : CalendarEntries) (kind day : ℕ) (status : DayStatus)
-    → TellsEntry c kind day status → IsCalendarRow name c (calendar_values name kind day status)
+    → RepresentsEntry c kind day status → IsCalendarRow name c (calendar_values name kind day status)
 told_entry name c kind day status (inl (k, at)) =
     Weekday day status (reads_some c.weekdays day status at) (ap (λ n. calendar_values name n day status) k)
 told_entry name c kind day status (inr (k, at)) =
@@ -94,13 +94,13 @@ told_entry name c kind day status (inr (k, at)) =
 -- each row of a calendar is of an entry
 pub entry_of : (name : List ℕ) (c : CalendarEntries) (v : Values) → IsCalendarRow name c v
     → (kind : ℕ) × (day : ℕ) × (status : DayStatus) × (v ≡ calendar_values name kind day status)
-    × TellsEntry c kind day status
+    × RepresentsEntry c kind day status
 entry_of name c v (Weekday w t at is) = (0, w, t, is, inl (refl, some_reads c.weekdays w t at))
 entry_of name c v (Date d t at is) = (1, d, t, is, inr (refl, at))
 
 -- an entry that a calendar has
 pub has_entry : (name : List ℕ) (c : CalendarEntries) (kind day : ℕ) (status : DayStatus)
-    → TellsEntry c kind day status
+    → RepresentsEntry c kind day status
     → Joins (IsCalendarRow name c) (calendar_values name kind day status) (IsCalendarRow name c)
 has_entry name c kind day status told v = (
   λ is. inl is,
@@ -113,10 +113,10 @@ has_entry name c kind day status told v = (
 
 -- an entry that a calendar gets
 gets_entry : (name : List ℕ) (c new : CalendarEntries) (kind day : ℕ) (status : DayStatus)
-    → TellsEntry new kind day status
-    → ((k d : ℕ) (s : DayStatus) → TellsEntry c k d s → TellsEntry new k d s)
-    → ((k d : ℕ) (s : DayStatus) → TellsEntry new k d s
-    → TellsEntry c k d s ⊎ ((k ≡ kind) × (d ≡ day) × (s ≡ status)))
+    → RepresentsEntry new kind day status
+    → ((k d : ℕ) (s : DayStatus) → RepresentsEntry c k d s → RepresentsEntry new k d s)
+    → ((k d : ℕ) (s : DayStatus) → RepresentsEntry new k d s
+    → RepresentsEntry c k d s ⊎ ((k ≡ kind) × (d ≡ day) × (s ≡ status)))
     → Joins (IsCalendarRow name c) (calendar_values name kind day status) (IsCalendarRow name new)
 gets_entry name c new kind day status told kept come v = (
   λ is. let (k, d, s, it, tells) = entry_of name new v is in elim (come k d s tells) [
@@ -145,7 +145,7 @@ gets_weekday name c w status under none = gets_entry name c (with_weekday c w st
     dates : (with_weekday c w status).dates ≡ c.dates
     dates = refl
 
-    kept : (k d : ℕ) (s : DayStatus) → TellsEntry c k d s → TellsEntry (with_weekday c w status) k d s
+    kept : (k d : ℕ) (s : DayStatus) → RepresentsEntry c k d s → RepresentsEntry (with_weekday c w status) k d s
     kept k d s (inl (is, at)) = inl (
       is,
       other d (λ e. none_is_some (ap (λ n. get_or c.weekdays n None) (sym e) ∙ at))
@@ -156,7 +156,7 @@ gets_weekday name c w status under none = gets_entry name c (with_weekday c w st
         none_is_some e = let h : ⊥ = cc in h
     kept k d s (inr (is, at)) = inr (is, ap (λ m. map.get m d) dates ∙ at)
 
-    come : (k d : ℕ) (s : DayStatus) → TellsEntry (with_weekday c w status) k d s → TellsEntry c k d s ⊎ ((k ≡ 0) × (d
+    come : (k d : ℕ) (s : DayStatus) → RepresentsEntry (with_weekday c w status) k d s → RepresentsEntry c k d s ⊎ ((k ≡ 0) × (d
         ≡ w) × (s ≡ status))
     come k d s (inl (is, at)) = elim (cases_eq d w) [
       | inl same ↦ inr (
@@ -190,14 +190,14 @@ gets_date name c day status none = gets_entry name c (with_date c day status) 1 
     week : (with_date c day status).weekdays ≡ c.weekdays
     week = refl
 
-    kept : (k d : ℕ) (s : DayStatus) → TellsEntry c k d s → TellsEntry (with_date c day status) k d s
+    kept : (k d : ℕ) (s : DayStatus) → RepresentsEntry c k d s → RepresentsEntry (with_date c day status) k d s
     kept k d s (inl (is, at)) = inl (is, ap (λ l. get_or l d None) week ∙ at)
     kept k d s (inr (is, at)) = inr (is, other d (λ e. none_is_some (ap (map.get c.dates) (sym e) ∙ at)) ∙ at)
       where
         none_is_some : map.get c.dates day ≡ Some s → ⊥
         none_is_some e = let h : ⊥ = cc in h
 
-    come : (k d : ℕ) (s : DayStatus) → TellsEntry (with_date c day status) k d s → TellsEntry c k d s ⊎ ((k ≡ 1) × (d
+    come : (k d : ℕ) (s : DayStatus) → RepresentsEntry (with_date c day status) k d s → RepresentsEntry c k d s ⊎ ((k ≡ 1) × (d
         ≡ day) × (s ≡ status))
     come k d s (inl (is, at)) = inl (inl (is, ap (λ l. get_or l d None) (sym week) ∙ at))
     come k d s (inr (is, at)) = elim (cases_eq d day) [
@@ -226,8 +226,8 @@ no_entry name v is = let (k, d, s, it, tells) = entry_of name no_entries v is in
     none_listed (suc (suc (suc (suc (suc (suc (suc n))))))) s e = let h : ⊥ = cc in h
 
 -- of one entry there is one status
-pub one_status : (c : CalendarEntries) (kind day : ℕ) (s t : DayStatus) → TellsEntry c kind day s
-    → TellsEntry c kind day t → s ≡ t
+pub one_status : (c : CalendarEntries) (kind day : ℕ) (s t : DayStatus) → RepresentsEntry c kind day s
+    → RepresentsEntry c kind day t → s ≡ t
 one_status c kind day s t (inl (a, at)) (inl (b, is)) = some_is s t (sym at ∙ is)
 one_status c kind day s t (inr (a, at)) (inr (b, is)) = some_is s t (sym at ∙ is)
 one_status c kind day s t (inl (a, at)) (inr (b, is)) = absurd (omega (arith, a, b))

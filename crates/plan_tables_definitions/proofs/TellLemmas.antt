@@ -10,7 +10,7 @@ use Rattle.app_definition_records.specs.declared.predecessors.Predecessor.{Prede
 use Rattle.plan_tables_content.specs.Content.{HasEntry, IsTold}
 use Rattle.plan_tables_content.specs.Facts.{IsCalendarRow, IsPeriodRow, IsPredecessorRow}
 use Rattle.plan_tables_content.specs.Facts.IsCalendarRow.{Weekday, Date}
-use Rattle.plan_tables_definitions.specs.Telling.{ArePredecessors}
+use Rattle.plan_tables_definitions.specs.Representable.{ArePredecessors}
 
 -- ---- calendars
 

@@ -23,7 +23,7 @@ use Rattle.plan_tables_definitions.specs.CycleParts.{IsPartRow, IsSoundPart, off
 use Rattle.plan_tables_definitions.specs.DraftedCycles.{told_values}
 use Rattle.plan_tables_definitions.specs.Gathering.{Alike, AreSound}
 use Rattle.plan_tables_definitions.specs.Storing.{AreRowsOf}
-use Rattle.plan_tables_definitions.specs.Telling.{AreCycles}
+use Rattle.plan_tables_definitions.specs.Representable.{AreCycles}
 use Rattle.plan_tables_definitions.specs.WholeCycles.{ArePartsOf, AreSoundCycles, AreWide, HaveShortNames, IsEitherRow, IsKept}
 use Rattle.plan_tables_definitions.specs.WholeCycles.{IsTail, cycle_of, either_at, part_of, told_of}
 use Rattle.plan_tables_definitions.specs.declared.cycle_parts.CyclePart.{CyclePart}

@@ -39,8 +39,8 @@ abbrev pub calendar_values : List ℕ → ℕ → ℕ → DayStatus → Values
 calendar_values name kind day status = Text name ∷ natural kind ∷ natural day ∷ is_work status ∷ []
 
 -- what a row of a calendar encodes: kind 0 is a weekday, 1 a date
-abbrev pub TellsEntry : CalendarEntries → ℕ → ℕ → DayStatus → Type 0
-TellsEntry c kind day status = ((kind ≡ 0) × (slice_index_or c.weekdays day None ≡ Some status))
+abbrev pub RepresentsEntry : CalendarEntries → ℕ → ℕ → DayStatus → Type 0
+RepresentsEntry c kind day status = ((kind ≡ 0) × (slice_index_or c.weekdays day None ≡ Some status))
     ⊎ ((kind ≡ 1) × (map.get c.dates day ≡ Some status))
 
 pub calendar_named : (name : List ℕ) (c : CalendarEntries) (v : Values) → IsCalendarRow name c v

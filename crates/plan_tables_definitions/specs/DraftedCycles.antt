@@ -9,10 +9,10 @@ use Rattle.run_cycles.specs.declared.cycles.CycleType.{CycleType}
 use Rattle.run_cycles.specs.declared.cycles.Deadline.{Deadline}
 use Rattle.app_definition_records.specs.CycleRecords.{rule_text}
 use Rattle.plan_tables_content.specs.Facts.{deadline_of, natural, or_null, type_letter}
-use Rattle.plan_tables_definitions.specs.declared.told_cycles.ToldCycle.{ToldCycle}
+use Rattle.plan_tables_definitions.specs.declared.decoded_cycles.DecodedCycle.{DecodedCycle}
 
 -- the row of a run cycle without its first column, the application
-abbrev pub told_values : List ℕ → ToldCycle → Values
+abbrev pub told_values : List ℕ → DecodedCycle → Values
 told_values name t = Text name ∷ Text (type_letter t.kind) ∷ Text t.period ∷ Text (rule_text t.rule)
     ∷ natural t.in_effect ∷ or_null (option_map natural t.out_effect) ∷ natural t.ia
     ∷ or_null (option_map (λ (d : Deadline). natural d.days) (deadline_of t.kind))
@@ -33,7 +33,7 @@ abbrev pub IsDeadline : Deadline → Type 0
 IsDeadline d = (d.days < 2 ^ 8) × IsMinute d.time
 
 -- each part is such as a run cycle has
-pub record IsReadableCycle (t : ToldCycle) : Type 0 where
+pub record IsReadableCycle (t : DecodedCycle) : Type 0 where
   pub deadline : IfSome (deadline_of t.kind) IsDeadline
   pub period : IsShort t.period
   pub in_effect : IsDay t.in_effect

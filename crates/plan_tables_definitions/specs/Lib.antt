@@ -1,7 +1,7 @@
 pub mod Adding
 pub mod Parts
 pub mod Storing
-pub mod Telling
+pub mod Representable
 pub mod Gathering
 pub mod Drafted
 pub mod Placed

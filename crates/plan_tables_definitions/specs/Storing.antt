@@ -8,7 +8,7 @@ use Rattle.app_definitions.specs.declared.definitions.Definitions.{Definitions}
 use Rattle.app_definitions.specs.declared.options.Options.{Options}
 use Rattle.plan_tables_content.specs.Content.{ByName, IsApplicationRow, IsOfSome}
 use Rattle.plan_tables_content.specs.Facts.{IsCalendarRow, IsCycleRow, IsOffsetRow, IsPeriodRow, IsPredecessorRow}
-use Rattle.plan_tables_definitions.specs.Telling.{AreTellable}
+use Rattle.plan_tables_definitions.specs.Representable.{AreRepresentable}
 use Rattle.plan_tables_definitions.specs.declared.stored.StoredRows.{StoredRows}
 
 -- no value changes as it is bound, and none as it is stored
@@ -29,4 +29,4 @@ pub record HaveRows (stored : StoredRows) (given : Options) (all : Definitions) 
   pub offsets : AreRowsOf IsOffsetRow stored.offsets.items all.run_cycles
   pub predecessors : AreRowsOf IsPredecessorRow stored.predecessors.items all.predecessors
   pub options : all.options ≡ given
-  pub tellable : AreTellable all
+  pub representable : AreRepresentable all

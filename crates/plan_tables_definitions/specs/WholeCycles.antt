@@ -12,10 +12,10 @@ use Rattle.plan_tables_content.specs.Facts.{IsCycleRow, IsOffsetRow}
 use Rattle.plan_tables_definitions.specs.CycleParts.{IsPartRow}
 use Rattle.plan_tables_definitions.specs.DraftedCycles.{IsReadableCycle}
 use Rattle.plan_tables_definitions.specs.declared.cycle_parts.CyclePart.{CyclePart}
-use Rattle.plan_tables_definitions.specs.declared.told_cycles.ToldCycle.{ToldCycle}
+use Rattle.plan_tables_definitions.specs.declared.decoded_cycles.DecodedCycle.{DecodedCycle}
 
 -- what is left of a run cycle without its name and its offsets, and without its name alone
-abbrev pub told_of : RunCycle → ToldCycle
+abbrev pub told_of : RunCycle → DecodedCycle
 told_of c = record {
   kind = c.kind;
   period = c.period;

@@ -12,7 +12,7 @@ ghost use Rattle.plan_tables_definitions.specs.Parts.{IsDateRow, IsWeekdayRow};
 ghost use Rattle.sqlite.specs.Order.{column};
 ghost use Rattle.work_calendars.specs.Calendar.{CalendarEntries};
 ghost use Rattle.plan_tables_content.specs.Content.{AreEach, ByName as Defined};
-ghost use Rattle.plan_tables_definitions.specs.Drafted.{IsSoundCalendar, TellsEntry, calendar_named, calendar_values};
+ghost use Rattle.plan_tables_definitions.specs.Drafted.{IsSoundCalendar, RepresentsEntry, calendar_named, calendar_values};
 ghost use Rattle.plan_tables_definitions.specs.Gathering.{AreSound, Joins, Within};
 ghost use Rattle.plan_tables_definitions.specs.Storing.{AreRowsOf};
 
@@ -239,7 +239,7 @@ fn list_weekday(calendar: &mut Calendar, place: u32, status: DayStatus) -> bool
     ensures kept { length calendar.new.weekdays ≡ 7 }
     ensures taken { (name : List ℕ) → IsTrue result → Joins (IsCalendarRow name calendar.old)
         (calendar_values name 0 place status) (IsCalendarRow name calendar.new) }
-    ensures refused { (d : CalendarEntries) (name : List ℕ) → TellsEntry d 0 place status
+    ensures refused { (d : CalendarEntries) (name : List ℕ) → RepresentsEntry d 0 place status
         → Within (IsCalendarRow name calendar.old) (IsCalendarRow name d) → IsTrue result }
 {
     match calendar.weekday_status(weekday_at(place)) {
@@ -258,7 +258,7 @@ fn list_week_entry(calendar: &mut Calendar, place: u32, status: DayStatus) -> bo
     ensures taken { (name : List ℕ) → IsTrue result → Joins (IsCalendarRow name calendar.old)
         (calendar_values name 0 place status) (IsCalendarRow name calendar.new) }
     ensures refused { (d : CalendarEntries) (name : List ℕ) → IsSoundCalendar name d
-        → TellsEntry d 0 place status
+        → RepresentsEntry d 0 place status
         → Within (IsCalendarRow name calendar.old) (IsCalendarRow name d)
         → IsTrue result }
 {
@@ -277,7 +277,7 @@ fn list_date(calendar: &mut Calendar, day: Day, status: DayStatus) -> Result<boo
         → Joins (IsCalendarRow name calendar.old)
         (calendar_values name 1 day status) (IsCalendarRow name calendar.new)) }
     ensures refused { IfOk result (λ b. (d : CalendarEntries) (name : List ℕ)
-        → TellsEntry d 1 day status
+        → RepresentsEntry d 1 day status
         → Within (IsCalendarRow name calendar.old) (IsCalendarRow name d) → IsTrue b) }
 {
     match calendar.date_status(day) {
@@ -302,7 +302,7 @@ fn list_day_entry(
         (calendar_values name 1 number status) (IsCalendarRow name calendar.new)) }
     ensures refused { IfOk result (λ b. (d : CalendarEntries) (name : List ℕ)
         → IsSoundCalendar name d
-        → TellsEntry d 1 number status
+        → RepresentsEntry d 1 number status
         → Within (IsCalendarRow name calendar.old) (IsCalendarRow name d)
         → IsTrue b) }
 {
@@ -326,7 +326,7 @@ fn list_entry(
         (calendar_values name kind number status) (IsCalendarRow name calendar.new)) }
     ensures refused { IfOk result (λ b. (d : CalendarEntries) (name : List ℕ)
         → IsSoundCalendar name d
-        → TellsEntry d kind number status
+        → RepresentsEntry d kind number status
         → Within (IsCalendarRow name calendar.old) (IsCalendarRow name d)
         → IsTrue b) }
 {

@@ -8,14 +8,14 @@ ghost use Rattle.run_cycles.specs.Offset.{IsOffset};
 ghost use Rattle.plan_tables_definitions.specs.CycleParts.{IsPartRow, IsReadPart, IsReadRow, IsSoundPart, offset_tail};
 ghost use Rattle.plan_tables_definitions.specs.CycleParts.{part_named, read_part_named};
 ghost use Rattle.plan_tables_definitions.specs.DraftedCycles.{IsReadableCycle, told_values};
-ghost use Rattle.plan_tables_definitions.specs.declared.told_cycles.ToldCycle.{ToldCycle as ToldValue};
+ghost use Rattle.plan_tables_definitions.specs.declared.decoded_cycles.DecodedCycle.{DecodedCycle as DecodedValue};
 ghost use Rattle.plan_tables_definitions.specs.Gathering.{Joins, Within};
 ghost use Rattle.plan_tables_definitions.specs.Placed.{IsRowOfList, IsPlaced};
 
 use crate::columns::{integer_at, number_at};
+use crate::decoded_cycles::{DecodedCycle, told_at};
 use crate::gathering::Draft;
 use crate::places::Places;
-use crate::told_cycles::{ToldCycle, told_at};
 use run_cycles::Offsets;
 use sqlite::types::ValueRef;
 use sqlite_value::row::Row;
@@ -26,7 +26,7 @@ use work_calendars::Name;
 #[derive(Drop)]
 pub(crate) struct CyclePart {
     /// What its row encodes.
-    pub(crate) told: ToldCycle,
+    pub(crate) told: DecodedCycle,
     /// Its offsets.
     pub(crate) offsets: Offsets,
 }
@@ -94,9 +94,9 @@ fn keep_row(kept: &mut Row, name: &Name, row: &Row) -> Result<bool, AllocError>
 }
 
 // What the row that was kept encodes.
-fn told_of(row: &Row, name: &Name) -> Option<ToldCycle>
+fn told_of(row: &Row, name: &Name) -> Option<DecodedCycle>
     ensures value { IfSome result (λ t. row.now ≡ told_values name.now t) }
-    ensures found { (t : ToldValue) → IsReadableCycle t → row.now ≡ told_values name.now t
+    ensures found { (t : DecodedValue) → IsReadableCycle t → row.now ≡ told_values name.now t
         → result ≡ Some t }
 {
     if is_of(row, name) {

@@ -8,6 +8,7 @@ mod columns;
 mod copying;
 mod cycle_parts;
 mod cycles;
+mod decoded_cycles;
 mod drafts;
 mod encoding;
 mod gathering;
@@ -18,7 +19,6 @@ mod places;
 mod predecessors;
 mod stored;
 mod tails;
-mod told_cycles;
 mod whole_cycles;
 
 pub use applications::application_rows;

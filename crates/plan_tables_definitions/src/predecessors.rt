@@ -16,7 +16,7 @@ ghost use Rattle.plan_tables_definitions.specs.Drafted.{AreSoundPredecessors, Is
 ghost use Rattle.plan_tables_definitions.specs.Drafted.{predecessors_named, read_predecessor_named};
 ghost use Rattle.plan_tables_definitions.specs.Gathering.{AreSound};
 ghost use Rattle.plan_tables_definitions.specs.Storing.{AreRowsOf};
-ghost use Rattle.plan_tables_definitions.specs.Telling.{ArePredecessors};
+ghost use Rattle.plan_tables_definitions.specs.Representable.{ArePredecessors};
 
 use crate::cells::{optional_limit, row_of};
 use crate::columns::{name_at, optional_limit_at};

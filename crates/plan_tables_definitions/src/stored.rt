@@ -12,7 +12,7 @@ ghost use Rattle.plan_tables_definitions.specs.Defined.{AreSoundDefinitions};
 ghost use Rattle.plan_tables_definitions.specs.Drafted.{AreSoundPredecessors, IsSoundApplication, IsSoundCalendar};
 ghost use Rattle.plan_tables_definitions.specs.DraftedPeriods.{IsSoundPeriodOfDays};
 ghost use Rattle.plan_tables_definitions.specs.Gathering.{AreSound};
-ghost use Rattle.plan_tables_definitions.specs.Telling.{AreCycles, ArePredecessors};
+ghost use Rattle.plan_tables_definitions.specs.Representable.{AreCycles, ArePredecessors};
 ghost use Rattle.plan_tables_definitions.specs.WholeCycles.{AreSoundCycles};
 ghost use Rattle.plan_periods.specs.declared.periods.Period.{Period as PeriodValue};
 ghost use Rattle.plan_tables_content.specs.Facts.{IsCalendarRow, IsCycleRow, IsOffsetRow, IsPeriodRow, IsPredecessorRow};

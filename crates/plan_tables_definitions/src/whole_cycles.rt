@@ -10,7 +10,7 @@ ghost use Rattle.plan_tables_content.specs.Content.{AreEach, ByName as Defined};
 ghost use Rattle.plan_tables_content.specs.Facts.{IsCycleRow, IsOffsetRow};
 ghost use Rattle.plan_tables_definitions.specs.Gathering.{AreSound};
 ghost use Rattle.plan_tables_definitions.specs.Storing.{AreRowsOf};
-ghost use Rattle.plan_tables_definitions.specs.Telling.{AreCycles};
+ghost use Rattle.plan_tables_definitions.specs.Representable.{AreCycles};
 ghost use Rattle.plan_tables_definitions.specs.WholeCycles.{ArePartsOf, AreSoundCycles, AreWide, HaveShortNames};
 ghost use Rattle.plan_tables_definitions.specs.WholeCycles.{IsEitherRow, IsKept, cycle_of, either_named, kept_named};
 ghost use Rattle.plan_tables_definitions.specs.declared.cycle_parts.CyclePart.{CyclePart as PartValue};

@@ -13,12 +13,12 @@ use Rattle.plan_tables_schema.specs.Rows.{Tables, shown}
 use Rattle.plan_tables_schema.specs.declared.tables.Table.{Table}
 use Rattle.plan_tables_schema.specs.declared.tables.Table.TheVariants as table
 use Rattle.plan_tables_content.specs.Content.{AreEach, HasEntry, IsContentOf, IsNamed, IsTold}
-use Rattle.plan_tables_content.specs.Content.{IsFact, IsOfList, IsOfSet, IsSmall, IsTellable, IsUnderOwn}
+use Rattle.plan_tables_content.specs.Content.{IsFact, IsOfList, IsOfSet, IsSmall, IsRepresentable, IsUnderOwn}
 use Rattle.plan_tables_content.specs.Content.{job_values, meta_values}
 use Rattle.plan_tables_content.specs.Facts.{current_values, deletion_values, link_values, pair_values, row_values}
 use Rattle.plan_tables_loading.specs.Lists.{HasLists, HoldsEach}
 use Rattle.plan_tables_loading.specs.Order.{current_number, deletion_number, job_number, row_number}
-use Rattle.plan_tables_loading.specs.Tables.{IsOneOf, TellDefinitions, TellPlans}
+use Rattle.plan_tables_loading.specs.Tables.{IsOneOf, RepresentDefinitions, RepresentPlans}
 use Rattle.plan_tables_loading.specs.declared.lists.PlanLists.{PlanLists}
 
 module _ {X : Type 0} (values_of : X → Values) where
@@ -55,7 +55,7 @@ both : {A B C : Type 0} → A ↔ B → B ↔ C → A ↔ C
 both f g = ((λ a. g.0 (f.0 a)), λ c. f.1 (g.1 c))
 
 module _ (all : Tables) (definitions : Definitions) (lists : PlanLists) (c : Content)
-    (tell : TellPlans all lists) (define : TellDefinitions all definitions)
+    (decode : RepresentPlans all lists) (define : RepresentDefinitions all definitions)
     (options : definitions.options ≡ lists.meta.options) (has : HasLists definitions lists c) where
   abbrev Facts : Table → Content → Type 0
   Facts t d = (v : Values) → Contains (map (shown t) (all t)) v ↔ IsFact t d v
@@ -79,33 +79,33 @@ module _ (all : Tables) (definitions : Definitions) (lists : PlanLists) (c : Con
       ((sym options ∙ ap (λ (d : Definitions). d.options) (sym has.defined)) i)
 
   facts_of : (t : Table) → Facts t c
-  facts_of table.Meta v = both (tell.meta.exactly v) ((λ is. is ∙ meta_is), λ is. is ∙ sym meta_is)
+  facts_of table.Meta v = both (decode.meta.exactly v) ((λ is. is ∙ meta_is), λ is. is ∙ sym meta_is)
   facts_of table.CalendarEntry v = defined table.CalendarEntry define.calendar_rows.exactly v
   facts_of table.Period v = defined table.Period define.period_rows.exactly v
   facts_of table.Application v = defined table.Application define.application_rows.exactly v
   facts_of table.RunCycle v = defined table.RunCycle define.cycle_rows.exactly v
   facts_of table.Offset v = defined table.Offset define.offset_rows.exactly v
   facts_of table.Predecessor v = defined table.Predecessor define.predecessor_rows.exactly v
-  facts_of table.LinkInForce v = both (tell.links.exactly v)
+  facts_of table.LinkInForce v = both (decode.links.exactly v)
       (of_list link_values lists.links c.in_force (have_same lists.links c.in_force has.in_force) v)
-  facts_of table.LongTerm v = both (tell.placed.in_ltp.exactly v)
+  facts_of table.LongTerm v = both (decode.placed.in_ltp.exactly v)
       (of_set row_values row_number lists.rows.ltp.items c.sets.ltp has.placed.ltp v)
-  facts_of table.Current v = both (tell.placed.in_cp.exactly v)
+  facts_of table.Current v = both (decode.placed.in_cp.exactly v)
       (of_set current_values current_number lists.rows.cp.items c.sets.cp has.placed.cp v)
-  facts_of table.History v = both (tell.placed.in_history.exactly v)
+  facts_of table.History v = both (decode.placed.in_history.exactly v)
       (of_set row_values row_number lists.rows.history.items c.sets.history has.placed.history v)
-  facts_of table.Deletion v = both (tell.placed.in_deletions.exactly v)
+  facts_of table.Deletion v = both (decode.placed.in_deletions.exactly v)
       (of_set deletion_values deletion_number lists.rows.deletions.items c.sets.deletions has.placed.deletions v)
-  facts_of table.Dependency v = both (tell.pairs.exactly v) (of_list pair_values lists.pairs.items c.pairs has.paired v)
-  facts_of table.Job v = both (tell.jobs.exactly v) (of_set job_values job_number lists.jobs.items c.jobs has.kept v)
+  facts_of table.Dependency v = both (decode.pairs.exactly v) (of_list pair_values lists.pairs.items c.pairs has.paired v)
+  facts_of table.Job v = both (decode.jobs.exactly v) (of_set job_values job_number lists.jobs.items c.jobs has.kept v)
 
   small : (n : ℕ) (job : Job) → c.jobs n ≡ Some job → IsSmall job.reply
   small n job is =
       let there = ((has.kept n job).0 is).0 in
       subst (λ (j : Job). IsSmall j.reply) there.2 (has.small there.0 job there.1)
 
-  tellable : IsTellable c
-  tellable = record {
+  representable : IsRepresentable c
+  representable = record {
     calendars = subst (λ (d : Definitions). AreEach IsTold d.calendars) (sym has.defined) define.calendars;
     periods = subst (λ (d : Definitions). AreEach HasEntry d.periods) (sym has.defined) define.periods;
     run_cycles = subst (λ (d : Definitions). AreEach (IsNamed (λ (cycle : RunCycle). cycle.name)) d.run_cycles)
@@ -123,4 +123,4 @@ module _ (all : Tables) (definitions : Definitions) (lists : PlanLists) (c : Con
   }
 
   pub is_content : IsContentOf all c
-  is_content = record { tellable = tellable; facts = facts_of }
+  is_content = record { representable = representable; facts = facts_of }

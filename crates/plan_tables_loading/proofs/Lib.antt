@@ -12,4 +12,4 @@ pub mod LinkLemmas
 pub mod RowidLemmas
 mod PairLemmas
 mod PairTexts
-mod PairHandLemmas
+mod PairEmitLemmas

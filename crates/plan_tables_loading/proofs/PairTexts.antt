@@ -23,7 +23,7 @@ use Rattle.sqlite_typing.specs.Types.{are_typed, row_classes}
 use Rattle.sqlite_tied.specs.Compute.{everything}
 use Rattle.sqlite_sql.specs.Term.{Term, col}
 use Rattle.sqlite.specs.State.{State as Whole}
-use Rattle.plan_tables_schema.specs.Places.{TableStandsAt}
+use Rattle.plan_tables_schema.specs.Places.{TableIsAt}
 use Rattle.plan_tables_schema.specs.Schema.{HasTables, name, table_at}
 use Rattle.plan_tables_schema.specs.declared.tables.Table.TheVariants.{Dependency}
 use Rattle.plan_tables_schema.proofs.ColumnsLemmas.{opens_column, opens_shown, shows_all}
@@ -126,7 +126,7 @@ is_word : scope.is_rowid rowid_word ≡ true
 unfolding everything
 is_word = refl
 
-pairs_show : (schema : Schema) (tree at : ℕ) → TableStandsAt schema (pairs_at tree) at
+pairs_show : (schema : Schema) (tree at : ℕ) → TableIsAt schema (pairs_at tree) at
     → ShowsRows schema pair_sql tree pair_terms pair_names
 pairs_show schema tree at it =
     let table = pairs_at tree in

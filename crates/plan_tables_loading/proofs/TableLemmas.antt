@@ -20,7 +20,7 @@ use Rattle.plan_tables_content.specs.Content.{meta_values}
 use Rattle.plan_tables_content.specs.Facts.{natural}
 use Rattle.plan_tables_loading.specs.Cells.{IsMeta}
 use Rattle.plan_tables_loading.specs.Readable.{ShowsEach, ShowsMeta}
-use Rattle.plan_tables_loading.specs.Tables.{IsOneOf, ShowsOnly, TellsMeta}
+use Rattle.plan_tables_loading.specs.Tables.{IsOneOf, ShowsOnly, RepresentsMeta}
 use Rattle.plan_tables_loading.specs.declared.meta.Meta.{Meta}
 use Rattle.plan_tables_loading.proofs.OrderLemmas.{rise_rowids}
 
@@ -50,7 +50,7 @@ abbrev values_of_meta : Meta → Values
 values_of_meta m = meta_values m.bounds m.issued m.options
 
 pub tells_only : (all : Tables) (metas : List Meta) (m : Meta) → metas ≡ m ∷ []
-    → ShowsOnly all table.Meta (IsOneOf values_of_meta metas) → TellsMeta all m
+    → ShowsOnly all table.Meta (IsOneOf values_of_meta metas) → RepresentsMeta all m
 tells_only all metas m is shows = record {
   exactly = λ v. (
     (λ there. sym (one_is (values_of_meta m) v (subst (λ l. Contains (map values_of_meta l) v) is

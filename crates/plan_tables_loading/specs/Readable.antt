@@ -13,7 +13,7 @@ use Rattle.planner_machine.specs.Sound.{IsLink}
 use Rattle.plan_tables_content.specs.Content.{job_values}
 use Rattle.plan_tables_content.specs.Facts.{current_values, deletion_values, link_values, natural, pair_values, row_values}
 use Rattle.plan_tables_loading.specs.Cells.{IsMeta, IsNumberedRow, IsPair, IsReadJob}
-use Rattle.plan_tables_loading.specs.Tables.{TellsMeta}
+use Rattle.plan_tables_loading.specs.Tables.{RepresentsMeta}
 use Rattle.plan_tables_loading.specs.declared.meta.Meta.{Meta}
 
 -- each row that the table shows is that of something of this kind
@@ -35,7 +35,7 @@ pub record ShowsNumbers {X : Type 0} (t : Table) (values_of : X → Values) (num
 pub record ShowsMeta (all : Tables) : Type 0 where
   pub meta : Meta
   pub form : IsMeta meta
-  pub tells : TellsMeta all meta
+  pub tells : RepresentsMeta all meta
   pub rowids : HaveRowids (all table.Meta)
 
 -- `link_in_force` shows a row of the link

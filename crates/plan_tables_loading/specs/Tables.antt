@@ -28,18 +28,18 @@ abbrev pub IsOneOf : {X : Type 0} → (X → Values) → List X → Values → T
 IsOneOf values_of xs v = Contains (map values_of xs) v
 
 -- the tables of the sets encode these rows
-pub record TellRows (all : Tables) (rows : PlanRows) : Type 0 where
+pub record RepresentRows (all : Tables) (rows : PlanRows) : Type 0 where
   pub in_ltp : ShowsOnly all table.LongTerm (IsOneOf row_values rows.ltp.items)
   pub in_cp : ShowsOnly all table.Current (IsOneOf current_values rows.cp.items)
   pub in_history : ShowsOnly all table.History (IsOneOf row_values rows.history.items)
   pub in_deletions : ShowsOnly all table.Deletion (IsOneOf deletion_values rows.deletions.items)
 
 -- the one row of how far the plans reach
-abbrev pub TellsMeta : Tables → Meta → Type 0
-TellsMeta all m = ShowsOnly all table.Meta (λ v. v ≡ meta_values m.bounds m.issued m.options)
+abbrev pub RepresentsMeta : Tables → Meta → Type 0
+RepresentsMeta all m = ShowsOnly all table.Meta (λ v. v ≡ meta_values m.bounds m.issued m.options)
 
-abbrev pub TellsMetaOnce : Tables → Meta → Type 0
-TellsMetaOnce all m = TellsMeta all m × HaveRowids (all table.Meta)
+abbrev pub RepresentsMetaOnce : Tables → Meta → Type 0
+RepresentsMetaOnce all m = RepresentsMeta all m × HaveRowids (all table.Meta)
 
 -- the tables whose rows are read with their rowids: integers, in none of them one twice
 pub record HaveShownRowids (all : Tables) : Type 0 where
@@ -52,15 +52,15 @@ pub record HaveShownRowids (all : Tables) : Type 0 where
   pub jobs : HaveRowids (all table.Job)
 
 -- the tables of the plans encode what is listed
-pub record TellPlans (all : Tables) (lists : PlanLists) : Type 0 where
-  pub meta : TellsMeta all lists.meta
+pub record RepresentPlans (all : Tables) (lists : PlanLists) : Type 0 where
+  pub meta : RepresentsMeta all lists.meta
   pub links : ShowsOnly all table.LinkInForce (IsOneOf link_values lists.links)
-  pub placed : TellRows all lists.rows
+  pub placed : RepresentRows all lists.rows
   pub pairs : ShowsOnly all table.Dependency (IsOneOf pair_values lists.pairs.items)
   pub jobs : ShowsOnly all table.Job (IsOneOf job_values lists.jobs.items)
 
 -- the tables of the definitions encode these, which tables can distinguish from all others
-pub record TellDefinitions (all : Tables) (d : Definitions) : Type 0 where
+pub record RepresentDefinitions (all : Tables) (d : Definitions) : Type 0 where
   pub calendar_rows : ShowsOnly all table.CalendarEntry (IsOfSome IsCalendarRow d.calendars)
   pub period_rows : ShowsOnly all table.Period (IsOfSome IsPeriodRow d.periods)
   pub application_rows : ShowsOnly all table.Application (IsOfSome IsApplicationRow d.applications)

@@ -128,7 +128,7 @@ fn if_line(alloc: Global, answer: Answer, line: &str) -> Result<Option<Answer>, 
 }
 
 // The reply whose line this is.
-fn told_reply(alloc: Global, line: &str) -> Result<Option<Answer>, AllocError>
+fn decode_reply(alloc: Global, line: &str) -> Result<Option<Answer>, AllocError>
     ensures value { IfOk result (λ found. IfSome found (λ answer. answer_text answer ≡ line.now)) }
     ensures none { IfOk result (λ found. found ≡ None → (reply : ReplyValue)
         → IsKeptReply (Ok reply)
@@ -155,7 +155,7 @@ fn told_reply(alloc: Global, line: &str) -> Result<Option<Answer>, AllocError>
 }
 
 // The refusal of an application whose line this is.
-fn told_app(alloc: Global, app: App, line: &str) -> Result<Option<Answer>, AllocError>
+fn decode_app(alloc: Global, app: App, line: &str) -> Result<Option<Answer>, AllocError>
     ensures value { IfOk result (λ found. IfSome found (λ answer. answer_text answer ≡ line.now)) }
     ensures calendar { IfOk result (λ found. found ≡ None
         → refusal_text (CalendarUndefined app) ≡ line.now → ⊥) }
@@ -173,7 +173,7 @@ fn told_app(alloc: Global, app: App, line: &str) -> Result<Option<Answer>, Alloc
 }
 
 // The refusal without a detail whose line this is.
-fn told_bare(alloc: Global, line: &str) -> Result<Option<Answer>, AllocError>
+fn decode_bare(alloc: Global, line: &str) -> Result<Option<Answer>, AllocError>
     ensures value { IfOk result (λ found. IfSome found (λ answer. answer_text answer ≡ line.now)) }
     ensures none { IfOk result (λ found. found ≡ None
         → All (λ (refusal : RefusalValue). refusal_text refusal ≡ line.now
@@ -200,7 +200,7 @@ fn told_bare(alloc: Global, line: &str) -> Result<Option<Answer>, AllocError>
 }
 
 // The refusal of a serial whose line this is.
-fn told_serial(alloc: Global, line: &str) -> Result<Option<Answer>, AllocError>
+fn decode_serial(alloc: Global, line: &str) -> Result<Option<Answer>, AllocError>
     ensures value { IfOk result (λ found. IfSome found (λ answer. answer_text answer ≡ line.now)) }
     ensures none { IfOk result (λ found. found ≡ None → (n : ℕ) → IsShown n
         → refusal_text (PredecessorUncompleted n) ≡ line.now → ⊥) }
@@ -212,33 +212,33 @@ fn told_serial(alloc: Global, line: &str) -> Result<Option<Answer>, AllocError>
 }
 
 // The refusal with a detail whose line this is.
-fn told_detailed(alloc: Global, line: &str) -> Result<Option<Answer>, AllocError>
+fn decode_detailed(alloc: Global, line: &str) -> Result<Option<Answer>, AllocError>
     ensures value { IfOk result (λ found. IfSome found (λ answer. answer_text answer ≡ line.now)) }
     ensures none { IfOk result (λ found. found ≡ None → (refusal : RefusalValue)
         → IsKeptReply (Err refusal)
         → IsDetailed refusal → refusal_text refusal ≡ line.now → ⊥) }
 {
-    if let Some(found) = told_serial(alloc, line)? {
+    if let Some(found) = decode_serial(alloc, line)? {
         return Ok(Some(found));
     }
     match App::from_text(behind_two(line)) {
-        Some(app) => told_app(alloc, app, line),
+        Some(app) => decode_app(alloc, app, line),
         None => Ok(None),
     }
 }
 
 /// The reply whose line this is, if a kept job can have it.
-pub(crate) fn told_answer(alloc: Global, line: &str) -> Result<Option<Answer>, AllocError>
+pub(crate) fn decode_answer(alloc: Global, line: &str) -> Result<Option<Answer>, AllocError>
     ensures value { IfOk result (λ found. IfSome found (λ answer. answer_text answer ≡ line.now)) }
     ensures none { IfOk result (λ found. found ≡ None → (answer : Result ReplyValue RefusalValue)
         → IsKeptReply answer
         → answer_text answer ≡ line.now → ⊥) }
 {
-    if let Some(found) = told_reply(alloc, line)? {
+    if let Some(found) = decode_reply(alloc, line)? {
         return Ok(Some(found));
     }
-    if let Some(found) = told_bare(alloc, line)? {
+    if let Some(found) = decode_bare(alloc, line)? {
         return Ok(Some(found));
     }
-    told_detailed(alloc, line)
+    decode_detailed(alloc, line)
 }

@@ -2,8 +2,8 @@
 
 ghost use Rattle.std.specs.Prelude.{◌≡◌, [], ◌∷◌, ◌++◌, false, map, IfOk, IsTrue};
 
-use crate::told::Told;
-use plan_tables_lookups::{SinkFault, ValuesSink};
+use crate::decode::Decode;
+use plan_tables_lookups::{RowRefused, ValuesSink};
 use sqlite::Row as Cells;
 use std::alloc::{AllocError, Global};
 
@@ -19,13 +19,13 @@ pub(crate) struct Collector<X> {
 }
 
 // Appends what the row encodes; false if nothing has its values.
-fn put<X: Told + Drop>(alloc: Global, xs: &mut Vec<X>, cells: &Cells) -> Result<bool, AllocError>
+fn put<X: Decode + Drop>(alloc: Global, xs: &mut Vec<X>, cells: &Cells) -> Result<bool, AllocError>
     ensures put { IfOk result (λ is_told. IsTrue is_told
         → map X.values xs.new.items ≡ map X.values xs.old.items ++ cells.now ∷ []) }
     ensures none { IfOk result (λ is_told. is_told ≡ false → (x : X) → X.has_form x
         → X.values x ≡ cells.now → ⊥) }
 {
-    match X::tell(alloc, cells)? {
+    match X::decode(alloc, cells)? {
         Some(x) => {
             xs.push(x)?;
             Ok(true)
@@ -34,23 +34,23 @@ fn put<X: Told + Drop>(alloc: Global, xs: &mut Vec<X>, cells: &Cells) -> Result<
     }
 }
 
-impl<X: Told + Drop> ValuesSink for Collector<X> {
-    ghost takes = { λ old row new.
+impl<X: Decode + Drop> ValuesSink for Collector<X> {
+    ghost accepts = { λ old row new.
         map X.values new.xs.items ≡ map X.values old.xs.items ++ row ∷ [] };
 
     ghost refuses = { λ old row new. new.is_short ≡ false → (x : X) → X.has_form x
         → X.values x ≡ row → ⊥ };
 
-    fn take(&mut self, cells: &Cells) -> Result<(), SinkFault> {
+    fn accept(&mut self, cells: &Cells) -> Result<(), RowRefused> {
         match put(self.alloc, &mut self.xs, cells) {
             Ok(true) => Ok(()),
             Ok(false) => {
                 self.is_short = false;
-                Err(SinkFault)
+                Err(RowRefused)
             }
             Err(AllocError) => {
                 self.is_short = true;
-                Err(SinkFault)
+                Err(RowRefused)
             }
         }
     }

@@ -12,9 +12,9 @@ ghost use Rattle.occurrences.specs.declared.reply.Reply.{Reply as ReplyValue};
 ghost use Rattle.planner_machine.specs.Sound.{IsKeptReply};
 ghost use Rattle.plan_tables_loading.specs.Cells.{IsReadJob};
 
-use crate::answers::told_answer;
+use crate::answers::decode_answer;
 use crate::cells::text_at;
-use crate::told::Told;
+use crate::decode::Decode;
 use plan_tables_content::answer_is_small;
 use planner_machine::{Answer, Job, JobText};
 use sqlite::Row as Cells;
@@ -54,13 +54,13 @@ fn answer_at(alloc: Global, cells: &Cells, at: usize) -> Result<Option<Answer>, 
         → column cells.now at ≡ Text (answer_text answer) → ⊥) }
 {
     match text_at(cells, at) {
-        Some(line) => told_answer(alloc, line),
+        Some(line) => decode_answer(alloc, line),
         None => Ok(None),
     }
 }
 
 #[tactic(auto, using(crate::proofs::CellLemmas::of_job))]
-fn told_job(alloc: Global, cells: &Cells) -> Result<Option<Job>, AllocError>
+fn decode_job(alloc: Global, cells: &Cells) -> Result<Option<Job>, AllocError>
     ensures value { IfOk result (λ found. IfSome found (λ job. job_values job ≡ cells.now)) }
     ensures none { IfOk result (λ found. found ≡ None → (job : JobValue) → IsReadJob job
         → job_values job ≡ cells.now
@@ -85,13 +85,13 @@ fn told_job(alloc: Global, cells: &Cells) -> Result<Option<Job>, AllocError>
     }))
 }
 
-impl Told for Job {
+impl Decode for Job {
     ghost values = { job_values };
 
     ghost has_form = { IsReadJob };
 
-    fn tell(alloc: Global, cells: &Cells) -> Result<Option<Job>, AllocError> {
-        told_job(alloc, cells)
+    fn decode(alloc: Global, cells: &Cells) -> Result<Option<Job>, AllocError> {
+        decode_job(alloc, cells)
     }
 }
 

@@ -12,7 +12,7 @@ ghost use Rattle.plan_tables_loading.specs.declared.meta.Meta.{Meta as MetaValue
 ghost use Rattle.plan_tables_loading.specs.Cells.{AreDays, HasBounds, HasOptions, IsMeta};
 
 use crate::cells::{day_at, moment_at, name_at, number_at};
-use crate::told::Told;
+use crate::decode::Decode;
 use app_definitions::{MAX_EXTENSION_HOURS, Options};
 use plan_tables_schema::SCHEMA_VERSION;
 use planner_machine::Bounds;
@@ -51,7 +51,7 @@ fn is_unplanned(cells: &Cells) -> bool
 }
 
 // How far a plan reaches.
-fn told_plan(cells: &Cells) -> Option<Bounds>
+fn decode_plan(cells: &Cells) -> Option<Bounds>
     ensures value { IfSome result (λ bounds. HasBounds (Some bounds) cells.now) }
     ensures none { result ≡ None → (bounds : BoundsValue) → AreDays bounds
         → HasBounds (Some bounds) cells.now → ⊥ }
@@ -70,7 +70,7 @@ fn told_plan(cells: &Cells) -> Option<Bounds>
 }
 
 // How far the plans reach.
-fn told_bounds(cells: &Cells) -> Option<Option<Bounds>>
+fn decode_bounds(cells: &Cells) -> Option<Option<Bounds>>
     ensures value { IfSome result (λ bounds. HasBounds bounds cells.now) }
     ensures none { result ≡ None → (bounds : Option BoundsValue) → IfSome bounds AreDays
         → HasBounds bounds cells.now
@@ -79,7 +79,7 @@ fn told_bounds(cells: &Cells) -> Option<Option<Bounds>>
     if is_unplanned(cells) {
         Some(None)
     } else {
-        match told_plan(cells) {
+        match decode_plan(cells) {
             Some(bounds) => Some(Some(bounds)),
             None => None,
         }
@@ -87,7 +87,7 @@ fn told_bounds(cells: &Cells) -> Option<Option<Bounds>>
 }
 
 // The options.
-fn told_options(cells: &Cells) -> Option<Options>
+fn decode_options(cells: &Cells) -> Option<Options>
     ensures value { IfSome result (λ options. HasOptions options cells.now) }
     ensures none { result ≡ None → (options : OptionsValue) → IsName options.default_calendar
         → HasOptions options cells.now → ⊥ }
@@ -104,7 +104,7 @@ fn told_options(cells: &Cells) -> Option<Options>
 }
 
 #[tactic(auto, using(crate::proofs::CellLemmas::of_meta))]
-fn told_meta(cells: &Cells) -> Option<Meta>
+fn decode_meta(cells: &Cells) -> Option<Meta>
     ensures value { IfSome result (λ meta. meta_values meta.bounds meta.issued meta.options
         ≡ cells.now) }
     ensures none { result ≡ None → (meta : MetaValue) → IsMeta meta
@@ -119,9 +119,9 @@ fn told_meta(cells: &Cells) -> Option<Meta>
     if !is_number(cells, 1, SCHEMA_VERSION) {
         return None;
     }
-    let bounds = told_bounds(cells)?;
+    let bounds = decode_bounds(cells)?;
     let issued = number_at(cells, 6)?;
-    let options = told_options(cells)?;
+    let options = decode_options(cells)?;
     Some(Meta {
         bounds,
         issued,
@@ -129,12 +129,12 @@ fn told_meta(cells: &Cells) -> Option<Meta>
     })
 }
 
-impl Told for Meta {
+impl Decode for Meta {
     ghost values = { λ meta. meta_values meta.bounds meta.issued meta.options };
 
     ghost has_form = { IsMeta };
 
-    fn tell(_: Global, cells: &Cells) -> Result<Option<Meta>, AllocError> {
-        Ok(told_meta(cells))
+    fn decode(_: Global, cells: &Cells) -> Result<Option<Meta>, AllocError> {
+        Ok(decode_meta(cells))
     }
 }

@@ -4,7 +4,7 @@ ghost use Rattle.std.specs.Prelude.{◌≡◌, false, is_ok, map, None, IfErr, I
 ghost use Rattle.std.specs.List.Sorted.{IsPermutation};
 ghost use Rattle.sqlite.specs.State.{HasCleanDisk, IsUnchanged, Survives};
 ghost use Rattle.sqlite.specs.Held.{state};
-ghost use Rattle.plan_tables_lookups.specs.Handing.{HandsAll, HandsPart, StopsFor};
+ghost use Rattle.plan_tables_lookups.specs.Emitting.{EmitsAll, EmitsPart, StopsFor};
 ghost use Rattle.plan_tables_schema.specs.Rows.{MayFail, StaysOrIsUndone, tables_of};
 ghost use Rattle.plan_tables_schema.specs.Schema.{HasTables};
 ghost use Rattle.plan_tables_schema.specs.declared.tables.Table.TheVariants.{Dependency};
@@ -18,10 +18,10 @@ ghost use Rattle.plan_tables_loading.specs.declared.pairs.PairRow.{PairRow as Pa
 
 use crate::cells::{integer_at, serial_at};
 use crate::collecting::Collector;
+use crate::decode::Decode;
 use crate::order::{Numbered, place_of};
-use crate::told::Told;
 use external_dependencies::Pair;
-use plan_tables_lookups::{HandFault, SinkFault, ValuesSink};
+use plan_tables_lookups::{EmitFault, RowRefused, ValuesSink};
 use sqlite::{Alter, Connection, Error, ErrorCode, Row as Cells};
 use std::alloc::{AllocError, Global};
 
@@ -35,7 +35,7 @@ pub(crate) struct PairRow {
 }
 
 #[tactic(auto, using(crate::proofs::CellLemmas::pair_from, crate::proofs::CellLemmas::pair_is))]
-fn told_pair(cells: &Cells) -> Option<PairRow>
+fn decode_pair(cells: &Cells) -> Option<PairRow>
     ensures value { IfSome result (λ row. pair_row_values row ≡ cells.now) }
     ensures none { result ≡ None → (row : PairRowValue) → IsPair row.pair
         → pair_row_values row ≡ cells.now → ⊥ }
@@ -53,13 +53,13 @@ fn told_pair(cells: &Cells) -> Option<PairRow>
     Some(PairRow { pair, rowid })
 }
 
-impl Told for PairRow {
+impl Decode for PairRow {
     ghost values = { pair_row_values };
 
     ghost has_form = { λ row. IsPair row.pair };
 
-    fn tell(_: Global, cells: &Cells) -> Result<Option<PairRow>, AllocError> {
-        Ok(told_pair(cells))
+    fn decode(_: Global, cells: &Cells) -> Result<Option<PairRow>, AllocError> {
+        Ok(decode_pair(cells))
     }
 }
 
@@ -79,18 +79,18 @@ fn pair_text() -> &'static str
 }
 
 // Yields the pairs and the rowids of their rows, each before the next is read, in no order.
-fn hand_pairs<S: Alter, K: ValuesSink>(
+fn emit_pairs<S: Alter, K: ValuesSink>(
     conn: &mut Connection<S>,
     sink: &mut K,
-) -> Result<(), HandFault>
+) -> Result<(), EmitFault>
     ensures all { HasCleanDisk (state S.Store conn.new)
         → HasTables (state S.Store conn.old).now.schema
-        → OnOk result (HandsAll K.takes (IsPermutation
+        → OnOk result (EmitsAll K.accepts (IsPermutation
         (map pair_shown (tables_of (state S.Store conn.old).now.trees Dependency)))
         sink.old sink.new) }
     ensures part { HasCleanDisk (state S.Store conn.new)
         → HasTables (state S.Store conn.old).now.schema
-        → IfErr result (HandsPart K.takes K.refuses (IsPermutation
+        → IfErr result (EmitsPart K.accepts K.refuses (IsPermutation
         (map pair_shown (tables_of (state S.Store conn.old).now.trees Dependency)))
         sink.old sink.new) }
     ensures same { HasCleanDisk (state S.Store conn.new)
@@ -110,21 +110,21 @@ fn hand_pairs<S: Alter, K: ValuesSink>(
     let _ = conn.schema();
     let mut rows = match conn.query(pair_text(), &[]) {
         Ok(rows) => rows,
-        Err(error) => return Err(HandFault::Store(error)),
+        Err(error) => return Err(EmitFault::Store(error)),
     };
     'rows: for _ in 0..u64::MAX {
         if let Err(error) = rows.advance() {
-            return Err(HandFault::Store(error));
+            return Err(EmitFault::Store(error));
         }
         let Some(row) = rows.get() else {
             return Ok(());
         };
-        if let Err(SinkFault) = sink.take(row) {
-            return Err(HandFault::Sink);
+        if let Err(RowRefused) = sink.accept(row) {
+            return Err(EmitFault::Sink);
         }
     }
     // no memory has so many rows
-    Err(HandFault::Store(Error::SqliteFailure(ErrorCode::OutOfMemory)))
+    Err(EmitFault::Store(Error::SqliteFailure(ErrorCode::OutOfMemory)))
 }
 
 /// What the rows of the pairs encode.
@@ -151,11 +151,11 @@ pub(crate) fn read_pairs<S: Alter>(
         xs: Vec::new(alloc),
         is_short: false,
     };
-    match hand_pairs(conn, &mut told) {
+    match emit_pairs(conn, &mut told) {
         Ok(()) => Ok(Some(told.xs)),
-        Err(HandFault::Store(error)) => Err(error),
-        Err(HandFault::Sink) if told.is_short => Err(Error::from(AllocError)),
-        Err(HandFault::Sink) => Ok(None),
+        Err(EmitFault::Store(error)) => Err(error),
+        Err(EmitFault::Sink) if told.is_short => Err(Error::from(AllocError)),
+        Err(EmitFault::Sink) => Ok(None),
     }
 }
 

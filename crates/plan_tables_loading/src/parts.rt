@@ -16,14 +16,14 @@ ghost use Rattle.plan_tables_schema.specs.Schema.{table_of};
 ghost use Rattle.plan_tables_loading.specs.Readable.{ShowsEachOnce, ShowsLinks, ShowsMeta, ShowsNumbers};
 ghost use Rattle.plan_tables_loading.specs.Reading.{HasPlan, Looks};
 ghost use Rattle.plan_tables_loading.specs.Rowids.{AreApart, pair_of};
-ghost use Rattle.plan_tables_loading.specs.Tables.{IsOneOf, ShowsOnce, ShowsOnly, TellsMetaOnce};
+ghost use Rattle.plan_tables_loading.specs.Tables.{IsOneOf, ShowsOnce, ShowsOnly, RepresentsMetaOnce};
 
+use crate::decode::Decode;
 use crate::links::lists_of_links;
 use crate::meta::Meta;
 use crate::order::{Numbered, in_order};
 use crate::pairs::{PairRow, pairs_of, read_pairs};
 use crate::tables::{read_in_order, read_table};
-use crate::told::Told;
 use external_dependencies::{Link, Links, Pair};
 use occurrences::{CurrentRow, Deletion, Row};
 use plan_tables_schema::Table;
@@ -32,7 +32,7 @@ use sqlite::{Alter, Connection, Error};
 use std::alloc::{AllocError, Global};
 
 /// What is read from one table or from several.
-pub trait Part: Sized + Drop {
+pub trait TablePart: Sized + Drop {
     // the tables encode it
     ghost tells: { Tables → Self → Type 0 };
 
@@ -57,7 +57,7 @@ pub trait Part: Sized + Drop {
         ensures mode { conn.old.in_transaction ≡ false → conn.new.in_transaction ≡ false };
 }
 
-impl<A: Part, B: Part> Part for (A, B) {
+impl<A: TablePart, B: TablePart> TablePart for (A, B) {
     ghost tells = { λ all both. A.tells all both.0 × B.tells all both.1 };
 
     ghost in_order = { λ both. A.in_order both.0 × B.in_order both.1 };
@@ -78,7 +78,7 @@ impl<A: Part, B: Part> Part for (A, B) {
 }
 
 /// The rows of the table at the place, decoded, each under its own number.
-pub(crate) trait StandsIn<const PLACE: usize>: Told + Numbered {
+pub(crate) trait StandsIn<const PLACE: usize>: Decode + Numbered {
     /// The table.
     fn table() -> Table
         ensures { result ≡ table_of PLACE };
@@ -134,7 +134,7 @@ pub(crate) struct InOrder<X, const PLACE: usize> {
     pub rows: Vec<X>,
 }
 
-impl<X: StandsIn<PLACE> + Drop, const PLACE: usize> Part for InOrder<X, PLACE> {
+impl<X: StandsIn<PLACE> + Drop, const PLACE: usize> TablePart for InOrder<X, PLACE> {
     ghost tells = { λ all part. ShowsOnce all (table_of PLACE) (IsOneOf X.values part.rows.items) };
 
     ghost in_order = { λ part. NumbersRise X.number_of part.rows.items };
@@ -175,7 +175,7 @@ pub(crate) struct LinkRows {
     pub links: Links,
 }
 
-impl Part for LinkRows {
+impl TablePart for LinkRows {
     ghost tells = { λ all part. ShowsOnly all LinkInForce (IsOneOf link_values part.links) };
 
     ghost in_order = { λ _. Unit {0} };
@@ -209,7 +209,7 @@ pub(crate) struct PairRows {
     pub pairs: Vec<Pair>,
 }
 
-impl Part for PairRows {
+impl TablePart for PairRows {
     ghost tells = { λ all part. ShowsOnce all Dependency (IsOneOf pair_values part.pairs.items) };
 
     ghost in_order = { λ _. Unit {0} };
@@ -239,8 +239,8 @@ fn pair_rows(alloc: Global, told: Vec<PairRow>) -> Result<Option<PairRows>, Allo
     }
 }
 
-impl Part for Meta {
-    ghost tells = { TellsMetaOnce };
+impl TablePart for Meta {
+    ghost tells = { RepresentsMetaOnce };
 
     ghost in_order = { λ _. Unit {0} };
 

@@ -4,15 +4,15 @@ ghost use Rattle.std.specs.Prelude.{◌≡◌, false, is_ok, None, IfErr, IfOk, 
 ghost use Rattle.sqlite.specs.State.{HasCleanDisk};
 ghost use Rattle.sqlite.specs.Held.{state};
 ghost use Rattle.plan_tables_schema.specs.Rows.{MayFail, Tables, tables_of};
-ghost use Rattle.plan_tables_loading.specs.Parts.{AreRowsInOrder, AreRestInOrder, TellRowParts, TellRest};
+ghost use Rattle.plan_tables_loading.specs.Parts.{AreRowsInOrder, AreRestInOrder, RepresentRowParts, RepresentRest};
 ghost use Rattle.plan_tables_loading.specs.Readable.{ArePlansReadable};
 ghost use Rattle.plan_tables_loading.specs.Reading.{HasPlan, Looks};
-ghost use Rattle.plan_tables_loading.specs.Tables.{HaveShownRowids, TellPlans, TellRows};
+ghost use Rattle.plan_tables_loading.specs.Tables.{HaveShownRowids, RepresentPlans, RepresentRows};
 
 use crate::lists::{PlanLists, PlanRows};
 use crate::meta::Meta;
 use crate::parts::{
-    CurrentRows, DeletionRows, HistoryRows, JobRows, LinkRows, LongTermRows, PairRows, Part,
+    CurrentRows, DeletionRows, HistoryRows, JobRows, LinkRows, LongTermRows, PairRows, TablePart,
 };
 use sqlite::{Alter, Connection, Error};
 use std::alloc::Global;
@@ -25,7 +25,7 @@ type Rest = ((LinkRows, PairRows), (Meta, JobRows));
 
 fn rows_of(parts: RowParts) -> PlanRows
     requires { AreRowsInOrder parts }
-    ensures { (all : Tables) → TellRowParts all parts → TellRows all result }
+    ensures { (all : Tables) → RepresentRowParts all parts → RepresentRows all result }
 {
     let ((ltp, cp), (history, deletions)) = parts;
     PlanRows {
@@ -38,7 +38,7 @@ fn rows_of(parts: RowParts) -> PlanRows
 
 fn lists_of(rows: PlanRows, rest: Rest) -> PlanLists
     requires { AreRestInOrder rest }
-    ensures { (all : Tables) → TellRows all rows → TellRest all rest → TellPlans all result }
+    ensures { (all : Tables) → RepresentRows all rows → RepresentRest all rest → RepresentPlans all result }
 {
     let ((links, pairs), (meta, jobs)) = rest;
     PlanLists {
@@ -58,7 +58,7 @@ pub fn read_lists<S: Alter>(
 ) -> Result<Option<PlanLists>, Error>
     ensures told { HasCleanDisk (state S.Store conn.new) → HasPlan (state S.Store conn.old)
         → IfOk result (λ found. IfSome found
-        (TellPlans (tables_of (state S.Store conn.old).now.trees))) }
+        (RepresentPlans (tables_of (state S.Store conn.old).now.trees))) }
     ensures rowids { HasCleanDisk (state S.Store conn.new) → HasPlan (state S.Store conn.old)
         → IfOk result (λ found. IfSome found (λ _.
         HaveShownRowids (tables_of (state S.Store conn.old).now.trees))) }

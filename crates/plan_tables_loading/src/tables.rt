@@ -11,16 +11,16 @@ ghost use Rattle.plan_tables_loading.specs.Tables.{IsOneOf, ShowsOnly};
 ghost use Rattle.plan_tables_loading.specs.Readable.{ShowsEach, ShowsEachOnce, ShowsNumbers};
 
 use crate::collecting::Collector;
+use crate::decode::Decode;
 use crate::order::{Numbered, in_order};
-use crate::told::Told;
-use plan_tables_lookups::{HandFault, hand_all};
+use plan_tables_lookups::{EmitFault, emit_all};
 use plan_tables_schema::Table;
 use sqlite::{Alter, Connection, Error};
 use std::alloc::{AllocError, Global};
 
 /// What the rows of the table encode.
 #[tactic(auto, unfolding(crate::specs::Reading::HasPlan))]
-pub(crate) fn read_table<X: Told + Drop, S: Alter>(
+pub(crate) fn read_table<X: Decode + Drop, S: Alter>(
     alloc: Global,
     conn: &mut Connection<S>,
     table: Table,
@@ -46,17 +46,17 @@ pub(crate) fn read_table<X: Told + Drop, S: Alter>(
         xs: Vec::new(alloc),
         is_short: false,
     };
-    match hand_all(conn, table, &mut told) {
+    match emit_all(conn, table, &mut told) {
         Ok(()) => Ok(Some(told.xs)),
-        Err(HandFault::Store(error)) => Err(error),
-        Err(HandFault::Sink) if told.is_short => Err(Error::from(AllocError)),
-        Err(HandFault::Sink) => Ok(None),
+        Err(EmitFault::Store(error)) => Err(error),
+        Err(EmitFault::Sink) if told.is_short => Err(Error::from(AllocError)),
+        Err(EmitFault::Sink) => Ok(None),
     }
 }
 
 /// What the rows of the table encode, in the order of their numbers, if no two have the same. If the table shows its
 /// rowids as these numbers, each row then has its own.
-pub(crate) fn read_in_order<X: Told + Numbered + Drop, S: Alter>(
+pub(crate) fn read_in_order<X: Decode + Numbered + Drop, S: Alter>(
     alloc: Global,
     conn: &mut Connection<S>,
     table: Table,

@@ -9,6 +9,6 @@ pub mod LookMeanings
 pub mod AnswerLemmas
 pub mod TextLemmas
 pub mod AskLemmas
-pub mod HandLemmas
+pub mod EmitLemmas
 pub mod LastLemmas
 pub mod SomeAnswer

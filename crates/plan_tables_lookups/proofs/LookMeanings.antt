@@ -23,7 +23,7 @@ use Rattle.plan_tables_lookups.proofs.QuestionMeanings.{test_term}
 use Rattle.plan_tables_lookups.proofs.SortMeanings.{limit_term, sort_term}
 use Rattle.plan_tables_lookups.proofs.WrittenQuestions.{IsWritten, Says}
 use Rattle.plan_tables_schema.specs.Cells.{column_names}
-use Rattle.plan_tables_schema.specs.Places.{TableStandsAt}
+use Rattle.plan_tables_schema.specs.Places.{TableIsAt}
 use Rattle.plan_tables_schema.specs.Schema.{name, table_at}
 use Rattle.plan_tables_schema.proofs.MeaningLemmas.{Means, Plans, means}
 use Rattle.plan_tables_schema.proofs.Written.{IfRead}
@@ -40,7 +40,7 @@ unfolding compile.planned compile.timed compile.meaning compile.returning compil
 plans schema p s c is timeless reads = rw (is, timeless, reads) refl
 
 module _ (schema : Schema) (at tree : ℕ) (look : Look)
-    (it : TableStandsAt schema (table_at tree (question look).table) at) where
+    (it : TableIsAt schema (table_at tree (question look).table) at) where
   abbrev q : Question
   q = question look
 

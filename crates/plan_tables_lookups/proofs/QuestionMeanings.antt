@@ -34,7 +34,7 @@ use Rattle.plan_tables_lookups.proofs.WrittenQuestions.{IsWritten}
 use Rattle.plan_tables_schema.proofs.ColumnsLemmas as lemmas
 use Rattle.plan_tables_schema.proofs.WrittenQueries.{HasColumns, only_bound, outer_level, plain_draft, shown_as}
 use Rattle.plan_tables_schema.proofs.WrittenQueries.{shown_column, shown_column, source_table, with_budget}
-use Rattle.plan_tables_schema.specs.Places.{TableStandsAt}
+use Rattle.plan_tables_schema.specs.Places.{TableIsAt}
 
 abbrev pub test_term : (Test → ℕ) → Test → Term
 test_term places t = compared t.how (places t) t.side
@@ -48,7 +48,7 @@ pub record IsAbout (table : Table) (ns : List (List ℕ)) (ts : List Test) (bs :
   pub order : AllByRecursion (λ b. IsPlaced table (map (shown_as table) ns) b (placed b)) bs
   pub short : length bs < 1000
 
-module _ (schema : Schema) (table : Table) (at : ℕ) (it : TableStandsAt schema table at) (s : Select)
+module _ (schema : Schema) (table : Table) (at : ℕ) (it : TableIsAt schema table at) (s : Select)
     (ns : List (List ℕ)) (ts : List Test) (bs : List By) (is_one : Bool)
     (tested : Test → ℕ) (placed : By → ℕ) (of : IsAbout table ns ts bs tested placed)
     (is : IsWritten s table.name ns ts bs is_one) where

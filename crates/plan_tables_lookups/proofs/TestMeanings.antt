@@ -27,14 +27,14 @@ use Rattle.sqlite_resolve.specs.declared.compare.Affinity.TheVariants as affinit
 use Rattle.sqlite_resolve.specs.declared.scope.Output.{Output}
 use Rattle.sqlite_resolve.specs.declared.state.Carried.{Carried}
 use Rattle.plan_tables_lookups.specs.Question.{Side, Test}
-use Rattle.plan_tables_lookups.specs.Question.Side.{Asked, Letters}
+use Rattle.plan_tables_lookups.specs.Question.Side.{Given, Letters}
 use Rattle.plan_tables_lookups.proofs.WrittenQuestions.{AreTests, IsSide, IsTest, written_how}
 use Rattle.plan_tables_schema.proofs.ColumnLemmas as columns
 use Rattle.plan_tables_schema.proofs.WrittenQueries.{only_bound, outer_level, with_budget}
 use Rattle.plan_tables_schema.proofs.WrittenTests.{affinity_at, left, right}
 
 abbrev pub side_term : Side → Term
-side_term (Asked n) = col 0 n
+side_term (Given n) = col 0 n
 side_term (Letters s) = lit (Text s)
 
 -- the column of the test is at this place of the rows, and both sides are compared as they stand
@@ -63,7 +63,7 @@ module _ (schema : Schema) (table : Table) (at : ℕ) (got : slice_get schema.ta
 
   has_none : (side : Side) → compare.affinity_of cx (side_term side) ≡ affinity.None
   unfolding compare.of_column compare.affinity_of
-  has_none (Asked n) = go (n == 0)
+  has_none (Given n) = go (n == 0)
     where
       go : (b : Bool) → cond b affinity.None affinity.None ≡ affinity.None
       go true = refl
@@ -84,7 +84,7 @@ module _ (schema : Schema) (table : Table) (at : ℕ) (got : slice_get schema.ta
 
   lowers_side : (depth budget : ℕ) (last : Carried) (e : Expr) (side : Side) → IsSide side e → nat_lt 1 budget ≡ true
       → expr.lower_to (suc depth) cx e (with_budget budget last) ≡ Ok (side_term side, with_budget (budget - 1) nothing)
-  lowers_side depth budget last e (Asked n) is enough =
+  lowers_side depth budget last e (Given n) is enough =
       let same : n + 1 - 1 ≡ n = omega arith in
       subst (λ m. expr.lower_to (suc depth) cx e (with_budget budget last)
       ≡ Ok (col 0 m, with_budget (budget - 1) nothing)) same

@@ -12,7 +12,7 @@ use Rattle.sqlite_sql.specs.declared.ops.CompareOp.{CompareOp}
 use Rattle.sqlite_sql.specs.declared.ops.CompareOp.TheVariants.{Eq, Ne, Lt, Le, Gt, Ge}
 use Rattle.sqlite_syntax.specs.declared.statement.Parsed.{Parsed}
 use Rattle.plan_tables_lookups.specs.Question.{By, Question, Side, Test}
-use Rattle.plan_tables_lookups.specs.Question.Side.{Asked, Letters}
+use Rattle.plan_tables_lookups.specs.Question.Side.{Given, Letters}
 use Rattle.plan_tables_schema.specs.Cells.{column_names}
 use Rattle.plan_tables_schema.specs.Schema.{name}
 use Rattle.plan_tables_schema.proofs.Written.{test_in}
@@ -28,7 +28,7 @@ written_how Gt = binary.Gt
 written_how Ge = binary.Ge
 
 abbrev pub IsSide : Side → Expr → Type 0
-IsSide (Asked n) e = out-Expr e ≡ Expr-F.Parameter (n + 1)
+IsSide (Given n) e = out-Expr e ≡ Expr-F.Parameter (n + 1)
 IsSide (Letters s) e = out-Expr e ≡ Expr-F.Text s
 
 -- it is written as the test

@@ -1,5 +1,5 @@
 pub mod Question
 pub mod Looks
-pub mod Handing
+pub mod Emitting
 pub mod Finding
 pub mod Last

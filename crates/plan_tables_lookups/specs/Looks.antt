@@ -4,7 +4,7 @@ use Rattle.sqlite.specs.Order.{Row}
 use Rattle.sqlite.specs.declared.types.Value.TheVariants.{Int, Text}
 use Rattle.sqlite_sql.specs.declared.ops.CompareOp.TheVariants.{Eq, Le, Ge}
 use Rattle.plan_tables_lookups.specs.Question.{By, Question, Test, question_text}
-use Rattle.plan_tables_lookups.specs.Question.Side.{Asked, Letters}
+use Rattle.plan_tables_lookups.specs.Question.Side.{Given, Letters}
 use Rattle.plan_tables_lookups.specs.declared.looks.Look.{Look}
 use Rattle.plan_tables_lookups.specs.declared.looks.Look.TheVariants.{InHistory, InDeletions, LastOf, DeletedFrom}
 use Rattle.plan_tables_lookups.specs.declared.looks.Look.TheVariants.{JobOf}
@@ -14,8 +14,8 @@ use Rattle.plan_tables_schema.specs.declared.tables.Table.{Table}
 use Rattle.plan_tables_schema.specs.declared.tables.Table.TheVariants.{History, Deletion, Job}
 
 -- the column has the value that is bound, the first or a later one
-abbrev is_asked : List ℕ → ℕ → Test
-is_asked column n = record { column = column; how = Eq; side = Asked n }
+abbrev equals_parameter : List ℕ → ℕ → Test
+equals_parameter column n = record { column = column; how = Eq; side = Given n }
 
 abbrev rising : List ℕ → By
 rising column = record { column = column; falls = false }
@@ -34,21 +34,21 @@ listed table tests = record {
 }
 
 abbrev pub question : Look → Question
-question InHistory = those History (is_asked (codes "serial") 0 ∷ [])
-question InDeletions = those Deletion (is_asked (codes "serial") 0 ∷ [])
+question InHistory = those History (equals_parameter (codes "serial") 0 ∷ [])
+question InDeletions = those Deletion (equals_parameter (codes "serial") 0 ∷ [])
 question LastOf = record {
   table = History;
-  tests = is_asked (codes "app") 0 ∷ record { column = codes "ia"; how = Le; side = Asked 1 } ∷ [];
+  tests = equals_parameter (codes "app") 0 ∷ record { column = codes "ia"; how = Le; side = Given 1 } ∷ [];
   order = record { column = codes "ia"; falls = true } ∷ [];
   is_one = true;
 }
 question DeletedFrom = those Deletion (record { column = codes "reason"; how = Eq; side = Letters (codes "O") }
-    ∷ record { column = codes "ia"; how = Ge; side = Asked 0 } ∷ [])
-question JobOf = those Job (is_asked (codes "number") 0 ∷ [])
+    ∷ record { column = codes "ia"; how = Ge; side = Given 0 } ∷ [])
+question JobOf = those Job (equals_parameter (codes "number") 0 ∷ [])
 question HistoryListed = listed History []
-question HistoryOf = listed History (is_asked (codes "app") 0 ∷ [])
+question HistoryOf = listed History (equals_parameter (codes "app") 0 ∷ [])
 question DeletionsListed = listed Deletion []
-question DeletionsOf = listed Deletion (is_asked (codes "app") 0 ∷ [])
+question DeletionsOf = listed Deletion (equals_parameter (codes "app") 0 ∷ [])
 question (Whole t) = those t []
 
 abbrev pub look_sql : Look → List ℕ

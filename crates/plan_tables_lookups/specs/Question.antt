@@ -23,7 +23,7 @@ use Rattle.plan_tables_schema.specs.declared.tables.Table.{Table}
 
 -- what a column is compared with: one of the values that are bound, of which the first is 0; or a text
 pub data Side : Type 0 where
-  Asked : ℕ → Side
+  Given : ℕ → Side
   Letters : List ℕ → Side
 
 -- a test of the column of a name
@@ -55,7 +55,7 @@ how_text Gt = codes " > "
 how_text Ge = codes " >= "
 
 abbrev pub side_text : Side → List ℕ
-side_text (Asked n) = parameter (n + 1)
+side_text (Given n) = parameter (n + 1)
 side_text (Letters s) = codes "'" ++ (s ++ codes "'")
 
 abbrev pub test_text : Test → List ℕ
@@ -92,7 +92,7 @@ abbrev pub is_so : CompareOp → Value → Value → Bool
 is_so how a b = is_true (binary (Compare how Binary) a b)
 
 abbrev pub side_value : Row → Side → Value
-side_value asked (Asked n) = column asked n
+side_value asked (Given n) = column asked n
 side_value asked (Letters s) = Text s
 
 -- the row that is shown passes the test

@@ -2,13 +2,13 @@
 #![tactic(auto)]
 
 mod asking;
+mod emitting;
 mod finding;
-mod handing;
 mod looks;
 
 pub use asking::ask;
+pub use emitting::{EmitFault, RowRefused, ValuesSink, emit, emit_all};
 pub use finding::{
     deletion_of_serial, history_of_serial, job_of_number, last_of, operator_deletions_from,
 };
-pub use handing::{HandFault, SinkFault, ValuesSink, hand, hand_all};
 pub use looks::Look;

@@ -16,7 +16,7 @@ use Rattle.sqlite_schema.specs.declared.schema.Schema.{Schema}
 use Rattle.sqlite_schema.specs.declared.schema.Table.{Table as Described}
 use Rattle.sqlite_trees.specs.Tree.{IsAscending}
 use Rattle.plan_tables_schema.specs.Named.{first_named}
-use Rattle.plan_tables_schema.specs.Places.{TableStandsAt, TreesDiffer}
+use Rattle.plan_tables_schema.specs.Places.{TableIsAt, TreesDiffer}
 use Rattle.plan_tables_schema.specs.Schema.{IsAside, RefersAside, all_tables, name, table, table_at, to_run_cycle}
 use Rattle.plan_tables_schema.specs.Free.{AreAside}
 use Rattle.plan_tables_schema.proofs.EachLemmas.{all_each, asides_each, each, each_asides}
@@ -43,7 +43,7 @@ formed forms = map forms.form all_tables
 pub record AreThere (forms : Forms) (schema : Schema) : Type 0 where
   pub at : Table → ℕ
   pub trees : Table → ℕ
-  pub stands : (t : Table) → TableStandsAt schema (form_at forms (trees t) t) (at t)
+  pub stands : (t : Table) → TableIsAt schema (form_at forms (trees t) t) (at t)
   pub apart : IsAscending TreesDiffer schema.tables
   pub refer : RefersAside schema (trees Offset)
 
@@ -52,7 +52,7 @@ module _ (forms : Forms) where
 
   module _ (schema : Schema) where
     one_stands : (t : Table) → IsAscending TreesDiffer schema.tables → IsThere schema.tables (forms.form t)
-        → (n : ℕ) × (at : ℕ) × TableStandsAt schema (form_at forms n t) at
+        → (n : ℕ) × (at : ℕ) × TableIsAt schema (form_at forms n t) at
     unfolding IsThere
     one_stands t apart there =
         by_name (table_named schema (forms.form t).name) refl (first_named schema.tables (forms.form t).name)
@@ -61,7 +61,7 @@ module _ (forms : Forms) where
         by_name : (o : Option ℕ) → table_named schema (forms.form t).name ≡ o → (f : Option Described)
             → f ≡ option_and_then (slice_get schema.tables) o
             → MatchOption f ⊥ (λ found. IsAlike found (forms.form t) × (found.tree < 2 ^ 31))
-            → (n : ℕ) × (at : ℕ) × TableStandsAt schema (form_at forms n t) at
+            → (n : ℕ) × (at : ℕ) × TableIsAt schema (form_at forms n t) at
         by_name o named None is h = absurd h
         by_name None named (Some d) is h = absurd cc
         by_name (Some at) named (Some d) is h =
@@ -76,13 +76,13 @@ module _ (forms : Forms) where
               },
             )
 
-    one_there : (t : Table) (at n : ℕ) → TableStandsAt schema (form_at forms n t) at → IsThere schema.tables (forms.form t)
+    one_there : (t : Table) (at n : ℕ) → TableIsAt schema (form_at forms n t) at → IsThere schema.tables (forms.form t)
     unfolding IsThere
     one_there t at n stands = rw (named_there schema (form_at forms n t) at stands)
         (refl, grind (arith, nat_tests, stands.stored))
 
     -- the offsets, which alone refer to one of them
-    module _ (at n : ℕ) (stands : TableStandsAt schema (table_at n Offset) at) where
+    module _ (at n : ℕ) (stands : TableIsAt schema (table_at n Offset) at) where
       refers_aside : IsAscending TreesDiffer schema.tables → OffsetsRefer schema.tables (formed forms)
           → RefersAside schema n
       unfolding OffsetsRefer
@@ -140,13 +140,13 @@ module _ (forms : Forms) where
                   grind (arith, nat_tests, is, same))
 
     -- the offsets stand as those of a plan
-    offsets_there : (at n : ℕ) → TableStandsAt schema (form_at forms n Offset) at → TableStandsAt schema (table_at n Offset) at
+    offsets_there : (at n : ℕ) → TableIsAt schema (form_at forms n Offset) at → TableIsAt schema (table_at n Offset) at
     offsets_there at n stands =
-        subst (λ (d : Described). TableStandsAt schema (record d { tree = n }) at) forms.offsets stands
+        subst (λ (d : Described). TableIsAt schema (record d { tree = n }) at) forms.offsets stands
 
     pub are_there : StandAmong schema.tables (formed forms) → AreThere forms schema
     are_there h =
-        let one : (t : Table) → (n : ℕ) × (at : ℕ) × TableStandsAt schema (form_at forms n t) at =
+        let one : (t : Table) → (n : ℕ) × (at : ℕ) × TableIsAt schema (form_at forms n t) at =
         λ t. one_stands t h.apart (each forms.form (IsThere schema.tables) h.stand t) in
         record {
           at = λ t. (one t).1;

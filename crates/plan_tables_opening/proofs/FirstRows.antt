@@ -17,7 +17,7 @@ use Rattle.plan_tables_schema.specs.declared.tables.Table.TheVariants as table
 use Rattle.plan_tables_content.specs.Content.{AreEach, IsApplicationRow, IsContentOf, IsFact, IsOfList, IsOfSet, IsOfSome}
 use Rattle.plan_tables_content.specs.Content.{IsUnderOwn, meta_values}
 use Rattle.plan_tables_content.specs.Facts.{IsCalendarRow, IsCycleRow, IsOffsetRow, IsPeriodRow, IsPredecessorRow}
-use Rattle.plan_tables_content.proofs.Told.{none_some}
+use Rattle.plan_tables_content.proofs.SameOptions.{none_some}
 use Rattle.plan_tables_definitions.proofs.StorableRows.{cast-Int, cast-Null}
 use Rattle.plan_tables_opening.specs.First.{first_rows}
 
@@ -69,7 +69,7 @@ first_facts table.Job v = bare v _ (no_set _ v)
 
 pub first_content : IsContentOf first_rows nothing_known
 first_content = record {
-  tellable = record {
+  representable = record {
     calendars = no_each _;
     periods = no_each _;
     run_cycles = no_each _;

@@ -16,8 +16,8 @@ use Rattle.plan_tables_schema.specs.Made.{IsMadeWhole, IsReady}
 use Rattle.plan_tables_schema.specs.Rows.{MayFail, Stands, Tables, tables_of, with_cells}
 use Rattle.plan_tables_schema.specs.declared.tables.Table.TheVariants as table
 use Rattle.plan_tables_content.specs.Content.{IsContentOf, meta_values}
-use Rattle.plan_tables_schema.specs.Schema.{HasOwnIndexes}
-use Rattle.plan_tables_schema.proofs.MadeLemmas.{own_indexes}
+use Rattle.plan_tables_schema.specs.Schema.{HasOnlyKeyIndexes}
+use Rattle.plan_tables_schema.proofs.MadeLemmas.{key_indexes}
 use Rattle.plan_tables_schema.proofs.InTurn.{may_fail}
 use Rattle.plan_tables_schema.proofs.MakingLemmas.{begins_ready, others_kept}
 use Rattle.plan_tables_schema.proofs.NamedLemmas.{tells}
@@ -116,7 +116,7 @@ opened_of (Ok a) old new value sound stored told empty beside = record {
   told = told;
   empty = empty;
   beside = beside;
-  own = λ clean room. subst HasOwnIndexes (sym (beside clean room).schema) (own_indexes old.now.schema room);
+  own = λ clean room. subst HasOnlyKeyIndexes (sym (beside clean room).schema) (key_indexes old.now.schema room);
 }
 opened_of (Err e) old new value sound stored told empty beside = tt
 

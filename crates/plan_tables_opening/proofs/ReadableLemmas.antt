@@ -18,7 +18,7 @@ use Rattle.occurrences.specs.declared.place.Deletion.{Deletion}
 use Rattle.occurrences.specs.declared.place.Place.{Place}
 use Rattle.occurrences.specs.declared.place.Place.TheVariants.{LongTerm, Current, History, Deleted}
 use Rattle.occurrences.specs.declared.row.Row.{Row}
-use Rattle.planner_machine.specs.Content.{Content, StandsAt, Seat, alone, empty_seat, seat}
+use Rattle.planner_machine.specs.Content.{Content, IsOnlyAt, Seat, alone, empty_seat, seat}
 use Rattle.planner_machine.proofs.SeatLemmas.{cases_issued, not_empty}
 use Rattle.plan_tables_content.specs.Facts.{link_values}
 use Rattle.plan_tables_content.proofs.Decoded.{one_link}
@@ -31,7 +31,7 @@ use Rattle.plan_tables_loading.specs.Cells.{AreDays, IsNumberedRow, IsPair}
 use Rattle.plan_tables_loading.specs.Readable.{ArePlansReadable, ShowsLink, ShowsMeta}
 use Rattle.plan_tables_opening.specs.Held.{HoldSound}
 use Rattle.plan_tables_opening.proofs.DefinedLemmas.{sound_definitions}
-use Rattle.plan_tables_opening.specs.Stored.{TellStored}
+use Rattle.plan_tables_opening.specs.Stored.{RepresentStored}
 
 in_ltp : (q row : Row) (place : Place) → (alone q place).ltp ≡ Some row → q ≡ row
 in_ltp q row LongTerm is = cc
@@ -85,7 +85,7 @@ module _ (all : Tables) (hold : HoldSound all) where
   c = hold.content
 
   -- what stands somewhere has a serial
-  is_serial : (n : ℕ) (p : PlacedRow) → StandsAt c.sets n p → IsSerial n
+  is_serial : (n : ℕ) (p : PlacedRow) → IsOnlyAt c.sets n p → IsSerial n
   is_serial n p there = elim (cases_issued c.sets.issued n) [
     | inl within ↦ (within.0, small n c.sets.issued within.1 hold.sound.sizes.issued)
     | inr past ↦ absurd (not_empty c.sets n p there (hold.sound.serials.unissued n past))
@@ -105,14 +105,14 @@ module _ (all : Tables) (hold : HoldSound all) where
         is_serial pair.predecessor p stands
   ]
 
-  numbered : (n : ℕ) (p : PlacedRow) → StandsAt c.sets n p → IsNumberedRow p.row
+  numbered : (n : ℕ) (p : PlacedRow) → IsOnlyAt c.sets n p → IsNumberedRow p.row
   numbered n p stands = (
     hold.sound.ranges.rows n p stands,
     subst IsSerial (sym (hold.sound.serials.numbered n p stands)) (is_serial n p stands),
   )
 
   -- a seat that is taken has a row
-  seated : (n : ℕ) → (seat c.sets n ≡ empty_seat → ⊥) → (p : PlacedRow) × StandsAt c.sets n p
+  seated : (n : ℕ) → (seat c.sets n ≡ empty_seat → ⊥) → (p : PlacedRow) × IsOnlyAt c.sets n p
   seated n taken = elim (cases_issued c.sets.issued n) [
     | inl within ↦ hold.sound.serials.placed n within.0 within.1
     | inr past ↦ absurd (taken (hold.sound.serials.unissued n past))
@@ -207,7 +207,7 @@ module _ (all : Tables) (hold : HoldSound all) where
             (fact.0, hold.sound.ranges.links fact.0 fact.1, sym fact.2);
       };
       once = λ a b at_a at_b.
-          named_once c.in_force hold.told.tellable.in_force a b (shown_in_force a at_a) (shown_in_force b at_b);
+          named_once c.in_force hold.told.representable.in_force a b (shown_in_force a at_a) (shown_in_force b at_b);
     };
     pairs = record {
       shows = record {
@@ -231,7 +231,7 @@ module _ (all : Tables) (hold : HoldSound all) where
   abbrev pub with_options : Options → Definitions
   with_options options = record c.definitions { options = options }
 
-  pub have_rows : (options : Options) (stored : StoredRows) → TellStored all stored
+  pub have_rows : (options : Options) (stored : StoredRows) → RepresentStored all stored
       → HaveRows stored options (with_options options)
   have_rows options stored tell = record {
     calendars = λ v. (
@@ -259,11 +259,11 @@ module _ (all : Tables) (hold : HoldSound all) where
       λ is. (tell.predecessor_rows.exactly v).0 ((hold.told.facts table.Predecessor v).1 is),
     );
     options = refl;
-    tellable = record {
-      calendars = hold.told.tellable.calendars;
-      periods = hold.told.tellable.periods;
-      run_cycles = hold.told.tellable.run_cycles;
-      predecessors = hold.told.tellable.predecessors;
+    representable = record {
+      calendars = hold.told.representable.calendars;
+      periods = hold.told.representable.periods;
+      run_cycles = hold.told.representable.run_cycles;
+      predecessors = hold.told.representable.predecessors;
     };
   }
 

@@ -7,7 +7,7 @@ use Rattle.sqlite_resolve.specs.Compile.{first}
 use Rattle.sqlite_resolve.specs.Scope.{is_rowid}
 use Rattle.sqlite_typing.specs.Types.{are_typed, row_classes}
 use Rattle.sqlite_tied.specs.Compute.{everything}
-use Rattle.plan_tables_schema.specs.Places.{TableStandsAt}
+use Rattle.plan_tables_schema.specs.Places.{TableIsAt}
 use Rattle.plan_tables_schema.specs.Schema.{name, table_at}
 use Rattle.plan_tables_schema.specs.Form.{has_rowid, names, rowids_name}
 use Rattle.plan_tables_schema.specs.Forms.{form}
@@ -41,7 +41,7 @@ is_word : is_rowid rowid_word ≡ true
 unfolding everything
 is_word = refl
 
-pub rowids : (schema : Schema) (tree at : ℕ) (t : Table) → TableStandsAt schema (table_at tree t) at → ShowsRows schema (rowid_sql t) tree rowid_terms (rowid_name t ∷ [])
+pub rowids : (schema : Schema) (tree at : ℕ) (t : Table) → TableIsAt schema (table_at tree t) at → ShowsRows schema (rowid_sql t) tree rowid_terms (rowid_name t ∷ [])
 rowids schema tree at t it =
     let fits = rowid_fits tree t in
     subst (λ n. ShowsRows schema (rowid_sql t) tree rowid_terms (n ∷ [])) fits.1

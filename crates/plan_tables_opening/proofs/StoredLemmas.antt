@@ -16,10 +16,10 @@ use Rattle.plan_tables_content.specs.Content.{IsContentOf}
 use Rattle.plan_tables_definitions.specs.Storing.{HaveRows}
 use Rattle.plan_tables_definitions.specs.declared.stored.StoredRows.{StoredRows}
 use Rattle.plan_tables_loading.specs.Lists.{HasLists}
-use Rattle.plan_tables_loading.specs.Tables.{HaveShownRowids, ShowsOnly, TellDefinitions, TellPlans}
+use Rattle.plan_tables_loading.specs.Tables.{HaveShownRowids, ShowsOnly, RepresentDefinitions, RepresentPlans}
 use Rattle.plan_tables_loading.specs.declared.lists.PlanLists.{PlanLists}
 use Rattle.plan_tables_loading.proofs.FactLemmas.{is_content}
-use Rattle.plan_tables_opening.specs.Stored.{AllHaveRowids, HaveHiddenRowids, TellStored}
+use Rattle.plan_tables_opening.specs.Stored.{AllHaveRowids, HaveHiddenRowids, RepresentStored}
 
 pub shows_rows : (all : Tables) (t : Table) (rows : List Values) → IsPermutation (map (shown t) (all t)) rows
     → ShowsOnly all t (λ v. Contains rows v)
@@ -36,8 +36,8 @@ shows_so all t P Q shows same = record {
   exactly = λ v. ((λ there. (same v).0 ((shows.exactly v).0 there)), λ q. (shows.exactly v).1 ((same v).1 q));
 }
 
-tell_definitions : (all : Tables) (stored : StoredRows) (options : Options) (d : Definitions) → TellStored all stored
-    → HaveRows stored options d → TellDefinitions all d
+tell_definitions : (all : Tables) (stored : StoredRows) (options : Options) (d : Definitions) → RepresentStored all stored
+    → HaveRows stored options d → RepresentDefinitions all d
 tell_definitions all stored options d tell has = record {
   calendar_rows = shows_so all _ _ _ tell.calendar_rows has.calendars;
   period_rows = shows_so all _ _ _ tell.period_rows has.periods;
@@ -45,14 +45,14 @@ tell_definitions all stored options d tell has = record {
   cycle_rows = shows_so all _ _ _ tell.cycle_rows has.run_cycles;
   offset_rows = shows_so all _ _ _ tell.offset_rows has.offsets;
   predecessor_rows = shows_so all _ _ _ tell.predecessor_rows has.predecessors;
-  calendars = has.tellable.calendars;
-  periods = has.tellable.periods;
-  run_cycles = has.tellable.run_cycles;
-  predecessors = has.tellable.predecessors;
+  calendars = has.representable.calendars;
+  periods = has.representable.periods;
+  run_cycles = has.representable.run_cycles;
+  predecessors = has.representable.predecessors;
 }
 
 pub stored_content : (all : Tables) (lists : PlanLists) (stored : StoredRows) (d : Definitions) (c : Content)
-    → HaveRows stored lists.meta.options d → HasLists d lists c → TellPlans all lists → TellStored all stored
+    → HaveRows stored lists.meta.options d → HasLists d lists c → RepresentPlans all lists → RepresentStored all stored
     → IsContentOf all c
 stored_content all lists stored d c rows has plans definitions =
     is_content all d lists c plans (tell_definitions all stored lists.meta.options d definitions rows) rows.options has

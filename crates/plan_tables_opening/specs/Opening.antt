@@ -3,7 +3,7 @@ use Rattle.std.specs.Prelude.{◌≡◌, ◌⊎◌}
 use Rattle.sqlite.specs.State.{HasCleanDisk, State}
 use Rattle.planner_machine.specs.Content.{Content, nothing_known}
 use Rattle.planner_machine.specs.Sound.{IsSound}
-use Rattle.plan_tables_schema.specs.Schema.{HasOwnIndexes}
+use Rattle.plan_tables_schema.specs.Schema.{HasOnlyKeyIndexes}
 use Rattle.plan_tables_loading.specs.Reading.{HasPlan}
 use Rattle.plan_tables_opening.specs.First.{IsBeside}
 use Rattle.plan_tables_opening.specs.Foreign.{IsForeign}
@@ -33,7 +33,7 @@ pub record IsOpened (old new : State) (c : Content) : Type 0 where
   pub told : HasCleanDisk new → IsToldBy old.now c
   pub empty : HasRoom old → c ≡ nothing_known
   pub beside : HasCleanDisk new → HasRoom old → IsBeside old.now new.now
-  pub own : HasCleanDisk new → HasRoom old → HasOwnIndexes new.now.schema
+  pub own : HasCleanDisk new → HasRoom old → HasOnlyKeyIndexes new.now.schema
 
 -- why a database that has the tables of a plan is not opened: for its rows only where its version is known and they
 -- have no sound content, and for its version only where that is not known

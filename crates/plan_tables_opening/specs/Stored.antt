@@ -7,7 +7,7 @@ use Rattle.plan_tables_definitions.specs.declared.stored.StoredRows.{StoredRows}
 use Rattle.plan_tables_loading.specs.Tables.{ShowsOnly}
 
 -- the tables of the definitions show these rows
-pub record TellStored (all : Tables) (stored : StoredRows) : Type 0 where
+pub record RepresentStored (all : Tables) (stored : StoredRows) : Type 0 where
   pub calendar_rows : ShowsOnly all table.CalendarEntry (λ v. Contains stored.calendars.items v)
   pub period_rows : ShowsOnly all table.Period (λ v. Contains stored.periods.items v)
   pub application_rows : ShowsOnly all table.Application (λ v. Contains stored.applications.items v)

@@ -4,9 +4,9 @@
 mod faults;
 mod files;
 mod judging;
+mod key_indexes;
 mod making;
 mod opening;
-mod own_indexes;
 mod rowid_texts;
 mod rowids;
 mod same_schema;
@@ -19,8 +19,8 @@ mod whole;
 
 pub use faults::{OpenFault, fault_for, open_fault_number};
 pub use files::{open_connection, open_connection_from, open_connection_with};
+pub use key_indexes::has_only_key_indexes;
 pub use opening::{is_known, open_content};
-pub use own_indexes::has_own_indexes;
 pub use rowid_texts::rowid_text;
 pub use rowids::are_rowids;
 pub use schemas::has_meta;

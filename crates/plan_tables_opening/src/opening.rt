@@ -10,7 +10,7 @@ ghost use Rattle.plan_tables_schema.specs.declared.tables.Table.TheVariants.{Met
 ghost use Rattle.plan_store.specs.Contents.{content_of};
 ghost use Rattle.plan_tables_content.specs.Content.{IsContentOf};
 ghost use Rattle.plan_tables_loading.specs.Reading.{HasPlan, Looks};
-ghost use Rattle.plan_tables_loading.specs.Tables.{TellPlans};
+ghost use Rattle.plan_tables_loading.specs.Tables.{RepresentPlans};
 ghost use Rattle.plan_tables_opening.specs.declared.faults.OpenFault.TheVariants.{Rows};
 ghost use Rattle.plan_tables_opening.specs.First.{IsBeside};
 ghost use Rattle.plan_tables_opening.specs.Foreign.{IsForeign};
@@ -18,7 +18,7 @@ ghost use Rattle.plan_tables_opening.specs.Held.{AreKnown, HasVersion, HoldSound
 ghost use Rattle.plan_tables_opening.specs.Judging.{IsJudged, IsSoundIfFound};
 ghost use Rattle.plan_tables_opening.specs.Opened.{HasRoom, IsCommon, IsStored, IsUnmade, MakesFirst};
 ghost use Rattle.plan_tables_opening.specs.Opening.{IsOpened, IsUnopened, IsUnread};
-ghost use Rattle.plan_tables_opening.specs.Stored.{TellStored};
+ghost use Rattle.plan_tables_opening.specs.Stored.{RepresentStored};
 
 use crate::faults::{OpenFault, fault_for};
 use crate::judging::{Judged, found_by, tell};
@@ -30,7 +30,7 @@ use plan_store::Content;
 use plan_store_soundness::is_sound;
 use plan_tables_content::tables_have_one_content;
 use plan_tables_definitions::StoredRows;
-use plan_tables_loading::{Part, PlanLists};
+use plan_tables_loading::{PlanLists, TablePart};
 use plan_tables_schema::{SCHEMA_VERSION, Table, select};
 use planner_machine::empty_content_is_sound;
 use sqlite::types::ValueRef;
@@ -59,11 +59,11 @@ fn sound_content(
 ) -> Result<Option<Content>, AllocError>
     ensures sound { IfOk result (λ found. IfSome found (λ content. IsSound (content_of content))) }
     ensures content { IfOk result (λ found. IfSome found (λ content. (all : Tables)
-        → TellPlans all lists
-        → TellStored all stored.now
+        → RepresentPlans all lists
+        → RepresentStored all stored.now
         → IsContentOf all (content_of content))) }
-    ensures refused { IfOk result (λ found. found ≡ None → (all : Tables) → TellPlans all lists
-        → TellStored all stored.now
+    ensures refused { IfOk result (λ found. found ≡ None → (all : Tables) → RepresentPlans all lists
+        → RepresentStored all stored.now
         → HoldSound all → ⊥) }
 {
     tables_have_one_content();

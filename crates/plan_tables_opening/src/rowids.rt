@@ -14,7 +14,7 @@ ghost use Rattle.plan_tables_schema.specs.Schema.{table_of};
 
 use crate::rowid_texts::rowid_text;
 use crate::table_places::table_at;
-use plan_tables_loading::{Part, place_of};
+use plan_tables_loading::{TablePart, place_of};
 use plan_tables_schema::Table;
 use sqlite::types::ValueRef;
 use sqlite::{Alter, Connection, Error, Row as Cells};
@@ -125,7 +125,7 @@ pub(crate) fn has_rowids<S: Alter>(conn: &mut Connection<S>, table: Table) -> Re
 #[derive(Drop)]
 pub(crate) struct Rowids<const PLACE: usize> {}
 
-impl<const PLACE: usize> Part for Rowids<PLACE> {
+impl<const PLACE: usize> TablePart for Rowids<PLACE> {
     ghost tells = { λ all _. HaveRowids (all (table_of PLACE)) };
 
     ghost in_order = { λ _. Unit {0} };

@@ -9,7 +9,7 @@ ghost use Rattle.plan_tables_loading.specs.Tables.{ShowsOnly};
 ghost use Rattle.plan_tables_schema.specs.Schema.{table_of};
 
 use crate::table_places::table_at;
-use plan_tables_loading::Part;
+use plan_tables_loading::TablePart;
 use plan_tables_schema::select;
 use sqlite::{Alter, Connection, Error, Row as Cells};
 use std::alloc::Global;
@@ -21,7 +21,7 @@ pub(crate) struct Shown<const PLACE: usize> {
     pub rows: Vec<Cells>,
 }
 
-impl<const PLACE: usize> Part for Shown<PLACE> {
+impl<const PLACE: usize> TablePart for Shown<PLACE> {
     ghost tells = { λ all part. ShowsOnly all (table_of PLACE) (λ v. Contains part.rows.items v) };
 
     ghost in_order = { λ _. Unit {0} };

@@ -8,12 +8,12 @@ ghost use Rattle.plan_store.specs.Contents.{content_of};
 ghost use Rattle.plan_tables_content.specs.Content.{IsContentOf};
 ghost use Rattle.plan_tables_loading.specs.Lists.{HasLists};
 ghost use Rattle.plan_tables_loading.specs.Reading.{HasPlan, Looks};
-ghost use Rattle.plan_tables_loading.specs.Tables.{HaveShownRowids, TellPlans};
+ghost use Rattle.plan_tables_loading.specs.Tables.{HaveShownRowids, RepresentPlans};
 ghost use Rattle.app_definitions.specs.declared.definitions.Definitions.{Definitions as DefinitionsValue};
 ghost use Rattle.plan_tables_definitions.specs.Defined.{AreSoundDefinitions};
 ghost use Rattle.plan_tables_definitions.specs.Storing.{HaveRows};
 ghost use Rattle.plan_tables_loading.specs.Readable.{ArePlansReadable};
-ghost use Rattle.plan_tables_opening.specs.Stored.{AllHaveRowids, HaveHiddenRowids, TellStored};
+ghost use Rattle.plan_tables_opening.specs.Stored.{AllHaveRowids, HaveHiddenRowids, RepresentStored};
 
 use crate::rowids::Rowids;
 use crate::stored::Shown;
@@ -23,7 +23,7 @@ use crate::table_places::{
 use app_definitions::Definitions;
 use plan_store::Content;
 use plan_tables_definitions::{StoredRows, definitions_of_rows};
-use plan_tables_loading::{Part, PlanLists, content_of_lists, read_lists};
+use plan_tables_loading::{PlanLists, TablePart, content_of_lists, read_lists};
 use sqlite::{Alter, Connection, Error};
 use std::alloc::{AllocError, Global};
 
@@ -52,8 +52,8 @@ pub(crate) struct PlanPart {
     pub lists: PlanLists,
 }
 
-impl Part for PlanPart {
-    ghost tells = { λ all part. TellPlans all part.lists × HaveShownRowids all };
+impl TablePart for PlanPart {
+    ghost tells = { λ all part. RepresentPlans all part.lists × HaveShownRowids all };
 
     ghost in_order = { λ _. Unit {0} };
 
@@ -76,7 +76,7 @@ pub(crate) struct DefinitionPart {
 }
 
 fn stored_of(parts: StoredParts) -> StoredRows
-    ensures { (all : Tables) → ⟦<StoredParts as Part>⟧.tells all parts → TellStored all result }
+    ensures { (all : Tables) → ⟦<StoredParts as TablePart>⟧.tells all parts → RepresentStored all result }
 {
     let ((calendars, periods), ((applications, run_cycles), (offsets, predecessors))) = parts;
     StoredRows {
@@ -89,8 +89,8 @@ fn stored_of(parts: StoredParts) -> StoredRows
     }
 }
 
-impl Part for DefinitionPart {
-    ghost tells = { λ all part. TellStored all part.stored };
+impl TablePart for DefinitionPart {
+    ghost tells = { λ all part. RepresentStored all part.stored };
 
     ghost in_order = { λ _. Unit {0} };
 
@@ -115,13 +115,13 @@ impl Part for DefinitionPart {
 pub(crate) struct RowidPart {}
 
 fn are_hidden(parts: HiddenRowids) -> RowidPart
-    ensures { (all : Tables) → ⟦<HiddenRowids as Part>⟧.tells all parts → HaveHiddenRowids all }
+    ensures { (all : Tables) → ⟦<HiddenRowids as TablePart>⟧.tells all parts → HaveHiddenRowids all }
 {
     drop(parts);
     RowidPart {}
 }
 
-impl Part for RowidPart {
+impl TablePart for RowidPart {
     ghost tells = { λ all _. HaveHiddenRowids all };
 
     ghost in_order = { λ _. Unit {0} };
@@ -172,8 +172,8 @@ pub(crate) fn content_of_tables(
     stored: &StoredRows,
 ) -> Result<Option<Content>, AllocError>
     ensures made { IfOk result (λ found. IfSome found (λ content. (all : Tables)
-        → TellPlans all lists
-        → TellStored all stored.now → IsContentOf all (content_of content))) }
+        → RepresentPlans all lists
+        → RepresentStored all stored.now → IsContentOf all (content_of content))) }
     ensures refused { IfOk result (λ found. found ≡ None → (all : DefinitionsValue)
         → AreSoundDefinitions all
         → HaveRows stored.now lists.meta.options all → ⊥) }

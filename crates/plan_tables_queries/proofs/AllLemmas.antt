@@ -14,8 +14,8 @@ use Rattle.plan_tables_schema.specs.Rows.{Tables, shown}
 use Rattle.plan_tables_lookups.specs.Looks.{question}
 use Rattle.plan_tables_lookups.specs.declared.looks.Look.{Look}
 use Rattle.plan_tables_content.specs.Content.{IsContentOf}
-use Rattle.plan_tables_content.proofs.Told.{is_some, same_options}
-use Rattle.plan_tables_queries.specs.Telling.{HasUntold}
+use Rattle.plan_tables_content.proofs.SameOptions.{is_some, same_options}
+use Rattle.plan_tables_queries.specs.Decoding.{HasMalformed}
 use Rattle.plan_tables_queries.proofs.NumberLemmas.{IsNumberedSet}
 
 module _ {X : Type 0} (look : Look) (values_of : X → Values) (row_of : X → Row) (Is : X → Type 0)
@@ -33,7 +33,7 @@ module _ {X : Type 0} (look : Look) (values_of : X → Values) (row_of : X → R
     only x there =
         let (n, y, at, values) = (kind.facts all c is (values_of x)).0
         (Contains-permutation _ _ (values_of x) (IsPermutation-sym _ _ same) (Contains-map values_of found x there)) in
-        let own : serial_of y ≡ n = kind.own c is.tellable n y at in
+        let own : serial_of y ≡ n = kind.own c is.representable n y at in
         subst (λ (z : X). set_of c (serial_of z) ≡ Some z) (sym (kind.one x y tt tt values))
         (subst (λ k. set_of c k ≡ Some y) (sym own) at)
 
@@ -55,11 +55,11 @@ module _ {X : Type 0} (look : Look) (values_of : X → Values) (row_of : X → R
     lists_all = record {
       only = only;
       found = λ n. same_options (look_up serial_of found n) (set_of c n) (looked_up n)
-          (λ x at. look_at serial_of found one_each x n (has n x at) (kind.own c is.tellable n x at));
+          (λ x at. look_at serial_of found one_each x n (has n x at) (kind.own c is.representable n x at));
     }
 
   -- each of its rows tells
-  pub tells_each : IsSound c → HasUntold Is values_of rows → ⊥
+  pub tells_each : IsSound c → HasMalformed Is values_of rows → ⊥
   tells_each sound (row, there, none) =
       let (n, x, at, values) = (kind.facts all c is row).0 there in
       none x (kind.formed c sound n x at) (sym values)

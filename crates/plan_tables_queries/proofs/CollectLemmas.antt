@@ -5,9 +5,9 @@ use Rattle.std.proofs.lemmas.List.Elements.{Contains-append_right}
 use Rattle.std.proofs.lemmas.List.Sorted.{Contains-permutation, IsPermutation-sym}
 use Rattle.sqlite.specs.Order.{Row as Values}
 use Rattle.plan_store_lists.proofs.KeyLemmas.{contains_first}
-use Rattle.plan_tables_lookups.specs.Handing.{HandsPart}
-use Rattle.plan_tables_lookups.specs.declared.handing.HandFault.TheVariants.{Sink}
-use Rattle.plan_tables_queries.specs.Telling.{TellsNone, TellsNot}
+use Rattle.plan_tables_lookups.specs.Emitting.{EmitsPart}
+use Rattle.plan_tables_lookups.specs.declared.emitting.EmitFault.TheVariants.{Sink}
+use Rattle.plan_tables_queries.specs.Decoding.{TellsNone, TellsNot}
 use Rattle.plan_tables_queries.specs.declared.faults.LookupFault.{LookupFault}
 use Rattle.plan_tables_queries.proofs.RowLemmas.{none_among}
 
@@ -19,7 +19,7 @@ module _ {W X : Type 0} (kept : W → List X) (why : W → LookupFault) (Is : X 
   Refuses old row new = TellsNone Is values_of row (why new)
 
   -- it is one of them
-  pub refused : (rows : List Values) (old new : W) → HandsPart Keeps Refuses (IsPermutation rows) old new Sink
+  pub refused : (rows : List Values) (old new : W) → EmitsPart Keeps Refuses (IsPermutation rows) old new Sink
       → TellsNot Is values_of rows (why new)
   refused rows old new h =
       let (last, row, later, is, taken, tells) = h.ends in

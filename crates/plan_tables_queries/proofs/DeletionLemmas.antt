@@ -32,9 +32,9 @@ use Rattle.plan_tables_loading.specs.Rowids.{place_of}
 use Rattle.plan_tables_loading.proofs.OrderLemmas.{apart_distinct, distinct_apart, flips}
 use Rattle.plan_tables_loading.proofs.RowidLemmas.{distinct_rowids}
 use Rattle.plan_tables_queries.specs.Deletions.{AreGoneFrom, IsGoneFrom}
-use Rattle.plan_tables_queries.specs.Telling.{TellsNot}
+use Rattle.plan_tables_queries.specs.Decoding.{TellsNot}
 use Rattle.plan_tables_queries.specs.declared.faults.LookupFault.{LookupFault}
-use Rattle.plan_tables_queries.specs.declared.faults.LookupFault.TheVariants.{Memory, Untold, Store}
+use Rattle.plan_tables_queries.specs.declared.faults.LookupFault.TheVariants.{Memory, Malformed, Store}
 use Rattle.plan_tables_queries.proofs.RowLemmas.{asked_is, is_asked}
 use Rattle.plan_tables_queries.proofs.SerialLemmas.{deleted_formed}
 use Rattle.plan_tables_queries.proofs.TestLemmas.{both_of, is_late, late_is, of_both, so_texts}
@@ -129,9 +129,9 @@ module _ (all : Tables) (c : Content) (is : IsContentOf all c) (moment : ℕ) (r
     are_gone_from = record { exactly = λ d. (found_is d, is_found d); once = found_apart }
 
   pub deletion_is_told : IsSound c → (fault : LookupFault)
-      → TellsNot (λ (d : Deletion). IsNumberedRow d.row) deletion_values rows fault → fault ≢ Untold
+      → TellsNot (λ (d : Deletion). IsNumberedRow d.row) deletion_values rows fault → fault ≢ Malformed
   deletion_is_told sound Memory tells e = cc
-  deletion_is_told sound Untold (row, there, none) e =
+  deletion_is_told sound Malformed (row, there, none) e =
       let (d, gone, values) = row_is row there in
       none d (deleted_formed c sound gone.serial d gone.is) (sym values)
   deletion_is_told sound (Store error) tells e = tells

@@ -11,14 +11,14 @@ use Rattle.plan_tables_schema.proofs.ResultLemmas.{if_err, if_ok}
 use Rattle.plan_tables_content.specs.Content.{IsContentOf}
 use Rattle.plan_tables_lookups.specs.Finding.{Finds}
 use Rattle.plan_tables_queries.specs.Finding.{FindsFact, StopsFor}
-use Rattle.plan_tables_queries.specs.Telling.{TellsTables}
+use Rattle.plan_tables_queries.specs.Decoding.{TellsTables}
 use Rattle.plan_tables_queries.specs.declared.faults.LookupFault.{LookupFault}
-use Rattle.plan_tables_queries.specs.declared.faults.LookupFault.TheVariants.{Memory, Untold, Store}
+use Rattle.plan_tables_queries.specs.declared.faults.LookupFault.TheVariants.{Memory, Malformed, Store}
 
 -- it is of a row, and not of the tables
 abbrev pub IsOfRow : LookupFault → Type 0
 IsOfRow Memory = ⊤
-IsOfRow Untold = ⊤
+IsOfRow Malformed = ⊤
 IsOfRow (Store e) = ⊥
 
 holds_ok : {T : Type 0} (result : Result T LookupFault) (P : Type 0) → P → OnOk result P
@@ -27,7 +27,7 @@ holds_ok (Err fault) P is = tt
 
 pub stops_for : (fault : LookupFault) (old new : State) → IsOfRow fault → IsUnchanged old new → StopsFor old new fault
 stops_for Memory old new of_row same = same
-stops_for Untold old new of_row same = same
+stops_for Malformed old new of_row same = same
 stops_for (Store e) old new of_row same = absurd of_row
 
 stops : {T : Type 0} (result : Result T LookupFault) (old new : State) → IfErr result IsOfRow → IsUnchanged old new
@@ -41,7 +41,7 @@ module _ {S T R : Type 0} (g : Ghosts S) (old new : Held S) (rows : R) (IsRows :
   Tells Is = (c : Content) → IsContentOf (tables_of (state g old).now.trees) c → IsSound c
       → IsRows (tables_of (state g old).now.trees) rows → Is c
 
-  pub finds_fact : Tells (λ c. IfOk result (IsFound c)) → Tells (λ _. IfErr result (λ fault. fault ≢ Untold))
+  pub finds_fact : Tells (λ c. IfOk result (IsFound c)) → Tells (λ _. IfErr result (λ fault. fault ≢ Malformed))
       → IfErr result IsOfRow → FindsFact g old new result IsFound
   finds_fact found told of_row = record {
     found = λ clean has c is sound. found c is sound (asked.found clean has);
@@ -69,10 +69,10 @@ not_found g old new error IsRows asked IsFound = record {
 
 -- what all rows of a table tell
 module _ {S T : Type 0} (g : Ghosts S) (old new : Held S) (result : Result T LookupFault) (IsTold : Tables → T → Type 0)
-    (IsUntold : Tables → Type 0) (IsFound : Content → T → Type 0)
+    (IsMalformed : Tables → Type 0) (IsFound : Content → T → Type 0)
     (found : (all : Tables) (c : Content) → IsContentOf all c → (x : T) → IsTold all x → IsFound c x)
-    (told : (all : Tables) (c : Content) → IsContentOf all c → IsSound c → IsUntold all → ⊥) where
-  pub finds_told : TellsTables g old new result IsTold IsUntold → FindsFact g old new result IsFound
+    (told : (all : Tables) (c : Content) → IsContentOf all c → IsSound c → IsMalformed all → ⊥) where
+  pub finds_told : TellsTables g old new result IsTold IsMalformed → FindsFact g old new result IsFound
   finds_told tells = record {
     found = λ clean has c is sound. if_ok result _ _ (found _ c is) (tells.told clean has);
     told = λ clean has c is sound. if_err result _ _ (λ fault untold e. told _ c is sound (untold e))

@@ -13,7 +13,7 @@ use Rattle.planner_machine.specs.Content.{Content}
 use Rattle.planner_machine.specs.Sound.{IsSound}
 use Rattle.plan_tables_schema.specs.Rows.{Tables, shown}
 use Rattle.plan_tables_schema.specs.declared.tables.Table.{Table}
-use Rattle.plan_tables_content.specs.Content.{IsContentOf, IsOfSet, IsTellable, IsUnderOwn}
+use Rattle.plan_tables_content.specs.Content.{IsContentOf, IsOfSet, IsRepresentable, IsUnderOwn}
 
 values_set : IsSet Values
 values_set = Coded-set values.the_row.coded
@@ -25,7 +25,7 @@ pub record IsReadSet {X : Type 0} (t : Table) (values_of : X → Values) (fact_o
   pub back : (x : X) → fact_of (values_of x) ≡ x
   pub facts : (all : Tables) (c : Content) → IsContentOf all c → (v : Values)
       → Contains (map (shown t) (all t)) v ↔ IsOfSet values_of (set_of c) v
-  pub own : (c : Content) → IsTellable c → IsUnderOwn number_of (set_of c)
+  pub own : (c : Content) → IsRepresentable c → IsUnderOwn number_of (set_of c)
   pub formed : (c : Content) → IsSound c → (n : ℕ) (x : X) → set_of c n ≡ Some x → Is x
 
 module _ {X : Type 0} (t : Table) (values_of : X → Values) (fact_of : Values → X) (number_of : X → ℕ) (Is : X → Type 0)
@@ -49,7 +49,7 @@ module _ {X : Type 0} (t : Table) (values_of : X → Values) (fact_of : Values �
       let (n, x, at, values) = (read.facts all c is v).0 there in
       let same : fact_of v ≡ x = ap fact_of values ∙ read.back x in
       subst (λ (z : X). set_of c (number_of z) ≡ Some z) (sym same)
-      (subst (λ k. set_of c k ≡ Some x) (sym (read.own c is.tellable n x at)) at))
+      (subst (λ k. set_of c k ≡ Some x) (sym (read.own c is.representable n x at)) at))
 
   looked_up : (n : ℕ) (x : X) → set_of c n ≡ Some x → look_up number_of (map fact_of rows) n ≡ Some x
   looked_up n x at = go (look_up number_of (map fact_of rows) n) refl
@@ -58,7 +58,7 @@ module _ {X : Type 0} (t : Table) (values_of : X → Values) (fact_of : Values �
       go None none = absurd (∥∥₁_elim known ⊥_prop (λ is. look_none number_of (map fact_of rows) n none x
           (subst (Contains (map fact_of rows)) (read.back x)
           (Contains-map fact_of rows (values_of x) ((read.facts all c is (values_of x)).1 (n, x, at, refl))))
-          (read.own c is.tellable n x at)))
+          (read.own c is.representable n x at)))
       go (Some y) some =
           let (there, numbered) = look_some number_of (map fact_of rows) n y some in
           let (v, here, is) = Contains-map_back fact_of rows y there in

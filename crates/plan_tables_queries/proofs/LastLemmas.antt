@@ -14,12 +14,12 @@ use Rattle.plan_tables_content.specs.Content.{IsContentOf}
 use Rattle.plan_tables_content.specs.Decoded.{nat_in, text_in}
 use Rattle.plan_tables_content.specs.Facts.{row_values}
 use Rattle.plan_tables_content.proofs.Decoded.{one_row}
-use Rattle.plan_tables_content.proofs.Told.{is_some}
+use Rattle.plan_tables_content.proofs.SameOptions.{is_some}
 use Rattle.plan_tables_loading.specs.Cells.{IsNumberedRow}
 use Rattle.plan_tables_queries.specs.Last.{IsLastRow}
-use Rattle.plan_tables_queries.specs.Telling.{TellsNone}
+use Rattle.plan_tables_queries.specs.Decoding.{TellsNone}
 use Rattle.plan_tables_queries.specs.declared.faults.LookupFault.{LookupFault}
-use Rattle.plan_tables_queries.specs.declared.faults.LookupFault.TheVariants.{Memory, Untold, Store}
+use Rattle.plan_tables_queries.specs.declared.faults.LookupFault.TheVariants.{Memory, Malformed, Store}
 use Rattle.plan_tables_queries.proofs.SerialLemmas.{completed_formed}
 
 module _ (all : Tables) (c : Content) (is : IsContentOf all c) (sound : IsSound c) (app : List ℕ) (moment : ℕ) where
@@ -56,7 +56,7 @@ module _ (all : Tables) (c : Content) (is : IsContentOf all c) (sound : IsSound 
         let (n, x, at_x, values) = (is.facts table.History cells).0 last_found.has in
         let same : x ≡ row = one_row x row (sym values ∙ sym told) in
         let at : c.sets.history n ≡ Some row = at_x ∙ ap Some same in
-        let own : row.serial ≡ n = is.tellable.history n row at in
+        let own : row.serial ≡ n = is.representable.history n row at in
         let of : row.key.app ≡ app =
         ap (λ (v : Values). text_in (column v 1)) told ∙ ap text_in last_found.arrives.of in
         let ia : row.key.ia ≡ last_found.ia =
@@ -75,9 +75,9 @@ module _ (all : Tables) (c : Content) (is : IsContentOf all c) (sound : IsSound 
               is_some other row (sym has ∙ ap c.sets.history one ∙ at);
         }
 
-    pub last_is_told : (fault : LookupFault) → TellsNone IsNumberedRow row_values cells fault → fault ≢ Untold
+    pub last_is_told : (fault : LookupFault) → TellsNone IsNumberedRow row_values cells fault → fault ≢ Malformed
     last_is_told Memory tells e = cc
-    last_is_told Untold tells e =
+    last_is_told Malformed tells e =
         let (n, row, at, values) = (is.facts table.History cells).0 last_found.has in
         tells row (completed_formed c sound n row at) (sym values)
     last_is_told (Store error) tells e = tells

@@ -6,7 +6,7 @@ use Rattle.occurrences.specs.declared.row.Row.{Row}
 use Rattle.plan_store.specs.Listings.{Shown}
 use Rattle.plan_tables_queries.specs.ListedRows.{RefusesRow, TellsNone, told_by}
 use Rattle.plan_tables_queries.specs.declared.listing_faults.ListedFault.{ListedFault}
-use Rattle.plan_tables_queries.specs.declared.listing_faults.ListedFault.TheVariants.{Memory, Untold, Sink, Store}
+use Rattle.plan_tables_queries.specs.declared.listing_faults.ListedFault.TheVariants.{Memory, Malformed, Sink, Store}
 
 found_is : {X E : Type 0} (values_of : X → Values) (row : Values) (found : Result (Option X) E)
     → IfOk found (λ f. IfSome f (λ x. values_of x ≡ row)) → IfOk (told_by found) (λ x. values_of x ≡ row)
@@ -38,6 +38,6 @@ pub refuses_none : {X K : Type 0} (Is : X → Type 0) (values_of : X → Values)
     (Refuses : K → Shown → K → Type 0) (sink : K) (row : Values) (why : ListedFault) → TellsNone Is values_of row why
     → RefusesRow Is values_of row_of letter_of Refuses sink row sink why
 refuses_none Is values_of row_of letter_of Refuses sink row Memory h = refl
-refuses_none Is values_of row_of letter_of Refuses sink row Untold h = (refl, h)
+refuses_none Is values_of row_of letter_of Refuses sink row Malformed h = (refl, h)
 refuses_none Is values_of row_of letter_of Refuses sink row (Sink fault) h = absurd h
 refuses_none Is values_of row_of letter_of Refuses sink row (Store error) h = absurd h

@@ -16,11 +16,11 @@ use Rattle.occurrences.specs.Row.{RowBefore}
 use Rattle.occurrences.specs.declared.place.Place.{Place}
 use Rattle.occurrences.specs.declared.row.Row.{Row}
 use Rattle.external_dependencies.specs.declared.rows.PlacedRow.{PlacedRow}
-use Rattle.planner_machine.specs.Content.{Content, StandsAt}
+use Rattle.planner_machine.specs.Content.{Content, IsOnlyAt}
 use Rattle.planner_machine.specs.Shown.{IsListed, IsOfApp, IsPlaceOf, Listed}
 use Rattle.app_definition_records.proofs.RisingLemmas.{Contains-map, Contains-map_back}
 use Rattle.plan_store_lists.proofs.KeyLemmas.{contains_first, contains_later}
-use Rattle.plan_store.specs.Listings.{HandsAll, ShowRows, Shown, row_shown}
+use Rattle.plan_store.specs.Listings.{EmitsAll, ShowRows, Shown, row_shown}
 use Rattle.plan_tables_schema.specs.Rows.{HaveRowids, Tables, shown}
 use Rattle.plan_tables_lookups.specs.Question.{Answers, Question, asked_for, order_cmp, passes}
 use Rattle.plan_tables_content.specs.Content.{IsOfSet}
@@ -29,10 +29,10 @@ use Rattle.plan_tables_loading.specs.Rowids.{place_of}
 use Rattle.plan_tables_loading.proofs.OrderLemmas.{apart_distinct, distinct_apart, flips}
 use Rattle.plan_tables_loading.proofs.RowidLemmas.{distinct_rowids, rowid_place}
 use Rattle.plan_tables_queries.proofs.RowLemmas.{asked_is, is_asked}
-use Rattle.plan_tables_queries.specs.Listing.{EndsSo, HandsPart}
+use Rattle.plan_tables_queries.specs.Listing.{EndsSo, EmitsPart}
 use Rattle.plan_tables_queries.specs.ListedRows.{EndsTelling, TellsAll, TellsPart, marked}
 use Rattle.plan_tables_queries.specs.declared.listing_faults.ListedFault.{ListedFault}
-use Rattle.plan_tables_queries.specs.declared.listing_faults.ListedFault.TheVariants.{Memory, Untold, Sink, Store}
+use Rattle.plan_tables_queries.specs.declared.listing_faults.ListedFault.TheVariants.{Memory, Malformed, Sink, Store}
 use Rattle.plan_tables_queries.proofs.OrderLemmas.{columns_cmp, pairs_map, rows_rise}
 
 -- how a set stands in a table and in a content, and how a listing shows it
@@ -41,9 +41,9 @@ pub record IsShownSet {X : Type 0} (values_of : X → Values) (row_of : X → Ro
   pub one : (a b : X) → values_of a ≡ values_of b → a ≡ b
   pub shows : (x : X) → marked row_of letter_of x ≡ row_shown (record { row = row_of x; place = place x })
   pub leads : (x : X) → column (values_of x) 0 ≡ natural (row_of x).serial
-  pub stands : (n : ℕ) (x : X) → set n ≡ Some x → StandsAt c.sets n (record { row = row_of x; place = place x })
+  pub stands : (n : ℕ) (x : X) → set n ≡ Some x → IsOnlyAt c.sets n (record { row = row_of x; place = place x })
   pub within : (x : X) → IsPlaceOf listed (place x)
-  pub back : (n : ℕ) (row : Row) (at : Place) → StandsAt c.sets n (record { row = row; place = at })
+  pub back : (n : ℕ) (row : Row) (at : Place) → IsOnlyAt c.sets n (record { row = row; place = at })
       → IsPlaceOf listed at → (x : X) × (set n ≡ Some x) × (row_of x ≡ row) × (place x ≡ at)
 
 -- that a question asks for those of an application, or of any, in the order of a listing
@@ -170,10 +170,10 @@ module _ {X : Type 0} (values_of : X → Values) (row_of : X → Row) (letter_of
 
     -- ---- what was handed out
 
-    module _ {K : Type 0} (Takes Refuses : K → Shown → K → Type 0) (old new : K) where
+    module _ {K : Type 0} (Accepts Refuses : K → Shown → K → Type 0) (old new : K) where
       pub hands_all : ∥ HaveRowids (all q.table) ∥₁ → (count : ℕ)
-          → TellsAll values_of row_of letter_of Takes (Answers q asked all) old new count
-          → HandsAll Takes (ShowRows listed app c) old new count
+          → TellsAll values_of row_of letter_of Accepts (Answers q asked all) old new count
+          → EmitsAll Accepts (ShowRows listed app c) old new count
       hands_all have count h = record {
         items = map show h.facts;
         whole = is_listing h.facts h.whole have;
@@ -190,10 +190,10 @@ module _ {X : Type 0} (values_of : X → Values) (row_of : X → Row) (letter_of
           (map show more, ap (λ y. show y ∷ map show more) (kind.one x fact head))
 
       ends : (Is : X → Type 0) (fault : ListedFault) (done more : List X) (rest : List Values) → map values_of more ≡ rest
-          → EndsTelling Is values_of row_of letter_of Takes Refuses old done rest new fault
-          → EndsSo Takes Refuses old (map show done) (map show more) new fault
+          → EndsTelling Is values_of row_of letter_of Accepts Refuses old done rest new fault
+          → EndsSo Accepts Refuses old (map show done) (map show more) new fault
       ends Is Memory done more rest are taken = taken
-      ends Is Untold done more rest are (taken, _) = taken
+      ends Is Malformed done more rest are (taken, _) = taken
       ends Is (Sink fault) done more rest are (last, fact, later, is, taken, refused) =
           let (items, shows) = next_is more rest fact later are is in
           (last, show fact, items, shows, taken, refused)
@@ -205,8 +205,8 @@ module _ {X : Type 0} (values_of : X → Values) (row_of : X → Row) (letter_of
           row_told (map values_of done ++ rest) a row (Contains-append_right (map values_of done) rest row there)
 
       pub hands_part : (Is : X → Type 0) → ∥ HaveRowids (all q.table) ∥₁ → (fault : ListedFault)
-          → TellsPart Is values_of row_of letter_of Takes Refuses (Answers q asked all) old new fault
-          → HandsPart Takes Refuses (ShowRows listed app c) old new fault
+          → TellsPart Is values_of row_of letter_of Accepts Refuses (Answers q asked all) old new fault
+          → EmitsPart Accepts Refuses (ShowRows listed app c) old new fault
       hands_part Is have fault h =
           let (more, are) = tells_each h.rest (rest_told h.done h.rest h.whole) in
           let both = map-append values_of h.done more ∙ ap (λ l. map values_of h.done ++ l) are in
@@ -219,9 +219,9 @@ module _ {X : Type 0} (values_of : X → Values) (row_of : X → Row) (letter_of
           }
 
       pub each_tells : (Is : X → Type 0) → ((n : ℕ) (x : X) → set n ≡ Some x → Is x) → (fault : ListedFault)
-          → TellsPart Is values_of row_of letter_of Takes Refuses (Answers q asked all) old new fault → fault ≢ Untold
+          → TellsPart Is values_of row_of letter_of Accepts Refuses (Answers q asked all) old new fault → fault ≢ Malformed
       each_tells Is formed Memory h e = cc
-      each_tells Is formed Untold h e =
+      each_tells Is formed Malformed h e =
           let (taken, (row, later, is, none)) = h.ends in
           let t = rest_told h.done h.rest h.whole row (subst (λ l. Contains l row) (sym is) (contains_first row later))
           in none t.fact (formed t.number t.fact t.has) t.is

@@ -32,7 +32,7 @@ module _ {X : Type 0} (values_of : X → Values) (row_of : X → Row) (letter_of
     (look : Look) (asked : Values) (app : Option (List ℕ)) (asks : AsksFor values_of row_of (question look) asked app)
     (given : AreAsked look asked) (fact_of : Values → X) (number_of : X → ℕ) (Is : X → Type 0)
     (read : IsReadSet (question look).table values_of fact_of number_of Is set_of)
-    {S K : Type 0} (g : Ghosts S) (old new : Held S) (Takes Refuses : K → Shown → K → Type 0) (before after : K)
+    {S K : Type 0} (g : Ghosts S) (old new : Held S) (Accepts Refuses : K → Shown → K → Type 0) (before after : K)
     (result : Result ℕ ListedFault) where
   abbrev all_tables : Tables
   all_tables = tables_of (state g old).now.trees
@@ -60,9 +60,9 @@ module _ {X : Type 0} (values_of : X → Values) (row_of : X → Row) (letter_of
   abbrev Over : Type 0 → Type 0
   Over P = HasCleanDisk (state g new) → HasTables (state g old).now.schema → P
 
-  pub lists : Over (IfOk result (TellsAll values_of row_of letter_of Takes (Answers (question look) asked all_tables)
+  pub lists : Over (IfOk result (TellsAll values_of row_of letter_of Accepts (Answers (question look) asked all_tables)
       before after))
-      → Over (IfErr result (TellsPart Is values_of row_of letter_of Takes Refuses
+      → Over (IfErr result (TellsPart Is values_of row_of letter_of Accepts Refuses
       (Answers (question look) asked all_tables) before after))
       → Over (IfOk result (λ _. IsUnchanged (state g old) (state g new)))
       → (HasCleanDisk (state g new) → HasTables (state g old).now.schema → AreAsked look asked
@@ -70,18 +70,18 @@ module _ {X : Type 0} (values_of : X → Values) (row_of : X → Row) (letter_of
       → Over (StaysOrIsUndone (state g old) (state g new))
       → (old.in_transaction ≡ false → new.in_transaction ≡ false)
       → Survives (state g old) (state g new) (λ _. HasTables (state g old).now.schema → ⊥)
-      → Lists g old new (question look).table Takes Refuses before after (ShowRows listed app) result
+      → Lists g old new (question look).table Accepts Refuses before after (ShowRows listed app) result
   lists all part same fails leaves mode survives = record {
     all = λ clean c known. if_ok result _ _
         (hands_all values_of row_of letter_of place (set_of c) listed c (kind c (sound c known)) (question look) asked
-        app asks all_tables (facts c known) Takes Refuses before after (rowids c known)) (all clean (schema c known));
+        app asks all_tables (facts c known) Accepts Refuses before after (rowids c known)) (all clean (schema c known));
     part = λ clean c known. if_err result _ _
         (hands_part values_of row_of letter_of place (set_of c) listed c (kind c (sound c known)) (question look) asked
-        app asks all_tables (facts c known) Takes Refuses before after Is (rowids c known))
+        app asks all_tables (facts c known) Accepts Refuses before after Is (rowids c known))
         (part clean (schema c known));
     told = λ clean c known. if_err result _ _ (λ fault told untold. ∥∥₁_elim known ⊥_prop (λ holds.
         each_tells values_of row_of letter_of place (set_of c) listed c (kind c (sound c known)) (question look) asked
-        app asks all_tables (facts c known) Takes Refuses before after Is (read.formed c holds.sound) fault told untold))
+        app asks all_tables (facts c known) Accepts Refuses before after Is (read.formed c holds.sound) fault told untold))
         (part clean (schema c known));
     same = same;
     fails = λ clean has. fails clean has given;

@@ -20,16 +20,16 @@ use Rattle.plan_tables_lookups.specs.Looks.{question}
 use Rattle.plan_tables_lookups.specs.Question.{is_so, passes}
 use Rattle.plan_tables_lookups.specs.declared.looks.Look.{Look}
 use Rattle.plan_tables_lookups.specs.declared.looks.Look.TheVariants.{InDeletions, InHistory, JobOf}
-use Rattle.plan_tables_content.specs.Content.{IsContentOf, IsOfSet, IsSmall, IsTellable, IsUnderOwn, job_values}
+use Rattle.plan_tables_content.specs.Content.{IsContentOf, IsOfSet, IsSmall, IsRepresentable, IsUnderOwn, job_values}
 use Rattle.plan_tables_content.specs.Decoded.{nat_in, text_in}
 use Rattle.plan_tables_content.specs.Facts.{deletion_values, row_values}
 use Rattle.plan_tables_content.proofs.AnswerLemmas.{one_answer}
 use Rattle.plan_tables_content.proofs.Decoded.{one_deletion, one_row}
 use Rattle.plan_tables_loading.specs.Cells.{IsNumberedRow, IsReadJob}
 use Rattle.plan_tables_queries.specs.Finding.{FindsFact}
-use Rattle.plan_tables_queries.specs.Telling.{TellsFirst, TellsFound, TellsNot}
+use Rattle.plan_tables_queries.specs.Decoding.{TellsFirst, TellsFound, TellsNot}
 use Rattle.plan_tables_queries.specs.declared.faults.LookupFault.{LookupFault}
-use Rattle.plan_tables_queries.specs.declared.faults.LookupFault.TheVariants.{Memory, Untold, Store}
+use Rattle.plan_tables_queries.specs.declared.faults.LookupFault.TheVariants.{Memory, Malformed, Store}
 use Rattle.plan_tables_queries.proofs.FindLemmas.{finds_fact, not_found}
 use Rattle.plan_tables_queries.proofs.RowLemmas.{asked_is, is_asked, is_of_row}
 use Rattle.plan_tables_queries.proofs.SerialLemmas.{completed_formed, deleted_formed}
@@ -42,8 +42,8 @@ pub record IsNumberedSet {X : Type 0} (look : Look) (values_of : X → Values) (
   pub passing : (n : ℕ) (x : X) → (passes (question look) (natural n ∷ []) (values_of x) ≡ true) ↔ (number_of x ≡ n)
   pub facts : (all : Tables) (c : Content) → IsContentOf all c → (v : Values)
       → Contains (map (shown (question look).table) (all (question look).table)) v ↔ IsOfSet values_of (set_of c) v
-  pub own : (c : Content) → IsTellable c → IsUnderOwn number_of (set_of c)
-  pub small : (c : Content) → IsTellable c → (n : ℕ) (x : X) → set_of c n ≡ Some x → Small x
+  pub own : (c : Content) → IsRepresentable c → IsUnderOwn number_of (set_of c)
+  pub small : (c : Content) → IsRepresentable c → (n : ℕ) (x : X) → set_of c n ≡ Some x → Small x
   pub formed : (c : Content) → IsSound c → (n : ℕ) (x : X) → set_of c n ≡ Some x → Is x
 
 module _ {X : Type 0} (look : Look) (values_of : X → Values) (number_of : X → ℕ) (Is Small : X → Type 0)
@@ -56,12 +56,12 @@ module _ {X : Type 0} (look : Look) (values_of : X → Values) (number_of : X �
         there in
         let numbered : number_of a.fact ≡ n = (kind.passing n a.fact).0
         (subst (λ (v : Values). passes (question look) (natural n ∷ []) v ≡ true) a.is a.pass) in
-        let at = sym (kind.own c is.tellable a.number a.fact a.has) ∙ numbered in
+        let at = sym (kind.own c is.representable a.number a.fact a.has) ∙ numbered in
         (a.fact, subst (λ k. set_of c k ≡ Some a.fact) at a.has, a.is)
 
     has_row : (x : X) → set_of c n ≡ Some x → Contains rows (values_of x)
     has_row x at = asked_is (question look) (natural n ∷ []) all values_of (set_of c) (kind.facts all c is) rows same n
-        x at ((kind.passing n x).1 (kind.own c is.tellable n x at))
+        x at ((kind.passing n x).1 (kind.own c is.representable n x at))
 
     none_is : (o : Option X) → set_of c n ≡ o → rows ≡ [] → o ≡ None
     none_is None at none = refl
@@ -75,11 +75,11 @@ module _ {X : Type 0} (look : Look) (values_of : X → Values) (number_of : X �
     found_is None small none = sym (none_is (set_of c n) refl none)
     found_is (Some y) small there =
         let (x, at, values) = row_is (values_of y) there in
-        ap Some (kind.one y x small (kind.small c is.tellable n x at) values) ∙ sym at
+        ap Some (kind.one y x small (kind.small c is.representable n x at) values) ∙ sym at
 
-    told_is : IsSound c → (fault : LookupFault) → TellsNot Is values_of rows fault → fault ≢ Untold
+    told_is : IsSound c → (fault : LookupFault) → TellsNot Is values_of rows fault → fault ≢ Malformed
     told_is sound Memory tells e = cc
-    told_is sound Untold (row, there, none) e =
+    told_is sound Malformed (row, there, none) e =
         let (x, at, values) = row_is row there in none x (kind.formed c sound n x at) (sym values)
     told_is sound (Store error) tells e = tells
 
@@ -120,8 +120,8 @@ jobs_numbered = record {
   one = one_job;
   passing = λ n job. number_test n job.number;
   facts = λ all c is. is.facts table.Job;
-  own = λ c tellable. tellable.jobs;
-  small = λ c tellable. tellable.answers;
+  own = λ c representable. representable.jobs;
+  small = λ c representable. representable.answers;
   formed = λ c sound n job at. (sound.jobs n job at).reply;
 }
 
@@ -131,8 +131,8 @@ history_numbered = record {
   one = λ x y _ _. one_row x y;
   passing = λ n row. number_test n row.serial;
   facts = λ all c is. is.facts table.History;
-  own = λ c tellable. tellable.history;
-  small = λ c tellable n row at. tt;
+  own = λ c representable. representable.history;
+  small = λ c representable n row at. tt;
   formed = completed_formed;
 }
 
@@ -142,8 +142,8 @@ deletions_numbered = record {
   one = λ x y _ _. one_deletion x y;
   passing = λ n d. number_test n d.row.serial;
   facts = λ all c is. is.facts table.Deletion;
-  own = λ c tellable. tellable.deletions;
-  small = λ c tellable n d at. tt;
+  own = λ c representable. representable.deletions;
+  small = λ c representable n d at. tt;
   formed = deleted_formed;
 }
 

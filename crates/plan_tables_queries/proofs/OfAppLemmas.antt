@@ -23,9 +23,9 @@ use Rattle.plan_tables_content.specs.Facts.{row_values}
 use Rattle.plan_tables_content.proofs.Decoded.{one_row}
 use Rattle.plan_tables_loading.specs.Cells.{IsNumberedRow}
 use Rattle.plan_tables_queries.specs.OfApp.{AreAllOf}
-use Rattle.plan_tables_queries.specs.Telling.{TellsNot}
+use Rattle.plan_tables_queries.specs.Decoding.{TellsNot}
 use Rattle.plan_tables_queries.specs.declared.faults.LookupFault.{LookupFault}
-use Rattle.plan_tables_queries.specs.declared.faults.LookupFault.TheVariants.{Memory, Untold, Store}
+use Rattle.plan_tables_queries.specs.declared.faults.LookupFault.TheVariants.{Memory, Malformed, Store}
 use Rattle.plan_tables_queries.proofs.RowLemmas.{asked_is, is_asked}
 use Rattle.plan_tables_queries.proofs.SerialLemmas.{completed_formed}
 use Rattle.plan_tables_queries.proofs.TestLemmas.{alone_of, of_alone, so_texts}
@@ -72,7 +72,7 @@ module _ (all : Tables) (c : Content) (is : IsContentOf all c) (app : List ℕ) 
         (Contains-map row_values found row there) in
         let one = row_is (row_values row) here in
         let this : one.row ≡ row = one_row one.row row (sym one.values) in
-        let own : one.row.serial ≡ one.number = is.tellable.history one.number one.row one.at in
+        let own : one.row.serial ≡ one.number = is.representable.history one.number one.row one.at in
         subst (λ (r : Row). (c.sets.history r.serial ≡ Some r) × (r.key.app ≡ app)) this
         (subst (λ k. c.sets.history k ≡ Some one.row) (sym own) one.at, one.of)
 
@@ -87,9 +87,9 @@ module _ (all : Tables) (c : Content) (is : IsContentOf all c) (app : List ℕ) 
     pub are_all_of : AreAllOf c.sets.history app found
     are_all_of row = (found_is row, λ both. is_found row both.0 both.1)
 
-  pub row_is_told : IsSound c → (fault : LookupFault) → TellsNot IsNumberedRow row_values rows fault → fault ≢ Untold
+  pub row_is_told : IsSound c → (fault : LookupFault) → TellsNot IsNumberedRow row_values rows fault → fault ≢ Malformed
   row_is_told sound Memory tells e = cc
-  row_is_told sound Untold (v, there, none) e =
+  row_is_told sound Malformed (v, there, none) e =
       let one = row_is v there in
       none one.row (completed_formed c sound one.number one.row one.at) (sym one.values)
   row_is_told sound (Store error) tells e = tells

@@ -97,7 +97,7 @@ deletions_read = record {
   is_set = deletion_set;
   back = told_back;
   facts = λ all c is. is.facts table.Deletion;
-  own = λ c tellable. tellable.deletions;
+  own = λ c representable. representable.deletions;
   formed = deleted_formed;
 }
 
@@ -107,7 +107,7 @@ history_read = record {
   is_set = row_set;
   back = row_back;
   facts = λ all c is. is.facts table.History;
-  own = λ c tellable. tellable.history;
+  own = λ c representable. representable.history;
   formed = completed_formed;
 }
 

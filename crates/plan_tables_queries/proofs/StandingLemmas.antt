@@ -15,7 +15,7 @@ use Rattle.sqlite_schema.specs.declared.schema.Reference.{Reference}
 use Rattle.sqlite_trees.specs.Props.{IsAscending-prop}
 use Rattle.sqlite_trees.specs.Tree.{IsAscending}
 use Rattle.plan_tables_schema.specs.Named.{first_named}
-use Rattle.plan_tables_schema.specs.Places.{TableStandsAt, TreesDiffer}
+use Rattle.plan_tables_schema.specs.Places.{TableIsAt, TreesDiffer}
 use Rattle.plan_tables_schema.specs.Schema.{HasTables, IsAside, RefersAside, name, table_at, to_run_cycle}
 use Rattle.plan_tables_schema.specs.declared.tables.Table.{Table}
 use Rattle.plan_tables_schema.specs.declared.tables.Table.TheVariants.{Offset, RunCycle}
@@ -29,7 +29,7 @@ described_set = Coded-set described.the_row.coded
 reference_set : IsSet Reference
 reference_set = Coded-set reference.the_row.coded
 
-stands_prop : (schema : Schema) (d : Described) (at : ℕ) → IsProp (TableStandsAt schema d at)
+stands_prop : (schema : Schema) (d : Described) (at : ℕ) → IsProp (TableIsAt schema d at)
 stands_prop schema d at = hlevel (props, described_set)
 
 apart_prop : (ts : List Described) → IsProp (IsAscending TreesDiffer ts)
@@ -71,9 +71,9 @@ module _ (schema : Schema) (has : HasTables schema) where
   tree_is : (t : Table) → tree_of schema t ≡ has.trees t
   tree_is t = ap tree_in (named_there schema (table_at (has.trees t) t) (has.at t) (has.stands t))
 
-  stands_so : (t : Table) → TableStandsAt schema (table_at (tree_of schema t) t) (at_of schema t)
-  stands_so t = subst (λ n. TableStandsAt schema (table_at n t) (at_of schema t)) (sym (tree_is t))
-      (subst (TableStandsAt schema (table_at (has.trees t) t)) (sym (at_is t)) (has.stands t))
+  stands_so : (t : Table) → TableIsAt schema (table_at (tree_of schema t) t) (at_of schema t)
+  stands_so t = subst (λ n. TableIsAt schema (table_at n t) (at_of schema t)) (sym (tree_is t))
+      (subst (TableIsAt schema (table_at (has.trees t) t)) (sym (at_is t)) (has.stands t))
 
 -- where tables stand, it is known where
 pub standing : (schema : Schema) → ∥ HasTables schema ∥₁ → HasTables schema

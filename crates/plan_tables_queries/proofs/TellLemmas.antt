@@ -3,20 +3,20 @@ use Rattle.std.proofs.Common.{◌≡◌, ◌∙◌, ℕ, ◌+◌, List, [], ◌�
 use Rattle.sqlite.specs.Order.{Row as Values}
 use Rattle.sqlite.specs.declared.error.Error.{Error}
 use Rattle.occurrences.specs.declared.row.Row.{Row}
-use Rattle.plan_store.specs.Listings.{Shown, TakesAll}
-use Rattle.plan_tables_lookups.specs.Handing.{HandsAll, HandsPart}
-use Rattle.plan_tables_lookups.specs.Handing.{TakesAll as TakesRows}
-use Rattle.plan_tables_lookups.specs.declared.handing.HandFault.TheVariants as hand
-use Rattle.plan_tables_queries.specs.ListedRows.{EndsTelling, RefusesRow, TakesRow, TellsAll, TellsPart, marked}
+use Rattle.plan_store.specs.Listings.{Shown, AcceptsAll}
+use Rattle.plan_tables_lookups.specs.Emitting.{EmitsAll, EmitsPart}
+use Rattle.plan_tables_lookups.specs.Emitting.{AcceptsAll as AcceptsRows}
+use Rattle.plan_tables_lookups.specs.declared.emitting.EmitFault.TheVariants as emit
+use Rattle.plan_tables_queries.specs.ListedRows.{EndsTelling, RefusesRow, AcceptsRow, TellsAll, TellsPart, marked}
 use Rattle.plan_tables_queries.specs.declared.listing_faults.ListedFault.{ListedFault}
-use Rattle.plan_tables_queries.specs.declared.listing_faults.ListedFault.TheVariants.{Memory, Untold, Sink, Store}
+use Rattle.plan_tables_queries.specs.declared.listing_faults.ListedFault.TheVariants.{Memory, Malformed, Sink, Store}
 
 module _ {W K X N : Type 0} (some : W) (sink : W → K) (name : W → N) (count : W → ℕ) (why : W → ListedFault)
     (Is : X → Type 0) (values_of : X → Values) (row_of : X → Row) (letter_of : X → ℕ)
-    (Takes Refuses : K → Shown → K → Type 0) where
-  abbrev TakesHere : W → Values → W → Type 0
-  TakesHere old row new = (name new ≡ name old)
-      × TakesRow values_of row_of letter_of Takes (sink old) (count old) row (sink new) (count new)
+    (Accepts Refuses : K → Shown → K → Type 0) where
+  abbrev AcceptsHere : W → Values → W → Type 0
+  AcceptsHere old row new = (name new ≡ name old)
+      × AcceptsRow values_of row_of letter_of Accepts (sink old) (count old) row (sink new) (count new)
 
   abbrev RefusesHere : W → Values → W → Type 0
   RefusesHere old row new = (name new ≡ name old)
@@ -25,9 +25,9 @@ module _ {W K X N : Type 0} (some : W) (sink : W → K) (name : W → N) (count 
   -- the facts of these rows, and their number
   abbrev Told : K → ℕ → List Values → K → ℕ → Type 0
   Told old before rows new after = (facts : List X) × (map values_of facts ≡ rows)
-      × TakesAll Takes old (map (marked row_of letter_of) facts) new × (after ≡ before + length facts)
+      × AcceptsAll Accepts old (map (marked row_of letter_of) facts) new × (after ≡ before + length facts)
 
-  took : (rows : List Values) (old new : W) → TakesRows TakesHere old rows new
+  took : (rows : List Values) (old new : W) → AcceptsRows AcceptsHere old rows new
       → (name new ≡ name old) × Told (sink old) (count old) rows (sink new) (count new)
   took [] old new is = (ap name is, ([], refl, ap sink is, (let e = ap count is in omega (arith, e))))
   took (row ∷ rows) old new (next, (named, one), later) =
@@ -43,13 +43,13 @@ module _ {W K X N : Type 0} (some : W) (sink : W → K) (name : W → N) (count 
 
   ends_by : (fault : ListedFault) (old : K) (done : List X) (rest : List Values) (last : K) (row : Values)
       (later : List Values) (new : K) → rest ≡ row ∷ later
-      → TakesAll Takes old (map (marked row_of letter_of) done) last
+      → AcceptsAll Accepts old (map (marked row_of letter_of) done) last
       → RefusesRow Is values_of row_of letter_of Refuses last row new fault
-      → EndsTelling Is values_of row_of letter_of Takes Refuses old done rest new fault
+      → EndsTelling Is values_of row_of letter_of Accepts Refuses old done rest new fault
   ends_by Memory old done rest last row later new is taken same =
-      subst (TakesAll Takes old (map (marked row_of letter_of) done)) (sym same) taken
-  ends_by Untold old done rest last row later new is taken (same, none) = (
-    subst (TakesAll Takes old (map (marked row_of letter_of) done)) (sym same) taken,
+      subst (AcceptsAll Accepts old (map (marked row_of letter_of) done)) (sym same) taken
+  ends_by Malformed old done rest last row later new is taken (same, none) = (
+    subst (AcceptsAll Accepts old (map (marked row_of letter_of) done)) (sym same) taken,
     (row, later, is, none),
   )
   ends_by (Sink fault) old done rest last row later new is taken (fact, tells, refused) =
@@ -57,8 +57,8 @@ module _ {W K X N : Type 0} (some : W) (sink : W → K) (name : W → N) (count 
   ends_by (Store error) old done rest last row later new is taken none = absurd none
 
   module _ (IsWhole : List Values → Type 0) (old new : W) where
-    pub told_all : count old ≡ 0 → HandsAll TakesHere IsWhole old new → (name new ≡ name old)
-        × TellsAll values_of row_of letter_of Takes IsWhole (sink old) (sink new) (count new)
+    pub told_all : count old ≡ 0 → EmitsAll AcceptsHere IsWhole old new → (name new ≡ name old)
+        × TellsAll values_of row_of letter_of Accepts IsWhole (sink old) (sink new) (count new)
     told_all none h =
         let (named, (facts, are, taken, counted)) = took h.rows old new h.taken in (
           named,
@@ -70,9 +70,9 @@ module _ {W K X N : Type 0} (some : W) (sink : W → K) (name : W → N) (count 
           },
         )
 
-    pub told_before : (error : Error) → HandsPart TakesHere RefusesHere IsWhole old new (hand.Store error)
+    pub told_before : (error : Error) → EmitsPart AcceptsHere RefusesHere IsWhole old new (emit.Store error)
         → (name new ≡ name old)
-        × TellsPart Is values_of row_of letter_of Takes Refuses IsWhole (sink old) (sink new) (Store error)
+        × TellsPart Is values_of row_of letter_of Accepts Refuses IsWhole (sink old) (sink new) (Store error)
     told_before error h =
         let (named, (facts, are, taken, counted)) = took h.done old new h.ends in (
           named,
@@ -84,8 +84,8 @@ module _ {W K X N : Type 0} (some : W) (sink : W → K) (name : W → N) (count 
           },
         )
 
-    pub told_part : HandsPart TakesHere RefusesHere IsWhole old new hand.Sink → (name new ≡ name old)
-        × TellsPart Is values_of row_of letter_of Takes Refuses IsWhole (sink old) (sink new) (why new)
+    pub told_part : EmitsPart AcceptsHere RefusesHere IsWhole old new emit.Sink → (name new ≡ name old)
+        × TellsPart Is values_of row_of letter_of Accepts Refuses IsWhole (sink old) (sink new) (why new)
     told_part h =
         let (last, row, later, is, rows, (named', refused)) = h.ends in
         let (named, (facts, are, taken, counted)) = took h.done old last rows in (

@@ -2,7 +2,7 @@
 use Rattle.std.proofs.Common.{◌≡◌, Option, None, Some, Result, Ok, Err, refl, subst, sym}
 use Rattle.std.specs.Prelude.{IfErr, IfOk, IfSome}
 use Rattle.sqlite.specs.Order.{Row}
-use Rattle.plan_tables_queries.specs.Telling.{TellsNone, told_by}
+use Rattle.plan_tables_queries.specs.Decoding.{TellsNone, told_by}
 use Rattle.plan_tables_queries.specs.declared.faults.LookupFault.{LookupFault}
 
 found_is : {X E : Type 0} (values_of : X → Row) (row : Row) (found : Result (Option X) E)

@@ -9,13 +9,13 @@ use Rattle.plan_tables_schema.specs.Rows.{MayFail, StaysOrIsUndone, tables_of}
 use Rattle.plan_tables_schema.specs.Schema.{HasTables}
 use Rattle.plan_tables_content.specs.Content.{IsContentOf}
 use Rattle.plan_tables_queries.specs.declared.faults.LookupFault.{LookupFault}
-use Rattle.plan_tables_queries.specs.declared.faults.LookupFault.TheVariants.{Memory, Untold, Store}
+use Rattle.plan_tables_queries.specs.declared.faults.LookupFault.TheVariants.{Memory, Malformed, Store}
 
 -- why a fact was not fetched: memory was refused as a row was decoded, or a row is malformed, and nothing is changed;
 -- or the query failed, for one of the four general errors
 abbrev pub StopsFor : State → State → LookupFault → Type 0
 StopsFor old new Memory = IsUnchanged old new
-StopsFor old new Untold = IsUnchanged old new
+StopsFor old new Malformed = IsUnchanged old new
 StopsFor old new (Store e) = MayFail old new e
 
 -- Over the tables of a plan that have a sound content, an Ok is what this has, and no row is malformed. Whatever they
@@ -26,7 +26,7 @@ pub record FindsFact {S T : Type 0} (g : Ghosts S) (old new : Held S) (result : 
   pub found : HasCleanDisk (state g new) → HasTables (state g old).now.schema → (c : Content)
       → IsContentOf (tables_of (state g old).now.trees) c → IsSound c → IfOk result (IsFound c)
   pub told : HasCleanDisk (state g new) → HasTables (state g old).now.schema → (c : Content)
-      → IsContentOf (tables_of (state g old).now.trees) c → IsSound c → IfErr result (λ fault. fault ≢ Untold)
+      → IsContentOf (tables_of (state g old).now.trees) c → IsSound c → IfErr result (λ fault. fault ≢ Malformed)
   pub same : HasCleanDisk (state g new) → HasTables (state g old).now.schema
       → OnOk result (IsUnchanged (state g old) (state g new))
   pub fails : HasCleanDisk (state g new) → HasTables (state g old).now.schema

@@ -1,4 +1,4 @@
-pub mod Telling
+pub mod Decoding
 pub mod Finding
 pub mod Deletions
 pub mod Last

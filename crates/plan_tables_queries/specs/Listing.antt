@@ -5,37 +5,37 @@ use Rattle.sqlite.specs.State.{HasCleanDisk, IsUnchanged, State, Survives}
 use Rattle.sqlite.specs.Store.{Ghosts}
 use Rattle.planner_machine.specs.Content.{Content}
 use Rattle.planner_machine.specs.Sound.{IsSound}
-use Rattle.plan_store.specs.Listings.{HandsAll, Shown, TakesAll}
+use Rattle.plan_store.specs.Listings.{EmitsAll, Shown, AcceptsAll}
 use Rattle.plan_tables_schema.specs.Rows.{HaveRowids, MayFail, StaysOrIsUndone, tables_of}
 use Rattle.plan_tables_schema.specs.Schema.{HasTables}
 use Rattle.plan_tables_schema.specs.declared.tables.Table.{Table}
 use Rattle.plan_tables_content.specs.Content.{IsContentOf}
 use Rattle.plan_tables_queries.specs.declared.listing_faults.ListedFault.{ListedFault}
-use Rattle.plan_tables_queries.specs.declared.listing_faults.ListedFault.TheVariants.{Memory, Untold, Sink, Store}
+use Rattle.plan_tables_queries.specs.declared.listing_faults.ListedFault.TheVariants.{Memory, Malformed, Sink, Store}
 
 -- the sink accepted the first items and, if it is to blame, refused the next
-abbrev pub EndsSo : {K : Type 0} → (Takes Refuses : K → Shown → K → Type 0) → K → List Shown → List Shown → K
+abbrev pub EndsSo : {K : Type 0} → (Accepts Refuses : K → Shown → K → Type 0) → K → List Shown → List Shown → K
     → ListedFault → Type 0
-EndsSo Takes Refuses old done rest new Memory = TakesAll Takes old done new
-EndsSo Takes Refuses old done rest new Untold = TakesAll Takes old done new
-EndsSo {K} Takes Refuses old done rest new (Sink _) =
+EndsSo Accepts Refuses old done rest new Memory = AcceptsAll Accepts old done new
+EndsSo Accepts Refuses old done rest new Malformed = AcceptsAll Accepts old done new
+EndsSo {K} Accepts Refuses old done rest new (Sink _) =
     (last : K) × (item : Shown) × (later : List Shown)
-    × (rest ≡ item ∷ later) × TakesAll Takes old done last × Refuses last item new
-EndsSo Takes Refuses old done rest new (Store e) = TakesAll Takes old done new
+    × (rest ≡ item ∷ later) × AcceptsAll Accepts old done last × Refuses last item new
+EndsSo Accepts Refuses old done rest new (Store e) = AcceptsAll Accepts old done new
 
 -- the sink accepted the first items of a listing
-pub record HandsPart {K : Type 0} (Takes Refuses : K → Shown → K → Type 0) (IsWhole : List Shown → Type 0) (old new : K)
+pub record EmitsPart {K : Type 0} (Accepts Refuses : K → Shown → K → Type 0) (IsWhole : List Shown → Type 0) (old new : K)
     (fault : ListedFault) : Type 0 where
   pub done : List Shown
   pub rest : List Shown
   pub whole : IsWhole (done ++ rest)
-  pub ends : EndsSo Takes Refuses old done rest new fault
+  pub ends : EndsSo Accepts Refuses old done rest new fault
 
 -- why a listing ended: memory was refused as a row was decoded, a row is malformed, or the sink refused it, and
 -- nothing is changed; or the tables could not be read, for one of the four general errors
 abbrev pub StopsFor : State → State → ListedFault → Type 0
 StopsFor old new Memory = IsUnchanged old new
-StopsFor old new Untold = IsUnchanged old new
+StopsFor old new Malformed = IsUnchanged old new
 StopsFor old new (Sink _) = IsUnchanged old new
 StopsFor old new (Store e) = MayFail old new e
 
@@ -55,12 +55,12 @@ OfContent old new t Is = HasCleanDisk new → (c : Content) → ∥ HoldsContent
 -- the first of them and, if it is to blame, refused the next. Whatever the tables have, an Ok changes nothing; it
 -- fails by the sink, for lack of memory, for a malformed row or for one of the four general errors, and at most what
 -- was not committed is undone; a crash finds what it found before.
-pub record Lists {S K : Type 0} (g : Ghosts S) (old new : Held S) (t : Table) (Takes Refuses : K → Shown → K → Type 0)
+pub record Lists {S K : Type 0} (g : Ghosts S) (old new : Held S) (t : Table) (Accepts Refuses : K → Shown → K → Type 0)
     (before after : K) (IsWhole : Content → List Shown → Type 0) (result : Result ℕ ListedFault) : Type 0 where
-  pub all : OfContent (state g old) (state g new) t (λ c. IfOk result (HandsAll Takes (IsWhole c) before after))
+  pub all : OfContent (state g old) (state g new) t (λ c. IfOk result (EmitsAll Accepts (IsWhole c) before after))
   pub part : OfContent (state g old) (state g new) t
-      (λ c. IfErr result (HandsPart Takes Refuses (IsWhole c) before after))
-  pub told : OfContent (state g old) (state g new) t (λ c. IfErr result (λ fault. fault ≢ Untold))
+      (λ c. IfErr result (EmitsPart Accepts Refuses (IsWhole c) before after))
+  pub told : OfContent (state g old) (state g new) t (λ c. IfErr result (λ fault. fault ≢ Malformed))
   pub same : HasCleanDisk (state g new) → HasTables (state g old).now.schema
       → IfOk result (λ _. IsUnchanged (state g old) (state g new))
   pub fails : HasCleanDisk (state g new) → HasTables (state g old).now.schema

@@ -3,12 +3,12 @@
 ghost use Rattle.std.specs.Prelude.{◌≡◌, [], ◌∷◌, ◌++◌, map, IfErr, OnOk};
 ghost use Rattle.std.specs.List.Sorted.{IsPermutation};
 ghost use Rattle.plan_tables_schema.specs.Rows.{shown};
-ghost use Rattle.plan_tables_queries.specs.Telling.{HasUntold, TellsNone, TellsTables};
+ghost use Rattle.plan_tables_queries.specs.Decoding.{HasMalformed, TellsNone, TellsTables};
 
+use crate::decoding::decode_row;
 use crate::faults::LookupFault;
-use crate::telling::tell_row;
-use plan_tables_loading::Told;
-use plan_tables_lookups::{HandFault, SinkFault, ValuesSink, hand_all};
+use plan_tables_loading::Decode;
+use plan_tables_lookups::{EmitFault, RowRefused, ValuesSink, emit_all};
 use plan_tables_schema::Table;
 use sqlite::{Alter, Connection, Row};
 use std::alloc::Global;
@@ -24,53 +24,53 @@ struct Collector<X> {
 }
 
 // Appends what the row encodes.
-fn put<X: Told + Drop>(alloc: Global, xs: &mut Vec<X>, row: &Row) -> Result<(), LookupFault>
+fn put<X: Decode + Drop>(alloc: Global, xs: &mut Vec<X>, row: &Row) -> Result<(), LookupFault>
     ensures put { OnOk result (map X.values xs.new.items
         ≡ map X.values xs.old.items ++ row.now ∷ []) }
     ensures untold { IfErr result (TellsNone X.has_form X.values row.now) }
 {
-    let x = tell_row(alloc, row)?;
+    let x = decode_row(alloc, row)?;
     match xs.push(x) {
         Ok(()) => Ok(()),
         Err(_) => Err(LookupFault::Memory),
     }
 }
 
-impl<X: Told + Drop> ValuesSink for Collector<X> {
-    ghost takes = { λ old row new.
+impl<X: Decode + Drop> ValuesSink for Collector<X> {
+    ghost accepts = { λ old row new.
         map X.values new.xs.items ≡ map X.values old.xs.items ++ row ∷ [] };
 
     ghost refuses = { λ old row new. TellsNone X.has_form X.values row new.why };
 
-    fn take(&mut self, row: &Row) -> Result<(), SinkFault> {
+    fn accept(&mut self, row: &Row) -> Result<(), RowRefused> {
         match put(self.alloc, &mut self.xs, row) {
             Ok(()) => Ok(()),
             Err(fault) => {
                 self.why = fault;
-                Err(SinkFault)
+                Err(RowRefused)
             }
         }
     }
 }
 
 /// What all rows of the table encode, each decoded before the next is read, in some order.
-pub(crate) fn tell_all<X: Told + Drop, S: Alter>(
+pub(crate) fn decode_all<X: Decode + Drop, S: Alter>(
     alloc: Global,
     conn: &mut Connection<S>,
     table: Table,
 ) -> Result<Vec<X>, LookupFault>
     ensures { TellsTables S.Store conn.old conn.new result
         (λ all xs. IsPermutation (map (shown table) (all table)) (map X.values xs.items))
-        (λ all. HasUntold X.has_form X.values (map (shown table) (all table))) }
+        (λ all. HasMalformed X.has_form X.values (map (shown table) (all table))) }
 {
     let mut told: Collector<X> = Collector {
         alloc,
         xs: Vec::new(alloc),
         why: LookupFault::Memory,
     };
-    match hand_all(conn, table, &mut told) {
+    match emit_all(conn, table, &mut told) {
         Ok(()) => Ok(told.xs),
-        Err(HandFault::Store(error)) => Err(LookupFault::Store(error)),
-        Err(HandFault::Sink) => Err(told.why),
+        Err(EmitFault::Store(error)) => Err(LookupFault::Store(error)),
+        Err(EmitFault::Sink) => Err(told.why),
     }
 }

@@ -8,7 +8,7 @@ pub enum LookupFault {
     /// Memory was refused as a row was decoded; the connection is as it was.
     Memory,
     /// A row is malformed: it encodes no fact.
-    Untold,
+    Malformed,
     /// The query failed.
     Store(Error),
 }

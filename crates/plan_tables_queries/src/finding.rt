@@ -15,9 +15,9 @@ ghost use Rattle.plan_tables_queries.specs.Finding.{FindsFact};
 ghost use Rattle.plan_tables_queries.specs.Last.{IsLastRow};
 ghost use Rattle.plan_tables_queries.specs.OfApp.{AreAllOf};
 
-use crate::collecting::tell_all;
+use crate::collecting::decode_all;
+use crate::decoding::{decode_each, decode_found, decode_row};
 use crate::faults::LookupFault;
-use crate::telling::{tell_each, tell_found, tell_row};
 use occurrences::{Deletion, Row, Serial};
 use plan_tables_content::answer_is_small;
 use plan_tables_lookups::{
@@ -41,7 +41,7 @@ pub fn kept_job<S: Alter>(
     ensures { FindsFact S.Store conn.old conn.new result (λ c found. found ≡ c.jobs number) }
 {
     let found = job_of_number(conn, number);
-    match tell_found::<Job>(alloc, found) {
+    match decode_found::<Job>(alloc, found) {
         Ok(Some(job)) => {
             answer_is_small(&job.reply);
             Ok(Some(job))
@@ -61,7 +61,7 @@ pub fn completed_row<S: Alter>(
         found ≡ c.sets.history serial) }
 {
     let found = history_of_serial(conn, serial.get());
-    tell_found::<Row>(alloc, found)
+    decode_found::<Row>(alloc, found)
 }
 
 /// The deletion of the serial, if there is one.
@@ -74,7 +74,7 @@ pub fn deleted_row<S: Alter>(
         found ≡ c.sets.deletions serial) }
 {
     let found = deletion_of_serial(conn, serial.get());
-    tell_found::<Deletion>(alloc, found)
+    decode_found::<Deletion>(alloc, found)
 }
 
 /// The application's row of history that arrives last at the moment or before it, if there is one.
@@ -94,7 +94,7 @@ pub fn last_completed<S: Alter>(
     let Some(cells) = found else {
         return Ok(None);
     };
-    match tell_row::<Row>(alloc, &cells) {
+    match decode_row::<Row>(alloc, &cells) {
         Ok(row) => Ok(Some(row)),
         Err(fault) => Err(fault),
     }
@@ -113,7 +113,7 @@ pub fn deletions_from<S: Alter>(
         Ok(rows) => rows,
         Err(error) => return Err(LookupFault::Store(error)),
     };
-    tell_each::<Deletion>(alloc, &rows)
+    decode_each::<Deletion>(alloc, &rows)
 }
 
 fn name(app: &App) -> ValueRef<'_>
@@ -143,7 +143,7 @@ pub fn completed_of<S: Alter>(
         Ok(rows) => rows,
         Err(error) => return Err(LookupFault::Store(error)),
     };
-    tell_each::<Row>(alloc, &rows)
+    decode_each::<Row>(alloc, &rows)
 }
 
 /// All rows of history, in some order.
@@ -154,7 +154,7 @@ pub fn completed_rows<S: Alter>(
     ensures { FindsFact S.Store conn.old conn.new result (λ c found.
         ListsAll of_row found.items c.sets.history) }
 {
-    tell_all::<Row, S>(alloc, conn, Table::History)
+    decode_all::<Row, S>(alloc, conn, Table::History)
 }
 
 /// All deletions, in some order.
@@ -165,5 +165,5 @@ pub fn deleted_rows<S: Alter>(
     ensures { FindsFact S.Store conn.old conn.new result (λ c found.
         ListsAll of_deletion found.items c.sets.deletions) }
 {
-    tell_all::<Deletion, S>(alloc, conn, Table::Deletion)
+    decode_all::<Deletion, S>(alloc, conn, Table::Deletion)
 }

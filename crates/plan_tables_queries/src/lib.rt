@@ -4,12 +4,12 @@
 #![tactic(auto)]
 
 mod collecting;
+mod decoding;
 mod faults;
 mod finding;
 mod listed_rows;
 mod listing;
 mod listing_faults;
-mod telling;
 
 pub use faults::LookupFault;
 pub use finding::{

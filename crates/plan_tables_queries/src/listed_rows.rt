@@ -13,21 +13,21 @@ ghost use Rattle.plan_tables_lookups.specs.Question.{Answers};
 ghost use Rattle.plan_tables_schema.specs.Rows.{StaysOrIsUndone, tables_of};
 ghost use Rattle.plan_tables_schema.specs.Schema.{HasTables};
 ghost use Rattle.plan_tables_queries.specs.Listing.{StopsFor};
-ghost use Rattle.plan_tables_queries.specs.ListedRows.{RefusesRow, TakesRow, TellsAll, TellsNone, TellsPart};
+ghost use Rattle.plan_tables_queries.specs.ListedRows.{RefusesRow, AcceptsRow, TellsAll, TellsNone, TellsPart};
 ghost use Rattle.plan_tables_queries.specs.ListedRows.{told_by};
 
 use crate::listing_faults::ListedFault;
 use occurrences::{Deletion, Row, Status};
-use plan_store::{Item, RowSink};
-use plan_tables_loading::Told;
-use plan_tables_lookups::{HandFault, Look, SinkFault, ValuesSink, hand};
+use plan_store::{Item, ItemSink};
+use plan_tables_loading::Decode;
+use plan_tables_lookups::{EmitFault, Look, RowRefused, ValuesSink, emit};
 use sqlite::types::ValueRef;
 use sqlite::{Alter, Connection, Row as Cells};
 use std::alloc::{AllocError, Global};
 use std::marker::PhantomData;
 
 /// What a row encodes, and the letter with which a listing shows it.
-pub(crate) trait Marked: Told {
+pub(crate) trait Marked: Decode {
     ghost row_of: { Self → RowValue };
 
     ghost letter_of: { Self → ℕ };
@@ -73,22 +73,22 @@ fn told_by<T>(found: Result<Option<T>, AllocError>) -> Result<T, ListedFault>
 {
     match found {
         Ok(Some(fact)) => Ok(fact),
-        Ok(None) => Err(ListedFault::Untold),
+        Ok(None) => Err(ListedFault::Malformed),
         Err(AllocError) => Err(ListedFault::Memory),
     }
 }
 
 // What the row tells.
-fn tell_row<T: Told>(alloc: Global, row: &Cells) -> Result<T, ListedFault>
+fn decode_row<T: Decode>(alloc: Global, row: &Cells) -> Result<T, ListedFault>
     ensures told { IfOk result (λ x. T.values x ≡ row.now) }
     ensures untold { IfErr result (TellsNone T.has_form T.values row.now) }
 {
-    told_by(T::tell(alloc, row))
+    told_by(T::decode(alloc, row))
 }
 
 // Decodes each row that it accepts, and passes on what that encodes.
 #[derive(Drop)]
-struct Teller<'a, T, K> {
+struct Decoder<'a, T, K> {
     alloc: Global,
     sink: &'a mut K,
     // how many it accepted
@@ -98,31 +98,31 @@ struct Teller<'a, T, K> {
     told: PhantomData<T>,
 }
 
-impl<T: Marked + Drop, K: RowSink> ValuesSink for Teller<'_, T, K> {
-    ghost takes = { λ old row new. (new.sink.ghost_name ≡ old.sink.ghost_name)
-        × TakesRow T.values T.row_of T.letter_of K.takes old.sink.now old.count row new.sink.now
+impl<T: Marked + Drop, K: ItemSink> ValuesSink for Decoder<'_, T, K> {
+    ghost accepts = { λ old row new. (new.sink.ghost_name ≡ old.sink.ghost_name)
+        × AcceptsRow T.values T.row_of T.letter_of K.accepts old.sink.now old.count row new.sink.now
         new.count };
 
     ghost refuses = { λ old row new. (new.sink.ghost_name ≡ old.sink.ghost_name)
         × RefusesRow T.has_form T.values T.row_of T.letter_of K.refuses old.sink.now row
         new.sink.now new.why };
 
-    fn take(&mut self, cells: &Cells) -> Result<(), SinkFault> {
-        let fact = match tell_row::<T>(self.alloc, cells) {
+    fn accept(&mut self, cells: &Cells) -> Result<(), RowRefused> {
+        let fact = match decode_row::<T>(self.alloc, cells) {
             Ok(fact) => fact,
             Err(why) => {
                 self.why = why;
-                return Err(SinkFault);
+                return Err(RowRefused);
             }
         };
         // no memory has so many rows
         let Some(count) = self.count.checked_add(1) else {
             self.why = ListedFault::Memory;
-            return Err(SinkFault);
+            return Err(RowRefused);
         };
         match self
             .sink
-            .take(Item::Marked(fact.occurrence(), fact.letter()))
+            .accept(Item::Marked(fact.occurrence(), fact.letter()))
         {
             Ok(()) => {
                 self.count = count;
@@ -130,7 +130,7 @@ impl<T: Marked + Drop, K: RowSink> ValuesSink for Teller<'_, T, K> {
             }
             Err(fault) => {
                 self.why = ListedFault::Sink(fault);
-                Err(SinkFault)
+                Err(RowRefused)
             }
         }
     }
@@ -138,7 +138,7 @@ impl<T: Marked + Drop, K: RowSink> ValuesSink for Teller<'_, T, K> {
 
 /// Passes the sink what each row encodes that the query matches with these values, before the next is read, and
 /// returns how many.
-pub(crate) fn tell_rows<T: Marked + Drop, S: Alter, K: RowSink>(
+pub(crate) fn decode_rows<T: Marked + Drop, S: Alter, K: ItemSink>(
     alloc: Global,
     conn: &mut Connection<S>,
     look: Look,
@@ -147,12 +147,12 @@ pub(crate) fn tell_rows<T: Marked + Drop, S: Alter, K: RowSink>(
 ) -> Result<usize, ListedFault>
     ensures all { HasCleanDisk (state S.Store conn.new)
         → HasTables (state S.Store conn.old).now.schema
-        → IfOk result (TellsAll T.values T.row_of T.letter_of K.takes
+        → IfOk result (TellsAll T.values T.row_of T.letter_of K.accepts
         (Answers (question look) (bound asked.now) (tables_of (state S.Store conn.old).now.trees))
         sink.old sink.new) }
     ensures part { HasCleanDisk (state S.Store conn.new)
         → HasTables (state S.Store conn.old).now.schema
-        → IfErr result (TellsPart T.has_form T.values T.row_of T.letter_of K.takes K.refuses
+        → IfErr result (TellsPart T.has_form T.values T.row_of T.letter_of K.accepts K.refuses
         (Answers (question look) (bound asked.now) (tables_of (state S.Store conn.old).now.trees))
         sink.old sink.new) }
     ensures same { HasCleanDisk (state S.Store conn.new)
@@ -168,16 +168,16 @@ pub(crate) fn tell_rows<T: Marked + Drop, S: Alter, K: RowSink>(
     ensures survives { Survives (state S.Store conn.old) (state S.Store conn.new)
         (λ _. HasTables (state S.Store conn.old).now.schema → ⊥) }
 {
-    let mut teller: Teller<'_, T, K> = Teller {
+    let mut decoder: Decoder<'_, T, K> = Decoder {
         alloc,
         sink,
         count: 0,
         why: ListedFault::Memory,
         told: PhantomData,
     };
-    match hand(conn, look, asked, &mut teller) {
-        Ok(()) => Ok(teller.count),
-        Err(HandFault::Store(error)) => Err(ListedFault::Store(error)),
-        Err(HandFault::Sink) => Err(teller.why),
+    match emit(conn, look, asked, &mut decoder) {
+        Ok(()) => Ok(decoder.count),
+        Err(EmitFault::Store(error)) => Err(ListedFault::Store(error)),
+        Err(EmitFault::Sink) => Err(decoder.why),
     }
 }

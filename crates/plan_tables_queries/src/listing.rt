@@ -9,10 +9,10 @@ ghost use Rattle.plan_store.specs.declared.listings.What.TheVariants as what;
 ghost use Rattle.plan_tables_schema.specs.declared.tables.Table.TheVariants as table;
 ghost use Rattle.plan_tables_queries.specs.Listing.{Lists};
 
-use crate::listed_rows::tell_rows;
+use crate::listed_rows::decode_rows;
 use crate::listing_faults::ListedFault;
 use occurrences::{Deletion, Row};
-use plan_store::RowSink;
+use plan_store::ItemSink;
 use plan_tables_lookups::Look;
 use sqlite::types::ValueRef;
 use sqlite::{Alter, Connection};
@@ -27,36 +27,36 @@ fn name(app: &App) -> ValueRef<'_>
 
 /// Passes the sink the deletions of one application or of all, in the order of a listing, each before the next is
 /// read, and returns how many.
-pub fn list_deletions<S: Alter, K: RowSink>(
+pub fn list_deletions<S: Alter, K: ItemSink>(
     alloc: Global,
     conn: &mut Connection<S>,
     app: Option<&App>,
     sink: &mut K,
 ) -> Result<usize, ListedFault>
-    ensures { Lists S.Store conn.old conn.new table.Deletion K.takes K.refuses sink.old sink.new
+    ensures { Lists S.Store conn.old conn.new table.Deletion K.accepts K.refuses sink.old sink.new
         (IsListing what.Deletions (option_copied app.entry)) result }
 {
     match app {
         Some(app) => {
-            tell_rows::<Deletion, S, K>(alloc, conn, Look::DeletionsOf, &[name(app)], sink)
+            decode_rows::<Deletion, S, K>(alloc, conn, Look::DeletionsOf, &[name(app)], sink)
         }
-        None => tell_rows::<Deletion, S, K>(alloc, conn, Look::DeletionsListed, &[], sink),
+        None => decode_rows::<Deletion, S, K>(alloc, conn, Look::DeletionsListed, &[], sink),
     }
 }
 
 /// Passes the sink the rows of history of one application or of all, in the order of a listing, each before the next
 /// is read, and returns how many.
-pub fn list_history<S: Alter, K: RowSink>(
+pub fn list_history<S: Alter, K: ItemSink>(
     alloc: Global,
     conn: &mut Connection<S>,
     app: Option<&App>,
     sink: &mut K,
 ) -> Result<usize, ListedFault>
-    ensures { Lists S.Store conn.old conn.new table.History K.takes K.refuses sink.old sink.new
+    ensures { Lists S.Store conn.old conn.new table.History K.accepts K.refuses sink.old sink.new
         (IsListing what.History (option_copied app.entry)) result }
 {
     match app {
-        Some(app) => tell_rows::<Row, S, K>(alloc, conn, Look::HistoryOf, &[name(app)], sink),
-        None => tell_rows::<Row, S, K>(alloc, conn, Look::HistoryListed, &[], sink),
+        Some(app) => decode_rows::<Row, S, K>(alloc, conn, Look::HistoryOf, &[name(app)], sink),
+        None => decode_rows::<Row, S, K>(alloc, conn, Look::HistoryListed, &[], sink),
     }
 }

@@ -1,6 +1,6 @@
 // Why a listing ended before its last row.
 
-use plan_store::SinkFault;
+use plan_store::ItemRefused;
 use sqlite::Error;
 
 /// Why a listing ended before its last row.
@@ -9,9 +9,9 @@ pub enum ListedFault {
     /// Memory was refused as a row was decoded.
     Memory,
     /// A row is malformed: it encodes no fact.
-    Untold,
+    Malformed,
     /// The sink refused a row.
-    Sink(SinkFault),
+    Sink(ItemRefused),
     /// The tables could not be read.
     Store(Error),
 }

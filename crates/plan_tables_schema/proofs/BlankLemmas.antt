@@ -13,7 +13,7 @@ use Rattle.sqlite_value.specs.Order.{number}
 use Rattle.plan_tables_schema.specs.Made.{IsMadeWhole}
 use Rattle.plan_tables_schema.specs.Rows.{no_rows, tables_of}
 use Rattle.plan_tables_schema.specs.Schema.{table}
-use Rattle.plan_tables_schema.specs.Takes.{IsSoundPlan, TakesRow, new_row}
+use Rattle.plan_tables_schema.specs.Accepted.{IsSoundPlan, AcceptsRow, new_row}
 use Rattle.plan_tables_schema.specs.declared.tables.TheConstants.{SCHEMA_VERSION}
 use Rattle.plan_tables_schema.specs.declared.tables.Table.TheVariants.{Meta}
 
@@ -47,7 +47,7 @@ storable = (
     no_bit : (c : ℕ) → bit_at 0 c ≡ 1 → ⊥
     no_bit c bit = grind (arith)
 
-pub first_row_fits : TakesRow Meta first_cells no_rows
+pub first_row_fits : AcceptsRow Meta first_cells no_rows
 unfolding
     Rattle.sqlite_value.specs.Order.value_cmp Rattle.sqlite_sql.specs.Ops.unary Rattle.sqlite_sql.specs.Ops.binary
     lib.Ieee.is_nan lib.Ieee.lt
@@ -67,8 +67,8 @@ first_row_fits = record {
 }
 
 -- so the tables that were just made take it
-pub takes_first : (base : Database) (s : State) → IsMadeWhole base s → TakesRow Meta first_cells (tables_of s.now.trees)
-takes_first base s is = subst (TakesRow Meta first_cells) (sym is.rows_are) first_row_fits
+pub takes_first : (base : Database) (s : State) → IsMadeWhole base s → AcceptsRow Meta first_cells (tables_of s.now.trees)
+takes_first base s is = subst (AcceptsRow Meta first_cells) (sym is.rows_are) first_row_fits
 
 pub is_sound : (base : Database) (s : State) → IsMadeWhole base s → IsSoundPlan s
 is_sound base s is = record { plan = is.plan; own = is.own; sound = λ _. is.sound; mode = is.mode }

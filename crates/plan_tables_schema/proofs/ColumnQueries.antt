@@ -10,7 +10,7 @@ use Rattle.sqlite_resolve.specs.Compile.{first}
 use Rattle.sqlite_typing.specs.Types.{are_typed, row_classes}
 use Rattle.plan_tables_schema.proofs.ColumnsLemmas as lemmas
 use Rattle.plan_tables_schema.proofs.QueryMeanings.{ShowsRows, text_shows}
-use Rattle.plan_tables_schema.specs.Places.{TableStandsAt}
+use Rattle.plan_tables_schema.specs.Places.{TableIsAt}
 use Rattle.plan_tables_schema.proofs.Written.{IfRead}
 use Rattle.plan_tables_schema.proofs.WrittenQueries.{IfFound, HasColumns, shown_as, shown_column, IsBareText, is_there, has_all}
 
@@ -43,7 +43,7 @@ ShowsColumns table columns terms = (has_all table columns ≡ true) × (nat_lt (
     × (map (λ o. o.name) (map (shown_as table) columns) ≡ columns)
     × (are_typed [] (row_classes table ∷ []) terms ≡ true)
 
-module _ (schema : Schema) (table : Table) (at : ℕ) (it : TableStandsAt schema table at) (sql : List ℕ)
+module _ (schema : Schema) (table : Table) (at : ℕ) (it : TableIsAt schema table at) (sql : List ℕ)
     (columns : List (List ℕ)) (terms : List Term) (text : IsBareSelect table.name sql columns)
     (fits : ShowsColumns table columns terms) where
   pub columns_show : ShowsRows schema sql table.tree terms columns

@@ -17,7 +17,7 @@ use Rattle.sqlite_rules.proofs.ListLemmas.{all_from}
 use Rattle.sqlite_rules.specs.Lists.{Has}
 use Rattle.sqlite_schema.specs.Names.{same_name, table_named}
 use Rattle.sqlite_schema.specs.declared.schema.Index.{Index}
-use Rattle.plan_tables_schema.specs.Places.{TableStandsAt}
+use Rattle.plan_tables_schema.specs.Places.{TableIsAt}
 
 module _ {X : Type 0} (p : X → Bool) where
   placed_in_front : (xs ys : List X) (from at : ℕ) → position_from p from xs ≡ Some at
@@ -101,8 +101,8 @@ rest_all P [] ys h = h
 rest_all P (x ∷ xs) ys h = rest_all P xs ys h.1
 
 -- what stood stands still
-pub stands_still : (schema : Schema) (table new : Described) (at : ℕ) → TableStandsAt schema table at
-    → TableStandsAt (created schema new) table at
+pub stands_still : (schema : Schema) (table new : Described) (at : ℕ) → TableIsAt schema table at
+    → TableIsAt (created schema new) table at
 stands_still schema table new at it = record {
   named = placed_in_front (λ (t : Described). same_name t.name table.name) schema.tables _ 0 at it.named;
   got = got_in_front schema.tables _ at table it.got;
@@ -112,7 +112,7 @@ stands_still schema table new at it = record {
 
 -- what is made stands last
 pub stands_last : (schema : Schema) (new : Described) → is_used schema new.name ≡ false → next_tree schema < 65536
-    → TableStandsAt (created schema new) (record new { tree = next_tree schema }) (length schema.tables)
+    → TableIsAt (created schema new) (record new { tree = next_tree schema }) (length schema.tables)
 stands_last schema new free low =
     let made : Described = record new { tree = next_tree schema } in
     let first : 0 + length schema.tables ≡ length schema.tables = omega arith in

@@ -12,7 +12,7 @@ use Rattle.sqlite.specs.Kind.{Kind}
 use Rattle.sqlite.specs.Kind.TheVariants as kind
 use Rattle.plan_tables_schema.specs.Form.{key_kinds}
 use Rattle.plan_tables_schema.specs.Forms.{form}
-use Rattle.plan_tables_schema.specs.Takes.{HasKinds, IsKeyOf}
+use Rattle.plan_tables_schema.specs.Accepted.{HasKinds, IsKeyOf}
 use Rattle.plan_tables_schema.specs.Texts.{delete_sql}
 use Rattle.plan_tables_schema.specs.Cells.{delete_tests}
 use Rattle.plan_tables_schema.proofs.Steps.{plain_query}

@@ -41,7 +41,7 @@ use Rattle.plan_tables_schema.specs.Schema.{checks, columns, key, name, orders, 
 use Rattle.plan_tables_schema.specs.Texts.{delete_sql, insert_sql}
 use Rattle.plan_tables_schema.specs.declared.tables.Table.{Table}
 use Rattle.plan_tables_schema.specs.declared.tables.Table.TheVariants.{Meta}
-use Rattle.plan_tables_schema.specs.Places.{TableStandsAt, TreesDiffer}
+use Rattle.plan_tables_schema.specs.Places.{TableIsAt, TreesDiffer}
 use Rattle.plan_tables_schema.proofs.TextMeanings.{delete_means, insert_means}
 
 -- ---- what a step sets off
@@ -119,7 +119,7 @@ pub given_rows : (t : Table) (cells : Row) → value_rows cells (width t) (lengt
 given_rows Meta cells = refl
 given_rows t cells = refl
 
-module _ (schema : Schema) (at tree : ℕ) (t : Table) (it : TableStandsAt schema (table_at tree t) at) where
+module _ (schema : Schema) (at tree : ℕ) (t : Table) (it : TableIsAt schema (table_at tree t) at) where
   pub own : (db : Trees) → overlay db [] tree ≡ db tree
   own db = rw it.stored refl
 

@@ -11,7 +11,7 @@ use Rattle.sqlite_schema.specs.declared.schema.Schema.{Schema}
 use Rattle.sqlite_schema.specs.declared.schema.Table.{Table as Described}
 use Rattle.sqlite_trees.specs.Tree.{IsAscending}
 use Rattle.plan_tables_schema.specs.Named.{first_named}
-use Rattle.plan_tables_schema.specs.Places.{TableStandsAt, TreesDiffer}
+use Rattle.plan_tables_schema.specs.Places.{TableIsAt, TreesDiffer}
 
 -- the element at the first place whose test passes is the first that passes it
 module _ {X : Type 0} (p : X → Bool) where
@@ -45,7 +45,7 @@ pub named_is : (schema : Schema) (wanted : List ℕ)
 named_is schema wanted = first_is (λ (t : Described). same_name t.name wanted) schema.tables
 
 -- one that stands there is the first of its name
-pub named_there : (schema : Schema) (table : Described) (at : ℕ) → TableStandsAt schema table at
+pub named_there : (schema : Schema) (table : Described) (at : ℕ) → TableIsAt schema table at
     → first_named schema.tables table.name ≡ Some table
 named_there schema table at it = rw (it.named, it.got) at (named_is schema table.name)
 

@@ -44,7 +44,7 @@ use Rattle.sqlite_trees.specs.Tree.{with_tree}
 use Rattle.sqlite_value.specs.Keys.{plain}
 use Rattle.plan_tables_schema.specs.Cells.{delete_tests}
 use Rattle.plan_tables_schema.specs.Rows.{HaveRowids, IsAlone, MayFail, Tables, matches, tables_of, without_key}
-use Rattle.plan_tables_schema.specs.Takes.{IsKeyOf, IsSoundPlan, LosesKey}
+use Rattle.plan_tables_schema.specs.Accepted.{IsKeyOf, IsSoundPlan, LosesKey}
 use Rattle.plan_tables_schema.specs.Texts.{delete_sql}
 use Rattle.plan_tables_schema.specs.declared.tables.Table.{Table}
 use Rattle.std.specs.List.{list_all}

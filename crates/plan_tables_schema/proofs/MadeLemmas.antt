@@ -18,8 +18,8 @@ use Rattle.sqlite_schema.specs.declared.schema.Index.{Index}
 use Rattle.sqlite_trees.specs.Tree.{IsAscending}
 use Rattle.plan_tables_schema.specs.Free.{AreAside, IsFree, with_plan, with_tables}
 use Rattle.plan_tables_schema.specs.Made.{AllMade, earlier, later}
-use Rattle.plan_tables_schema.specs.Places.{TableStandsAt, TreesDiffer}
-use Rattle.plan_tables_schema.specs.Schema.{HasOwnIndexes, HasTables, IsAside, IsOwnIndex, all_tables, name}
+use Rattle.plan_tables_schema.specs.Places.{TableIsAt, TreesDiffer}
+use Rattle.plan_tables_schema.specs.Schema.{HasOnlyKeyIndexes, HasTables, IsAside, IsKeyIndex, all_tables, name}
 use Rattle.plan_tables_schema.specs.Schema.{indexes, indexes_of, no_schema, plan_schema, table, table_at, to_run_cycle}
 use Rattle.plan_tables_schema.specs.Schema.{tree, uniques}
 use Rattle.plan_tables_schema.specs.declared.tables.Table.{Table}
@@ -163,8 +163,8 @@ each_made P schema all t =
 
 -- ---- so the plan stands
 
-still : (vs : List Table) (schema : Schema) (table : Described) (at : ℕ) → TableStandsAt schema table at
-    → TableStandsAt (with_tables schema vs) table at
+still : (vs : List Table) (schema : Schema) (table : Described) (at : ℕ) → TableIsAt schema table at
+    → TableIsAt (with_tables schema vs) table at
 still [] schema table at it = it
 still (v ∷ vs) schema table at it =
     still vs (created schema (table_at 0 v)) table at (stands_still schema table (table_at 0 v) at it)
@@ -189,7 +189,7 @@ abbrev IsAsideFor : ℕ → Described → Type 0
 IsAsideFor n d = AllByRecursion (λ ref. IsAside ref ⊎ ((d ≡ table_at n Offset) × (ref ≡ to_run_cycle))) d.references
 
 abbrev AreOwn : (Table → ℕ) → Described → Type 0
-AreOwn trees d = AllByRecursion (IsOwnIndex trees) (automatics d 0 (d.tree + 1) d.uniques)
+AreOwn trees d = AllByRecursion (IsKeyIndex trees) (automatics d 0 (d.tree + 1) d.uniques)
 
 -- the index of its key is its own
 new_own : (trees : Table → ℕ) (n : ℕ) (u : Table) → ((t : Table) → n ≡ trees t → uniques t ≡ uniques u)
@@ -201,21 +201,21 @@ new_own trees n Job same = tt
 new_own trees n u same = ((λ t it. (same t it, refl)), tt)
 
 indexes_made : (trees : Table → ℕ) (us : List Table) (schema : Schema)
-    → AllByRecursion (IsOwnIndex trees) schema.indexes → AllMade (AreOwn trees) schema us
-    → AllByRecursion (IsOwnIndex trees) (with_tables schema us).indexes
+    → AllByRecursion (IsKeyIndex trees) schema.indexes → AllMade (AreOwn trees) schema us
+    → AllByRecursion (IsKeyIndex trees) (with_tables schema us).indexes
 indexes_made trees [] schema own news = own
 indexes_made trees (u ∷ us) schema own news = indexes_made trees us (created schema (table_at 0 u))
-    (all-append (IsOwnIndex trees) schema.indexes _ own news.0) news.1
+    (all-append (IsKeyIndex trees) schema.indexes _ own news.0) news.1
 
 module _ (schema : Schema) (is : IsFree schema) where
   stands_each : (t : Table)
-      → TableStandsAt (with_plan schema) (table_at (tree_for schema t) t) (length (with_tables schema (earlier t)).tables)
+      → TableIsAt (with_plan schema) (table_at (tree_for schema t) t) (length (with_tables schema (earlier t)).tables)
   stands_each t =
       let before = with_tables schema (earlier t) in
       let can = can_make schema is t in
       let room = can.room in
       let new = stands_last before (table_at 0 t) can.free.0 (omega (arith, room)) in
-      subst (λ s. TableStandsAt s (table_at (next_tree before) t) (length before.tables)) (sym (made_then (earlier t)
+      subst (λ s. TableIsAt s (table_at (next_tree before) t) (length before.tables)) (sym (made_then (earlier t)
       (later t) schema t) ∙ ap (with_tables schema) (in_order t)) (still (later t) (created before (table_at 0 t))
       _ _ new)
 
@@ -262,13 +262,13 @@ module _ (schema : Schema) (is : IsFree schema) where
   news_own : AllMade (AreOwn (tree_for schema)) schema all_tables
   news_own = (new_own _ _ Meta (same_uniques Meta), (new_own _ _ CalendarEntry (same_uniques CalendarEntry), (new_own _ _ Period (same_uniques Period), (new_own _ _ Application (same_uniques Application), (new_own _ _ RunCycle (same_uniques RunCycle), (new_own _ _ Offset (same_uniques Offset), (new_own _ _ Predecessor (same_uniques Predecessor), (new_own _ _ LinkInForce (same_uniques LinkInForce), (new_own _ _ LongTerm (same_uniques LongTerm), (new_own _ _ Current (same_uniques Current), (new_own _ _ History (same_uniques History), (new_own _ _ Deletion (same_uniques Deletion), (new_own _ _ Dependency (same_uniques Dependency), (new_own _ _ Job (same_uniques Job), tt))))))))))))))
 
-  olds_own : AllByRecursion (IsOwnIndex (tree_for schema)) schema.indexes
+  olds_own : AllByRecursion (IsKeyIndex (tree_for schema)) schema.indexes
   olds_own = all_from _ schema.indexes (λ i has t same.
       let low = all_has _ schema.indexes i (recursion_from_All (λ (i : Index). i.table < next_tree schema) schema.indexes
       is.indexed) has in absurd (omega (arith, low, same, rises (earlier t) schema)))
 
-  pub own_indexes : HasOwnIndexes (with_plan schema)
-  own_indexes has = subst (λ (trees : Table → ℕ). AllByRecursion (IsOwnIndex trees) (with_plan schema).indexes)
+  pub key_indexes : HasOnlyKeyIndexes (with_plan schema)
+  key_indexes has = subst (λ (trees : Table → ℕ). AllByRecursion (IsKeyIndex trees) (with_plan schema).indexes)
       (λ i t. sym (one_tree has t) i) (indexes_made (tree_for schema) all_tables schema olds_own news_own)
 
 -- ---- an empty database

@@ -20,12 +20,12 @@ use Rattle.plan_tables_schema.specs.Free.{IsFree, with_plan, with_tables}
 use Rattle.plan_tables_schema.specs.Made.{HoldsMade, IsMadeBeside, IsMadeSoFar, IsMadeWhole, IsReady, IsWritten, earlier, later, up_to}
 use Rattle.plan_tables_schema.specs.Places.{tree_named}
 use Rattle.plan_tables_schema.specs.Rows.{HaveRowids, KeepsBeside, MayFail, tables_of}
-use Rattle.plan_tables_schema.specs.Schema.{HasOwnIndexes, HasTables, all_tables, name}
+use Rattle.plan_tables_schema.specs.Schema.{HasOnlyKeyIndexes, HasTables, all_tables, name}
 use Rattle.plan_tables_schema.specs.Texts.{create_sql}
 use Rattle.plan_tables_schema.specs.Writes.{Makes}
 use Rattle.plan_tables_schema.specs.declared.tables.Table.{Table}
 use Rattle.plan_tables_schema.proofs.MadeLemmas.{all_made, can_make, each_made, made_both, made_last, made_then}
-use Rattle.plan_tables_schema.proofs.MadeLemmas.{own_indexes, plan_stands, stands_above, stands_for}
+use Rattle.plan_tables_schema.proofs.MadeLemmas.{key_indexes, plan_stands, stands_above, stands_for}
 use Rattle.plan_tables_schema.proofs.NamedLemmas.{tells}
 use Rattle.plan_tables_schema.proofs.RefusalLemmas.{make_fails, makes}
 use Rattle.plan_tables_schema.proofs.InTurn.{may_fail, turns_weaker}
@@ -102,7 +102,7 @@ plan_made base s is =
       };
       rows_are = λ i t. none t i;
       others = is.others;
-      own = subst HasOwnIndexes (sym is.schema) (own_indexes base.schema is.free);
+      own = subst HasOnlyKeyIndexes (sym is.schema) (key_indexes base.schema is.free);
       sound = is.sound;
       mode = is.mode;
     }

@@ -21,7 +21,7 @@ use Rattle.sqlite_ast.specs.declared.Statement.TheVariants as written
 use Rattle.sqlite_ast.specs.declared.Conflict.TheVariants.{Abort}
 use Rattle.sqlite.specs.Listing.{understood, reads_listing}
 use Rattle.sqlite.proofs.Callers.{IsPlain, command_of}
-use Rattle.plan_tables_schema.specs.Places.{TableStandsAt}
+use Rattle.plan_tables_schema.specs.Places.{TableIsAt}
 use Rattle.plan_tables_schema.proofs.Written.{IfRead, Inserts, Deletes}
 
 -- it is understood to its end, and has so many parameters
@@ -58,7 +58,7 @@ means schema sql c given (Ok p) read h =
     let it = understands schema sql p c (compiles schema sql p c read h.0) in
     record { is = rw it.1 refl; plain = rw it.1 (refl, refl); whole = rw it.1 (h.1, h.2); own = it.0 }
 
-module _ (schema : Schema) (table : Table) (at : ℕ) (it : TableStandsAt schema table at) where
+module _ (schema : Schema) (table : Table) (at : ℕ) (it : TableIsAt schema table at) where
   -- ---- INSERT
 
   pub insert_meaning : (base : ℕ) (source : Source) (name : List ℕ) (columns : List (List ℕ)) (all_rows : Rows)

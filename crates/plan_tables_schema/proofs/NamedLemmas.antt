@@ -13,7 +13,7 @@ use Rattle.sqlite_value.specs.Order.{bytes, column}
 use Rattle.plan_tables_schema.specs.Rows.{IsPlan, tables_of}
 use Rattle.plan_tables_schema.specs.Schema.{HasTables, name, table_at}
 use Rattle.plan_tables_schema.specs.declared.tables.Table.{Table}
-use Rattle.plan_tables_schema.specs.Places.{TableStandsAt, tree_at, tree_named}
+use Rattle.plan_tables_schema.specs.Places.{TableIsAt, tree_at, tree_named}
 use Rattle.plan_tables_schema.proofs.FoundLemmas.{named_there}
 
 row_tree : (row : Row) (table : Described) → IsTableRow row table → number_in (rowid row) - 1 ≡ table.tree
@@ -32,7 +32,7 @@ tree_found name table (r ∷ rs) (t ∷ ts) all h = rw all.0.described.name_is (
     go true h later = let same : t ≡ table = cc in row_tree r t all.0 ∙ ap (λ (d : Described). d.tree) same
     go false h later = later h
 
-pub tree_is : (schema : Schema) (table : Described) (at : ℕ) (objects : List Row) → TableStandsAt schema table at → AreListed objects schema
+pub tree_is : (schema : Schema) (table : Described) (at : ℕ) (objects : List Row) → TableIsAt schema table at → AreListed objects schema
     → tree_named objects table.name ≡ table.tree
 tree_is schema table at objects it are =
     tree_found table.name table (filter is_table_row objects) schema.tables are.tables (named_there schema table at it)

@@ -63,10 +63,10 @@ module _ (schema : Schema) (plan : HasTables schema) where
       (λ mid kept. all_has (λ d. d.tree ≢ plan.trees RunCycle → mid d.tree ≡ old.now.trees d.tree) schema.tables (table_at (plan.trees Offset) Offset) kept (listed Offset) offsets_apart) same writes) h
 
   -- the rows that have the key go, and no others
-  pub takes : (t : Table) (values : Row) (old new : State) (count : ℕ) → old.now.schema ≡ schema → HaveRowids (old.now.trees (plan.trees t))
+  pub accepts : (t : Table) (values : Row) (old new : State) (count : ℕ) → old.now.schema ≡ schema → HaveRowids (old.now.trees (plan.trees t))
       → IsAlone t values (λ u. old.now.trees (plan.trees u)) → Executes (delete_sql t) values old new (Ok count)
       → (new.now.schema ≡ schema) × (new.now.trees (plan.trees t) ≡ filter (λ r. not (matches t values r)) (old.now.trees (plan.trees t)))
       × KeepsOthers schema (plan.trees t) old.now.trees new.now.trees
   unfolding same_name
-  takes RunCycle values old new count has rowids free h = from_run_cycles values old new count has rowids free h
-  takes t values old new count has rowids free h = from_unreferred t refl values old new count has rowids h
+  accepts RunCycle values old new count has rowids free h = from_run_cycles values old new count has rowids free h
+  accepts t values old new count has rowids free h = from_unreferred t refl values old new count has rowids h

@@ -22,10 +22,10 @@ use Rattle.sqlite_resolve.specs.Program as program
 use Rattle.sqlite_resolve.specs.Compile as compile
 use Rattle.sqlite_typing.specs.Types.{accepts_program}
 use Rattle.plan_tables_schema.proofs.ColumnsLemmas as lemmas
-use Rattle.plan_tables_schema.specs.Places.{TableStandsAt}
+use Rattle.plan_tables_schema.specs.Places.{TableIsAt}
 use Rattle.plan_tables_schema.proofs.WrittenQueries.{only_bound, with_budget, source_table, IsBareSelect, Lowered, all_rows, draft_of}
 
-module _ (schema : Schema) (table : Table) (at : ℕ) (it : TableStandsAt schema table at) (s : Select) (shown : List Shown) (outs : List Output) (budget : ℕ) (next : Carried)
+module _ (schema : Schema) (table : Table) (at : ℕ) (it : TableIsAt schema table at) (s : Select) (shown : List Shown) (outs : List Output) (budget : ℕ) (next : Carried)
     (is : IsBareSelect s table.name shown) (lowered : Lowered schema table at shown outs budget next) where
   abbrev core : Core
   core = (out-Select s).first

@@ -21,7 +21,7 @@ use Rattle.plan_tables_schema.proofs.Steps.{plain_query}
 use Rattle.plan_tables_schema.proofs.MeaningLemmas.{IsWhole}
 use Rattle.plan_tables_schema.proofs.ColumnsLemmas.{yielded}
 use Rattle.plan_tables_schema.proofs.QueryLemmas as query
-use Rattle.plan_tables_schema.specs.Places.{TableStandsAt}
+use Rattle.plan_tables_schema.specs.Places.{TableIsAt}
 use Rattle.plan_tables_schema.proofs.Written.{IfRead}
 use Rattle.plan_tables_schema.proofs.WrittenQueries.{select_of, source_table, IsBareSelect, IsBareText, Lowered}
 
@@ -33,7 +33,7 @@ pub record ShowsRows (schema : Schema) (sql : List ℕ) (tree : ℕ) (terms : Li
   pub whole : IsWhole (understood schema sql) (length sql) 0
   pub typed : accepts_program schema [] (plain_query tree [] terms) [] ≡ true
 
-pub types_fit : (schema : Schema) (table : Table) (at : ℕ) (terms : List Term) → TableStandsAt schema table at → are_typed [] (row_classes table ∷ []) terms ≡ true
+pub types_fit : (schema : Schema) (table : Table) (at : ℕ) (terms : List Term) → TableIsAt schema table at → are_typed [] (row_classes table ∷ []) terms ≡ true
     → accepts_program schema [] (plain_query table.tree [] terms) [] ≡ true
 types_fit schema table at terms it typed = rw (it.stored, it.found, typed) refl
 
@@ -69,7 +69,7 @@ bare_select s name shown whole core = record {
   having = ap (λ x. x.having) core;
 }
 
-module _ (schema : Schema) (table : Table) (at : ℕ) (it : TableStandsAt schema table at) (sql : List ℕ) (shown : List Shown) (outs : List Output) (budget : ℕ) (next : Carried)
+module _ (schema : Schema) (table : Table) (at : ℕ) (it : TableIsAt schema table at) (sql : List ℕ) (shown : List Shown) (outs : List Output) (budget : ℕ) (next : Carried)
     (lowered : Lowered schema table at shown outs budget next) (typed : are_typed [] (row_classes table ∷ []) (map (λ o. o.term) outs) ≡ true) where
   pub text_shows : IfRead (compile.first sql) (IsBareText (length sql) table.name shown) → ShowsRows schema sql table.tree (map (λ o. o.term) outs) (map (λ o. o.name) outs)
   text_shows text =

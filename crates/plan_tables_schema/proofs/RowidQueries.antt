@@ -18,7 +18,7 @@ use Rattle.sqlite_resolve.specs.Compile.{first}
 use Rattle.sqlite_typing.specs.Types.{are_typed, row_classes}
 use Rattle.plan_tables_schema.proofs.ColumnsLemmas as lemmas
 use Rattle.plan_tables_schema.proofs.QueryMeanings.{ShowsRows, text_shows}
-use Rattle.plan_tables_schema.specs.Places.{TableStandsAt}
+use Rattle.plan_tables_schema.specs.Places.{TableIsAt}
 use Rattle.plan_tables_schema.proofs.Written.{IfRead}
 use Rattle.plan_tables_schema.proofs.WrittenQueries.{only_bound, with_budget, outer_level, shown_column, IsBareText, rowid_head, rowid_output}
 
@@ -52,7 +52,7 @@ module _ (schema : Schema) (table : Table) (at : ℕ) (got : slice_get schema.ta
       let head = heads_rowid _ n (lemmas.opens_column n) in
       rw (lemmas.opens_shown, lemmas.opens_column, lowered, head) refl
 
-module _ (schema : Schema) (table : Table) (at : ℕ) (it : TableStandsAt schema table at) (sql n : List ℕ) (is : scope.is_rowid n ≡ true) (named : column_named table n ≡ None)
+module _ (schema : Schema) (table : Table) (at : ℕ) (it : TableIsAt schema table at) (sql n : List ℕ) (is : scope.is_rowid n ≡ true) (named : column_named table n ≡ None)
     (text : IfRead (first sql) (IsBareText (length sql) table.name (shown_column n ∷ []))) (typed : are_typed [] (row_classes table ∷ []) (col 1 0 ∷ []) ≡ true) where
   pub rowid_shows : ShowsRows schema sql table.tree (col 1 0 ∷ []) (rowid_head table ∷ [])
   rowid_shows =

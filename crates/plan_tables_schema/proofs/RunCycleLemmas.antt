@@ -31,7 +31,7 @@ use Rattle.plan_tables_schema.proofs.RowLemmas.{id_back, tied}
 use Rattle.plan_tables_schema.specs.Rows.{Differ, HaveRowids, matches}
 use Rattle.plan_tables_schema.specs.Schema.{name, table_at, to_run_cycle}
 use Rattle.plan_tables_schema.specs.declared.tables.Table.TheVariants.{Offset, RunCycle}
-use Rattle.plan_tables_schema.specs.Places.{TableStandsAt}
+use Rattle.plan_tables_schema.specs.Places.{TableIsAt}
 use Rattle.plan_tables_schema.specs.Places.{TreesDiffer}
 use Rattle.plan_tables_schema.proofs.EffectLemmas.{KeepsOthers, no_work}
 use Rattle.plan_tables_schema.proofs.FoundLemmas.{named_there}
@@ -164,7 +164,7 @@ no_child n key r olds (o ∷ os) apart all h = go (is_child_of (their_offsets n 
 abbrev pub OffsetsRefer : Schema → ℕ → Type 0
 OffsetsRefer schema n = AllByRecursion (λ child. AllByRecursion (λ ref. (same_name (name RunCycle) ref.parent ≡ false) ⊎ ((child ≡ table_at n Offset) × (ref ≡ to_run_cycle))) child.references) schema.tables
 
-module _ (schema : Schema) (at tree n : ℕ) (it : TableStandsAt schema (table_at tree RunCycle) at) (has : Has schema.tables (table_at tree RunCycle))
+module _ (schema : Schema) (at tree n : ℕ) (it : TableIsAt schema (table_at tree RunCycle) at) (has : Has schema.tables (table_at tree RunCycle))
     (apart : IsAscending TreesDiffer schema.tables) (refer : OffsetsRefer schema n) where
   pub key_is : parent_key schema.tables to_run_cycle ≡ Some (tree, 1 ∷ 2 ∷ [], name_order)
   unfolding joined

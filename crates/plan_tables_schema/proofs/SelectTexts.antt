@@ -9,7 +9,7 @@ use Rattle.plan_tables_schema.specs.declared.tables.Table.{Table}
 use Rattle.plan_tables_schema.specs.declared.tables.Table.TheVariants.{Meta}
 use Rattle.plan_tables_schema.proofs.ColumnQueries.{IsBareSelect, ShowsColumns, columns_show}
 use Rattle.plan_tables_schema.proofs.QueryMeanings.{ShowsRows}
-use Rattle.plan_tables_schema.specs.Places.{TableStandsAt}
+use Rattle.plan_tables_schema.specs.Places.{TableIsAt}
 
 select_says : (t : Table) → IsBareSelect (name t) (select_sql t) (column_names t)
 unfolding everything
@@ -21,6 +21,6 @@ unfolding everything
 select_fits tree Meta = (refl, refl, refl, refl, refl)
 select_fits tree t = (refl, refl, refl, refl, refl)
 
-pub selects : (schema : Schema) (tree at : ℕ) (t : Table) → TableStandsAt schema (table_at tree t) at → ShowsRows schema (select_sql t) tree (select_terms t) (column_names t)
+pub selects : (schema : Schema) (tree at : ℕ) (t : Table) → TableIsAt schema (table_at tree t) at → ShowsRows schema (select_sql t) tree (select_terms t) (column_names t)
 selects schema tree at t it = columns_show schema (table_at tree t) at it (select_sql t) (column_names t) (select_terms t)
     (select_says t) (select_fits tree t)

@@ -27,7 +27,7 @@ use Rattle.sqlite_schema.specs.declared.schema.Table.{Table as Described}
 use Rattle.sqlite_trees.specs.Objects.{catalog_tree}
 use Rattle.sqlite_trees.specs.Tree.{IsAscending}
 use Rattle.plan_tables_schema.specs.Cells.{column_names, delete_tests, insert_terms, select_terms, width}
-use Rattle.plan_tables_schema.specs.Places.{TableStandsAt, TreesDiffer, tree_named}
+use Rattle.plan_tables_schema.specs.Places.{TableIsAt, TreesDiffer, tree_named}
 use Rattle.plan_tables_schema.specs.Rows.{AreOfKinds, HaveRowids, IsAlone, IsPlan, KeepsBeside, MayFail, Stands, StaysOrIsUndone, Tables, matches, placed}
 use Rattle.plan_tables_schema.specs.Rows.{shown, stored, tables_of, with_cells, with_rows, without_key}
 use Rattle.plan_tables_schema.specs.Schema.{HasTables, RefersAside, all_tables, name, place, table_at}
@@ -37,7 +37,7 @@ use Rattle.plan_tables_schema.specs.declared.tables.Table.TheVariants.{Meta}
 use Rattle.plan_tables_schema.specs.declared.tables.Table.TheVariants.{Offset}
 use Rattle.plan_tables_schema.proofs.EffectLemmas.{KeepsOthers, puts_row}
 use Rattle.plan_tables_schema.proofs.NamedLemmas.{rows_are, tells}
-use Rattle.plan_tables_schema.proofs.PlanLemmas.{takes}
+use Rattle.plan_tables_schema.proofs.PlanLemmas.{accepts}
 use Rattle.plan_tables_schema.proofs.QueryMeanings.{ShowsRows}
 use Rattle.plan_tables_schema.proofs.RowLemmas.{rowids_filter, rowids_placed}
 use Rattle.plan_tables_schema.proofs.SelectTexts.{selects}
@@ -68,7 +68,7 @@ abbrev pub moved : (a b : Schema) → a ≡ b → HasTables a → HasTables b
 moved a b same has = record {
   at = has.at;
   trees = has.trees;
-  stands = λ t. subst (λ s. TableStandsAt s (table_at (has.trees t) t) (has.at t)) same (has.stands t);
+  stands = λ t. subst (λ s. TableIsAt s (table_at (has.trees t) t) (has.at t)) same (has.stands t);
   apart = subst (λ (s : Schema). IsAscending TreesDiffer s.tables) same has.apart;
   refer = subst (λ s. RefersAside s (has.trees Offset)) same has.refer;
 }
@@ -192,7 +192,7 @@ module _ (t : Table) (key : Row) (old new : State) (count : ℕ) (plan : IsPlan 
       × KeepsOthers old.now.schema (plan.schema.trees t) old.now.trees new.now.trees
   effect =
       let was = ap old.now.trees (plan.told t) in
-      let step = takes old.now.schema plan.schema t key old new count refl (subst HaveRowids was (plan.rowids t))
+      let step = accepts old.now.schema plan.schema t key old new count refl (subst HaveRowids was (plan.rowids t))
       (subst (IsAlone t key) (rows_are old plan) alone) h.0 in
       (step.0, step.1 ∙ ap (filter (λ r. not (matches t key r))) (sym was), step.2)
 

@@ -53,7 +53,7 @@ use Rattle.sqlite_value.specs.Keys.{plain}
 use Rattle.sqlite_value.specs.Order.{value_cmp}
 use Rattle.plan_tables_schema.specs.Cells.{insert_terms, width}
 use Rattle.plan_tables_schema.specs.Rows.{MayFail, Stands, Tables, stored, tables_of, with_cells}
-use Rattle.plan_tables_schema.specs.Takes.{HasNone, IsSoundPlan, TakesRow, new_row}
+use Rattle.plan_tables_schema.specs.Accepted.{HasNone, IsSoundPlan, AcceptsRow, new_row}
 use Rattle.plan_tables_schema.specs.Texts.{insert_sql}
 use Rattle.plan_tables_schema.specs.declared.tables.Table.{Table}
 use Rattle.plan_tables_schema.specs.declared.tables.Table.TheVariants.{RunCycle}
@@ -66,7 +66,7 @@ use Rattle.std.proofs.lemmas.Bool.{eq-eqb}
 use Rattle.sqlite_catalog.specs.Listing.{IsGuarded, automatic}
 use Rattle.sqlite_rules.proofs.RuleLemmas.{same_table}
 use Rattle.sqlite_value.specs.Keys.{joined}
-use Rattle.plan_tables_schema.specs.Schema.{HasOwnIndexes, HasTables, IsOwnIndex, references, table_at, to_run_cycle}
+use Rattle.plan_tables_schema.specs.Schema.{HasOnlyKeyIndexes, HasTables, IsKeyIndex, references, table_at, to_run_cycle}
 use Rattle.plan_tables_schema.proofs.CycleLemmas.{name_order}
 use Rattle.plan_tables_schema.proofs.FitLemmas.{values_fit}
 use Rattle.plan_tables_schema.proofs.MeaningLemmas.{IsWhole}
@@ -102,8 +102,8 @@ pub in_plain_order : name_order ≡ plain
 unfolding joined
 in_plain_order = refl
 
-module _ (schema : Schema) (it : HasTables schema) (own : AllByRecursion (IsOwnIndex it.trees) schema.indexes) (t : Table) (cells : Row)
-    (db : Trees) (takes : TakesRow t cells (λ u. db (it.trees u))) where
+module _ (schema : Schema) (it : HasTables schema) (own : AllByRecursion (IsKeyIndex it.trees) schema.indexes) (t : Table) (cells : Row)
+    (db : Trees) (accepts : AcceptsRow t cells (λ u. db (it.trees u))) where
   abbrev was : List Row
   was = db (it.trees t)
 
@@ -114,7 +114,7 @@ module _ (schema : Schema) (it : HasTables schema) (own : AllByRecursion (IsOwnI
   edit = edit_of db (table_at (it.trees t) t) [] Chosen 0 (stored t cells ∷ [])
 
   news_are : edit.news ≡ row ∷ []
-  news_are = ap (λ r. with_rowid Chosen was r ∷ []) takes.kinds
+  news_are = ap (λ r. with_rowid Chosen was r ∷ []) accepts.kinds
 
   adds_fit : is_key_of schema to_run_cycle ≡ true → (u : Table) → list_all (is_key_of schema) (references u) ≡ true
   adds_fit keyed Offset = and_from _ _ keyed refl
@@ -124,7 +124,7 @@ module _ (schema : Schema) (it : HasTables schema) (own : AllByRecursion (IsOwnI
   all_pass p h = subst (λ news. list_all p news ≡ true) (sym news_are) (and_from _ _ h refl)
 
   is_fresh : are_fresh was (row ∷ []) ≡ true
-  is_fresh = and_from _ _ (not_from_false _ takes.fresh) refl
+  is_fresh = and_from _ _ (not_from_false _ accepts.fresh) refl
 
   edited_is : edited db edit ≡ put_row row was
   edited_is = ap (λ news. put_all was news) news_are
@@ -132,9 +132,9 @@ module _ (schema : Schema) (it : HasTables schema) (own : AllByRecursion (IsOwnI
   none_agrees : (i : Index) → Has schema.indexes i → i.table ≡ it.trees t → (other : Row) → Has was other
       → agree i.order i.columns other i.columns row ≡ false
   none_agrees i listed there other has =
-      let key = all_has (IsOwnIndex it.trees) schema.indexes i own listed t there in
+      let key = all_has (IsKeyIndex it.trees) schema.indexes i own listed t there in
       subst (λ o. agree o i.columns other i.columns row ≡ false) (sym key.1) (all_has (λ other. agree plain i.columns
-      other i.columns row ≡ false) was other (subst (AllByRecursion (HasNone was row)) key.0 takes.unique).0 has)
+      other i.columns row ≡ false) was other (subst (AllByRecursion (HasNone was row)) key.0 accepts.unique).0 has)
 
   parent_is : parent_key schema.tables to_run_cycle ≡ Some (it.trees RunCycle, 1 ∷ 2 ∷ [], plain)
   parent_is = key_is schema (it.at RunCycle) (it.trees RunCycle) (it.trees Offset) (it.stands RunCycle) (is_listed schema it RunCycle) it.apart (offsets_refer schema it) ∙ ap (λ o. Some (it.trees RunCycle, 1 ∷ 2 ∷ [], o)) in_plain_order
@@ -200,7 +200,7 @@ module _ (schema : Schema) (it : HasTables schema) (own : AllByRecursion (IsOwnI
     new_parent same =
         let is = tree_tells same in
         let found_one = (subst (AllByRecursion (λ ref. list_any (λ parent. agree plain (1 ∷ 2 ∷ []) parent ref.columns
-        row) (db (it.trees RunCycle)) ≡ true)) (sym (ap (λ (d : Described). d.references) is)) takes.parents).0 in
+        row) (db (it.trees RunCycle)) ≡ true)) (sym (ap (λ (d : Described). d.references) is)) accepts.parents).0 in
         let parent = some_has (λ p. agree plain (1 ∷ 2 ∷ []) p (1 ∷ 2 ∷ []) row) (db (it.trees RunCycle)) found_one in
         held row parent.0 parent.1 parent.2
 
@@ -230,18 +230,18 @@ module _ (schema : Schema) (it : HasTables schema) (own : AllByRecursion (IsOwnI
 
   not_refused : HasKeys → (why : Refusal) → IsRefused schema Enforced db edit why → ⊥
   not_refused keeps (Violates Datatype) h =
-      true≢false (sym (all_pass (passes Datatype schema db (table_at (it.trees t) t)) (and_from _ _ takes.typed refl)) ∙ h)
+      true≢false (sym (all_pass (passes Datatype schema db (table_at (it.trees t) t)) (and_from _ _ accepts.typed refl)) ∙ h)
   not_refused keeps (Violates NotNull) h =
-      true≢false (sym (all_pass (passes NotNull schema db (table_at (it.trees t) t)) takes.present) ∙ h)
+      true≢false (sym (all_pass (passes NotNull schema db (table_at (it.trees t) t)) accepts.present) ∙ h)
   not_refused keeps (Violates Check) h =
-      true≢false (sym (all_pass (passes Check schema db (table_at (it.trees t) t)) takes.checked) ∙ h)
+      true≢false (sym (all_pass (passes Check schema db (table_at (it.trees t) t)) accepts.checked) ∙ h)
   not_refused keeps (Violates PrimaryKey) h =
       true≢false (sym is_fresh ∙ subst (λ news. are_fresh was news ≡ false) news_are h)
   not_refused keeps (Violates Unique) h = h (unique_after with_row (at_own db (it.trees t) (edited db edit) ∙ edited_is)
       (λ d listed other. at_other db d.tree (it.trees t) (edited db edit) other) keeps.0)
   not_refused keeps (Violates ForeignKey) h = h
-  not_refused keeps Mismatch h = true≢false (sym (all_pass (λ r. is_int (rowid r)) takes.numbered) ∙ h)
-  not_refused keeps NoRowid h = true≢false (sym (all_pass (λ r. fits_i64 (id_in (rowid r))) takes.within) ∙ h)
+  not_refused keeps Mismatch h = true≢false (sym (all_pass (λ r. is_int (rowid r)) accepts.numbered) ∙ h)
+  not_refused keeps NoRowid h = true≢false (sym (all_pass (λ r. fits_i64 (id_in (rowid r))) accepts.within) ∙ h)
   not_refused keeps BadReference h = true≢false (sym (and_from _ _ (adds_fit keeps.1 t) refl) ∙ h)
   not_refused keeps TooDeep h = h
 
@@ -250,12 +250,12 @@ module _ (schema : Schema) (it : HasTables schema) (own : AllByRecursion (IsOwnI
     where
       go : Has (row ∷ []) r → IsOversized schema (table_at (it.trees t) t) r → ⊥
       go (inr none) big = none
-      go (inl same) (inl bad) = subst (λ r. ¬ IsStorableRow (table_reals (table_at (it.trees t) t)) r) same bad takes.storable
+      go (inl same) (inl bad) = subst (λ r. ¬ IsStorableRow (table_reals (table_at (it.trees t) t)) r) same bad accepts.storable
       go (inl same) (inr (i, there, mine, bad)) =
-          let key = all_has (IsOwnIndex it.trees) schema.indexes i own there t mine in
+          let key = all_has (IsKeyIndex it.trees) schema.indexes i own there t mine in
           subst (λ r. ¬ IsStorable (index_reals (table_reals (table_at (it.trees t) t)) i.columns) (entry_of i.columns r)) same bad
           (subst (AllByRecursion (λ places. IsStorable (index_reals (table_reals (table_at (it.trees t) t)) places)
-          (entry_of places row))) key.0 takes.entries).0
+          (entry_of places row))) key.0 accepts.entries).0
 
   led_on : (why : Option Refusal) (next : Trees) (n : ℕ) → Leads schema Enforced n next [] (Err why) → ⊥
   led_on why next zero h = let e = h.1 in cc
@@ -289,7 +289,7 @@ module _ (schema : Schema) (it : HasTables schema) (own : AllByRecursion (IsOwnI
 
   takes_terms : accepts_terms (insert_terms t) (cells ++ []) ≡ true
   takes_terms = ap (accepts_terms (insert_terms t)) (append-nil cells)
-      ∙ values_fit t cells (Int (next_rowid was)) (recursion_from_All _ row takes.storable.0.numbers)
+      ∙ values_fit t cells (Int (next_rowid was)) (recursion_from_All _ row accepts.storable.0.numbers)
 
   module _ (limit : Option ℕ) where
     abbrev task : Task
@@ -378,9 +378,9 @@ cycles_keyed schema it guarded =
     (rw (eq-eqb (it.trees RunCycle) (it.trees RunCycle) refl) refl))
 
 pub take_fails : (t : Table) (cells : Row) (old new : State) (e : Error) → IsSoundPlan old
-    → TakesRow t cells (tables_of old.now.trees) → ExecutesInside 0 (insert_sql t) cells old new (Err e)
+    → AcceptsRow t cells (tables_of old.now.trees) → ExecutesInside 0 (insert_sql t) cells old new (Err e)
     → MayFail old new e
-take_fails t cells old new e sound takes h =
+take_fails t cells old new e sound accepts h =
     let schema = old.now.schema in
     let it = sound.plan.schema in
     let own = sound.own it in
@@ -388,7 +388,7 @@ take_fails t cells old new e sound takes h =
     let text = statement_of sql (understood schema sql) in
     let command = Insert (it.at t) (Values (insert_terms t) (width t)) in
     let db = old.now.trees in
-    let row = subst (TakesRow t cells) (rows_are old sound.plan) takes in
+    let row = subst (AcceptsRow t cells) (rows_are old sound.plan) accepts in
     let means = insert_means schema (it.at t) (it.trees t) t (it.stands t) in
     in_vain old new cells text command e
     (λ does. never_stops schema it own t cells db row old.step_limit text does)
@@ -401,22 +401,22 @@ take_fails t cells old new e sound takes h =
     ) in
     let told = stops schema it own t cells db row old.step_limit keys (database.obeys.rules ForeignKey) text (Some e) does in
     (some_same told.0, told.1))
-    (stopped schema sql cells command (subst (IsWhole (understood schema sql) (length sql)) (sym takes.whole) means.whole)
+    (stopped schema sql cells command (subst (IsWhole (understood schema sql) (length sql)) (sym accepts.whole) means.whole)
     means.plain means.is (ordinary (it.at t) t) old new e refl h)
 
 pub still_sound : (old new : State) (rows : Tables) → IsSoundPlan old → Stands old new rows
     → new.now.schema ≡ old.now.schema → IsDatabase new.now → IsSoundPlan new
 still_sound old new rows sound stands same database = record {
   plan = stands.plan;
-  own = subst HasOwnIndexes (sym same) sound.own;
+  own = subst HasOnlyKeyIndexes (sym same) sound.own;
   sound = λ _. database;
   mode = stands.mode;
 }
 
 pub take_sound : (t : Table) (cells : Row) (old new : State) (count : ℕ) → IsSoundPlan old
-    → TakesRow t cells (tables_of old.now.trees) → ExecutesInside 0 (insert_sql t) cells old new (Ok count)
+    → AcceptsRow t cells (tables_of old.now.trees) → ExecutesInside 0 (insert_sql t) cells old new (Ok count)
     → IsSoundPlan new × (IsTrue old.is_open → IsTrue new.is_open) × (tables_of new.now.trees ≡ with_cells t cells (tables_of old.now.trees))
-take_sound t cells old new count sound takes h =
-    let stands = inserted t cells old new count sound.plan takes.kinds h in
-    let kept = put_soundly t cells old new count sound.plan takes.kinds h in
+take_sound t cells old new count sound accepts h =
+    let stands = inserted t cells old new count sound.plan accepts.kinds h in
+    let kept = put_soundly t cells old new count sound.plan accepts.kinds h in
     (still_sound old new _ sound stands kept.0 kept.1, (λ _. h.1.is_open), stands.rows_are)

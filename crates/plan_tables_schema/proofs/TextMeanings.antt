@@ -24,7 +24,7 @@ use Rattle.plan_tables_schema.specs.declared.tables.Table.{Table}
 use Rattle.plan_tables_schema.specs.declared.tables.Table.TheVariants.{LinkInForce}
 use Rattle.plan_tables_schema.specs.declared.tables.Table.TheVariants.{Dependency}
 use Rattle.plan_tables_schema.proofs.WrittenTests.{IsCompared, equals}
-use Rattle.plan_tables_schema.specs.Places.{TableStandsAt}
+use Rattle.plan_tables_schema.specs.Places.{TableIsAt}
 use Rattle.plan_tables_schema.proofs.Written.{IfRead, Deletes, SaysEqual, SaysPair}
 use Rattle.plan_tables_schema.proofs.WrittenKeys.{key_width}
 use Rattle.plan_tables_schema.proofs.TestLemmas.{deletes_equal, deletes_pair}
@@ -40,7 +40,7 @@ runs : (schema : Schema) (draft : Draft) → accepts_program schema [] (query_of
 unfolding program
 runs schema draft fits = rw fits refl
 
-module _ (schema : Schema) (table : Described) (at : ℕ) (it : TableStandsAt schema table at) where
+module _ (schema : Schema) (table : Described) (at : ℕ) (it : TableIsAt schema table at) where
   equal_deletes : (column : List ℕ) (q n size : ℕ) → IsCompared table column q → accepts_program schema [] (query_of (key_draft table.tree (equals q (n - 1) ∷ []))) [] ≡ true
       → (r : Checked Parsed) → IfRead r (SaysEqual table.name column n size) → IfRead r (Deletes schema table at (key_draft table.tree (equals q (n - 1) ∷ [])) size 1)
   equal_deletes column q n size of fits (Err e) h = absurd h
@@ -71,18 +71,18 @@ module _ (schema : Schema) (table : Described) (at : ℕ) (it : TableStandsAt sc
   }
 
 module _ (schema : Schema) (at tree : ℕ) where
-  pub insert_means : (t : Table) → TableStandsAt schema (table_at tree t) at
+  pub insert_means : (t : Table) → TableIsAt schema (table_at tree t) at
       → Means schema (insert_sql t) (Insert at (Values (insert_terms t) (width t))) (length (column_names t))
   insert_means t it = means schema (insert_sql t) _ _ (first (insert_sql t)) refl
       (insert_plans schema (table_at tree t) at it (Values (insert_terms t) (width t)) _ _ refl (first (insert_sql t)) (insert_says schema tree t))
 
-  deletes : (t : Table) → TableStandsAt schema (table_at tree t) at
+  deletes : (t : Table) → TableIsAt schema (table_at tree t) at
       → IfRead (first (delete_sql t)) (Deletes schema (table_at tree t) at (key_draft tree (delete_tests t)) (length (delete_sql t)) (key_width t))
   deletes LinkInForce it = pair_deletes schema (table_at tree LinkInForce) at it _ _ 1 2 1 2 _ (key_is_compared tree LinkInForce).0 (key_is_compared tree LinkInForce).1 (delete_accepted schema tree LinkInForce it.stored it.found) (first (delete_sql LinkInForce)) (delete_says LinkInForce)
   deletes Dependency it = pair_deletes schema (table_at tree Dependency) at it _ _ 1 2 1 2 _ (key_is_compared tree Dependency).0 (key_is_compared tree Dependency).1 (delete_accepted schema tree Dependency it.stored it.found) (first (delete_sql Dependency)) (delete_says Dependency)
   deletes t it = equal_deletes schema (table_at tree t) at it _ (first_place (form t).key) 1 _ (key_is_compared tree t) (delete_accepted schema tree t it.stored it.found) (first (delete_sql t)) (delete_says t)
 
-  pub delete_means : (t : Table) → TableStandsAt schema (table_at tree t) at
+  pub delete_means : (t : Table) → TableIsAt schema (table_at tree t) at
       → Means schema (delete_sql t) (Delete at (record { lets = []; body = plain_query tree (delete_tests t) (col 1 0 ∷ []) })) (key_width t)
   delete_means t it = means schema (delete_sql t) _ _ (first (delete_sql t)) refl
       (delete_plans schema (table_at tree t) at it (key_draft tree (delete_tests t)) _ _ (first (delete_sql t)) (deletes t it))

@@ -7,6 +7,6 @@ pub mod Schema
 pub mod Cells
 pub mod Free
 pub mod Rows
-pub mod Takes
+pub mod Accepted
 pub mod Made
 pub mod Writes

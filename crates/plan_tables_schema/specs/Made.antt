@@ -8,7 +8,7 @@ use Rattle.sqlite.specs.Table.{Table as Described}
 use Rattle.sqlite.specs.Tree.{Trees}
 use Rattle.plan_tables_schema.specs.Free.{IsFree, with_plan, with_tables}
 use Rattle.plan_tables_schema.specs.Rows.{IsPlan, no_rows, tables_of}
-use Rattle.plan_tables_schema.specs.Schema.{HasOwnIndexes, all_tables, place, table_at}
+use Rattle.plan_tables_schema.specs.Schema.{HasOnlyKeyIndexes, all_tables, place, table_at}
 use Rattle.plan_tables_schema.specs.declared.tables.Table.{Table}
 
 -- the tables that are made before it
@@ -54,7 +54,7 @@ pub record IsMadeWhole (base : Database) (s : State) : Type 0 where
   pub plan : IsPlan s
   pub rows_are : tables_of s.now.trees ≡ no_rows
   pub others : KeepsRows base.schema.tables base.trees s.now.trees
-  pub own : HasOwnIndexes s.now.schema
+  pub own : HasOnlyKeyIndexes s.now.schema
   pub sound : IsDatabase s.now
   pub mode : IsTrue s.in_transaction
 

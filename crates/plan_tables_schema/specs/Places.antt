@@ -10,7 +10,7 @@ use Rattle.sqlite_trees.specs.Objects.{number_in}
 use Rattle.sqlite_value.specs.Order.{bytes, column}
 
 -- the table is at this place of the list, and none before it has its name or its tree
-pub record TableStandsAt (schema : Schema) (table : Table) (at : ℕ) : Type 0 where
+pub record TableIsAt (schema : Schema) (table : Table) (at : ℕ) : Type 0 where
   pub named : table_named schema table.name ≡ Some at
   pub got : slice_get schema.tables at ≡ Some table
   pub found : find (λ t. t.tree == table.tree) schema.tables ≡ Some table

@@ -15,7 +15,7 @@ use Rattle.sqlite_value.specs.Keys.{plain}
 use Rattle.sqlite_value.specs.declared.keys.Order.{Order}
 use Rattle.plan_tables_schema.specs.Form.{checks_of, columns_of, key_of, orders_of, primary_of, references_of, uniques_of}
 use Rattle.plan_tables_schema.specs.Forms.{form}
-use Rattle.plan_tables_schema.specs.Places.{TableStandsAt, TreesDiffer}
+use Rattle.plan_tables_schema.specs.Places.{TableIsAt, TreesDiffer}
 use Rattle.plan_tables_schema.specs.declared.tables.Table.{Table}
 use Rattle.plan_tables_schema.specs.declared.tables.Table.TheVariants.{Meta, CalendarEntry, Period, Application}
 use Rattle.plan_tables_schema.specs.declared.tables.Table.TheVariants.{RunCycle, Offset, Predecessor, LinkInForce}
@@ -167,17 +167,17 @@ RefersAside schema n = AllByRecursion (λ child. AllByRecursion (λ ref. IsAside
 pub record HasTables (schema : Schema) : Type 0 where
   pub at : Table → ℕ
   pub trees : Table → ℕ
-  pub stands : (t : Table) → TableStandsAt schema (table_at (trees t) t) (at t)
+  pub stands : (t : Table) → TableIsAt schema (table_at (trees t) t) (at t)
   pub apart : IsAscending TreesDiffer schema.tables
   pub refer : RefersAside schema (trees Offset)
 
 -- where the index is of a table of the plan, it is that of its key
-abbrev pub IsOwnIndex : (Table → ℕ) → Index → Type 0
-IsOwnIndex trees i = (t : Table) → i.table ≡ trees t → (uniques t ≡ i.columns ∷ []) × (i.order ≡ plain)
+abbrev pub IsKeyIndex : (Table → ℕ) → Index → Type 0
+IsKeyIndex trees i = (t : Table) → i.table ≡ trees t → (uniques t ≡ i.columns ∷ []) × (i.order ≡ plain)
 
 -- each index of a table of the plan is that of its key
-abbrev pub HasOwnIndexes : Schema → Type 0
-HasOwnIndexes schema = (has : HasTables schema) → AllByRecursion (IsOwnIndex has.trees) schema.indexes
+abbrev pub HasOnlyKeyIndexes : Schema → Type 0
+HasOnlyKeyIndexes schema = (has : HasTables schema) → AllByRecursion (IsKeyIndex has.trees) schema.indexes
 
 abbrev pub no_schema : Schema
 no_schema = record { tables = []; indexes = []; views = [] }

@@ -8,7 +8,7 @@ use Rattle.sqlite.specs.Tree.{Trees}
 use Rattle.sqlite.specs.declared.error.Error.{Error}
 use Rattle.sqlite.specs.declared.transaction.Transaction.{Transaction}
 use Rattle.plan_tables_schema.specs.Rows.{IsPlan, MayFail, Stands, Tables, tables_of}
-use Rattle.plan_tables_schema.specs.Takes.{IsSoundPlan}
+use Rattle.plan_tables_schema.specs.Accepted.{IsSoundPlan}
 
 -- the state of its connection
 abbrev pub seen : {S : Type 0} → Ghosts S → Transaction S → State
@@ -30,7 +30,7 @@ abbrev pub Writes : {S T : Type 0} → Ghosts S → (old new : Transaction S) �
 Writes g old new result after = WritesWhere (λ _. ⊤) g old new result after
 
 -- if the tables of a plan accept it, it fails for nothing that is in them, and an Ok leaves a plan with these
-pub record TakesWhere {S T : Type 0} (Take : Tables → Type 0) (g : Ghosts S) (old new : Transaction S)
+pub record AcceptsWhere {S T : Type 0} (Take : Tables → Type 0) (g : Ghosts S) (old new : Transaction S)
     (result : Result T Error) (after : Tables → Tables) : Type 0 where
   pub fails : HasCleanDisk (seen g new) → IsSoundPlan (seen g old) → Take (tables_of (seen g old).now.trees)
       → IfErr result (MayFail (seen g old) (seen g new))

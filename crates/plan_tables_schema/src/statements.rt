@@ -8,9 +8,9 @@ ghost use Rattle.sqlite.specs.Values.{bound};
 ghost use Rattle.plan_tables_schema.specs.Rows.{AreOfKinds, IsAlone, MayFail, StaysOrIsUndone, shown, tables_of};
 ghost use Rattle.plan_tables_schema.specs.Rows.{with_cells, without_key};
 ghost use Rattle.plan_tables_schema.specs.Schema.{HasTables};
-ghost use Rattle.plan_tables_schema.specs.Takes.{LosesKey, TakesRow};
+ghost use Rattle.plan_tables_schema.specs.Accepted.{LosesKey, AcceptsRow};
 ghost use Rattle.plan_tables_schema.specs.Texts.{insert_sql};
-ghost use Rattle.plan_tables_schema.specs.Writes.{TakesWhere, WritesWhere};
+ghost use Rattle.plan_tables_schema.specs.Writes.{AcceptsWhere, WritesWhere};
 
 use crate::tables::Table;
 use crate::texts::{delete_text, insert_text, select_text};
@@ -32,7 +32,7 @@ pub fn insert<S: Alter>(
     ensures stays_open { HasCleanDisk (state S.Store tx.new.conn.now)
         → IsTrue (state S.Store tx.old.conn.now).in_transaction
         → OnOk result (IsTrue (state S.Store tx.new.conn.now).is_open) }
-    ensures takes { TakesWhere (TakesRow table (bound values.now)) S.Store tx.old tx.new result
+    ensures accepts { AcceptsWhere (AcceptsRow table (bound values.now)) S.Store tx.old tx.new result
         (with_cells table (bound values.now)) }
 {
     tx.execute(insert_text(table), values)?;
@@ -48,7 +48,7 @@ pub fn delete<S: Alter>(
 ) -> Result<(), Error>
     ensures writes { WritesWhere (IsAlone table (bound key.now)) S.Store tx.old tx.new result
         (without_key table (bound key.now)) }
-    ensures takes { TakesWhere (LosesKey table (bound key.now)) S.Store tx.old tx.new result
+    ensures accepts { AcceptsWhere (LosesKey table (bound key.now)) S.Store tx.old tx.new result
         (without_key table (bound key.now)) }
 {
     tx.execute(delete_text(table), key)?;

@@ -22,14 +22,14 @@ use Rattle.planner_machine.specs.declared.content.Bounds.{Bounds}
 use Rattle.plan_store_lists.specs.Rows.{AreRows, look_up, of_current}
 use Rattle.plan_store_lists.proofs.KeyLemmas.{nothing}
 use Rattle.plan_store_lists.proofs.LookLemmas.{look_has, look_some}
-use Rattle.plan_store.specs.Asked.{AsksKey, AsksPlan, ListsDefined}
-use Rattle.plan_store.specs.Noted.{AskedByOne, AsksEach, AsksEnd, AsksRow, IsAsked, IsDefined}
+use Rattle.plan_store.specs.HistoryReads.{ReadsKey, ReadsPlan, ListsDefined}
+use Rattle.plan_store.specs.Noted.{ReadByOne, ReadsEach, ReadsEnd, ReadsRow, IsAsked, IsDefined}
 use Rattle.plan_store.specs.Views.{current_serial}
-use Rattle.plan_tables_windows.specs.Asks.{AddsAsks, IsAskedIn}
-use Rattle.plan_tables_windows.specs.declared.asks.Ask.{Ask}
+use Rattle.plan_tables_windows.specs.Queries.{AddsQueries, IsQueriedIn}
+use Rattle.plan_tables_windows.specs.declared.queries.LastQuery.{LastQuery}
 
 -- by application, then by moment
-abbrev pub ask_cmp : Ask → Ask → Ordering
+abbrev pub ask_cmp : LastQuery → LastQuery → Ordering
 ask_cmp a b = ordering_then (slice_cmp nat_cmp a.app b.app) (nat_cmp a.moment b.moment)
 
 -- only equal asks compare as equal
@@ -41,24 +41,24 @@ ask_ties a b is =
     λ i. record { app = app i; moment = moment i }
 
 -- what an entry of the lists that are defined asks for
-abbrev pub AsksEntry : ℕ → List ℕ × List Predecessor → List ℕ → ℕ → Type 0
-AsksEntry minute entry = AskedByOne (λ (p : Predecessor). IsAsked p.name minute) entry.1
+abbrev pub ReadsEntry : ℕ → List ℕ × List Predecessor → List ℕ → ℕ → Type 0
+ReadsEntry minute entry = ReadByOne (λ (p : Predecessor). IsAsked p.name minute) entry.1
 
 -- nothing is asked for
-pub asks_none : (Asked : List ℕ → ℕ → Type 0) (asks : List Ask)
-    → ((app : List ℕ) (minute : ℕ) → Asked app minute → IsAskedIn asks app minute) → AddsAsks Asked asks asks
+pub asks_none : (Asked : List ℕ → ℕ → Type 0) (asks : List LastQuery)
+    → ((app : List ℕ) (minute : ℕ) → Asked app minute → IsQueriedIn asks app minute) → AddsQueries Asked asks asks
 asks_none Asked asks held = record { stay = λ ask there. there; come = λ ask there. inl there; found = held }
 
 -- one more
-pub asks_one : (asks : List Ask) (app : List ℕ) (moment : ℕ) (ask : Ask) → ask.app ≡ app → ask.moment ≡ moment
-    → AddsAsks (IsAsked app (moment + 1)) asks (asks ++ ask ∷ [])
+pub asks_one : (asks : List LastQuery) (app : List ℕ) (moment : ℕ) (ask : LastQuery) → ask.app ≡ app → ask.moment ≡ moment
+    → AddsQueries (IsAsked app (moment + 1)) asks (asks ++ ask ∷ [])
 asks_one asks app moment ask of at = record {
   stay = λ other there. Contains-append_left asks (ask ∷ []) other there;
   come = λ other there. elim (Contains-push_cases asks ask other there) [
     | inl before ↦ inl before
     | inr same ↦ inr (
-      ap (λ (a : Ask). a.app) (sym same) ∙ of,
-      ap (λ (a : Ask). a.moment + 1) (sym same) ∙ ap (λ n. n + 1) at,
+      ap (λ (a : LastQuery). a.app) (sym same) ∙ of,
+      ap (λ (a : LastQuery). a.moment + 1) (sym same) ∙ ap (λ n. n + 1) at,
     )
   ];
   found = λ of_app minute asked. (
@@ -70,8 +70,8 @@ asks_one asks app moment ask of at = record {
 }
 
 -- the same in another order
-pub asks_same : (Asked : List ℕ → ℕ → Type 0) (old new ordered : List Ask) → AddsAsks Asked old new
-    → ((ask : Ask) → Contains ordered ask ↔ Contains new ask) → AddsAsks Asked old ordered
+pub asks_same : (Asked : List ℕ → ℕ → Type 0) (old new ordered : List LastQuery) → AddsQueries Asked old new
+    → ((ask : LastQuery) → Contains ordered ask ↔ Contains new ask) → AddsQueries Asked old ordered
 asks_same Asked old new ordered adds same = record {
   stay = λ ask there. (same ask).1 (adds.stay ask there);
   come = λ ask there. adds.come ask ((same ask).0 there);
@@ -79,9 +79,9 @@ asks_same Asked old new ordered adds same = record {
 }
 
 -- in other words
-pub asks_as : (P Q : List ℕ → ℕ → Type 0) (old new : List Ask)
+pub asks_as : (P Q : List ℕ → ℕ → Type 0) (old new : List LastQuery)
     → ((app : List ℕ) (minute : ℕ) → P app minute → Q app minute)
-    → ((app : List ℕ) (minute : ℕ) → Q app minute → P app minute) → AddsAsks P old new → AddsAsks Q old new
+    → ((app : List ℕ) (minute : ℕ) → Q app minute → P app minute) → AddsQueries P old new → AddsQueries Q old new
 asks_as P Q old new to from adds = record {
   stay = adds.stay;
   come = λ ask there. elim (adds.come ask there) [
@@ -92,8 +92,8 @@ asks_as P Q old new to from adds = record {
 }
 
 -- one after the other
-pub asks_then : (P Q : List ℕ → ℕ → Type 0) (a b c : List Ask) → AddsAsks P a b → AddsAsks Q b c
-    → AddsAsks (λ app minute. P app minute ⊎ Q app minute) a c
+pub asks_then : (P Q : List ℕ → ℕ → Type 0) (a b c : List LastQuery) → AddsQueries P a b → AddsQueries Q b c
+    → AddsQueries (λ app minute. P app minute ⊎ Q app minute) a c
 asks_then P Q a b c first second = record {
   stay = λ ask there. second.stay ask (first.stay ask there);
   come = λ ask there. elim (second.come ask there) [
@@ -108,10 +108,10 @@ asks_then P Q a b c first second = record {
 
 module _ {X : Type 0} (Asks : X → List ℕ → ℕ → Type 0) where
   -- what one more asks for
-  pub asks_more : (xs : List X) (x : X) (a b c : List Ask) → AddsAsks (AskedByOne Asks xs) a b
-      → AddsAsks (Asks x) b c → AddsAsks (AskedByOne Asks (xs ++ x ∷ [])) a c
-  asks_more xs x a b c first second = asks_as (λ app minute. AskedByOne Asks xs app minute ⊎ Asks x app minute)
-      (AskedByOne Asks (xs ++ x ∷ [])) a c
+  pub asks_more : (xs : List X) (x : X) (a b c : List LastQuery) → AddsQueries (ReadByOne Asks xs) a b
+      → AddsQueries (Asks x) b c → AddsQueries (ReadByOne Asks (xs ++ x ∷ [])) a c
+  asks_more xs x a b c first second = asks_as (λ app minute. ReadByOne Asks xs app minute ⊎ Asks x app minute)
+      (ReadByOne Asks (xs ++ x ∷ [])) a c
       (λ app minute asked. elim asked [
         | inl one ↦ (one.0, Contains-append_left xs (x ∷ []) one.0 one.1, one.2)
         | inr two ↦ (x, Contains-push xs x, two)
@@ -119,22 +119,22 @@ module _ {X : Type 0} (Asks : X → List ℕ → ℕ → Type 0) where
       (λ app minute (y, there, asks). elim (Contains-push_cases xs x y there) [
         | inl before ↦ inl (y, before, asks)
         | inr same ↦ inr (subst (λ z. Asks z app minute) (sym same) asks)
-      ]) (asks_then (AskedByOne Asks xs) (Asks x) a b c first second)
+      ]) (asks_then (ReadByOne Asks xs) (Asks x) a b c first second)
 
   -- one more that asks for nothing
-  pub asks_skip : (xs : List X) (x : X) (a b : List Ask)
-      → ((app : List ℕ) (minute : ℕ) → Asks x app minute → ⊥) → AddsAsks (AskedByOne Asks xs) a b
-      → AddsAsks (AskedByOne Asks (xs ++ x ∷ [])) a b
+  pub asks_skip : (xs : List X) (x : X) (a b : List LastQuery)
+      → ((app : List ℕ) (minute : ℕ) → Asks x app minute → ⊥) → AddsQueries (ReadByOne Asks xs) a b
+      → AddsQueries (ReadByOne Asks (xs ++ x ∷ [])) a b
   asks_skip xs x a b nothing first = asks_more xs x a b b first
       (asks_none (Asks x) b (λ app minute asks. absurd (nothing app minute asks)))
 
 -- the applications of a list, from its links
-pub asks_list : (links list : List Link) (naming : List ℕ) (minute : ℕ) (a b : List Ask)
+pub asks_list : (links list : List Link) (naming : List ℕ) (minute : ℕ) (a b : List LastQuery)
     → ((link : Link) → Contains list link ↔ (Contains links link × (link.app ≡ naming)))
-    → AddsAsks (AskedByOne (λ (link : Link). IsAsked link.predecessor minute) list) a b
-    → AddsAsks (AsksEach (Lists links naming) minute) a b
+    → AddsQueries (ReadByOne (λ (link : Link). IsAsked link.predecessor minute) list) a b
+    → AddsQueries (ReadsEach (Lists links naming) minute) a b
 asks_list links list naming minute a b is = asks_as
-    (AskedByOne (λ (link : Link). IsAsked link.predecessor minute) list) (AsksEach (Lists links naming) minute) a b
+    (ReadByOne (λ (link : Link). IsAsked link.predecessor minute) list) (ReadsEach (Lists links naming) minute) a b
     (λ app m (link, there, asked).
     let own = (is link).0 there in
     let same : link ≡ record { app = naming; predecessor = app; within = link.within } =
@@ -145,12 +145,12 @@ asks_list links list naming minute a b is = asks_as
     (link, (is link).1 (listed.1, refl), (refl, at)))
 
 -- from the list that is defined
-pub asks_defined : (all : Definitions) (naming : List ℕ) (listed : List Predecessor) (minute : ℕ) (a b : List Ask)
+pub asks_defined : (all : Definitions) (naming : List ℕ) (listed : List Predecessor) (minute : ℕ) (a b : List LastQuery)
     → map.get all.predecessors naming ≡ Some listed
-    → AddsAsks (AskedByOne (λ (p : Predecessor). IsAsked p.name minute) listed) a b
-    → AddsAsks (AsksEach (ListsDefined all naming) minute) a b
+    → AddsQueries (ReadByOne (λ (p : Predecessor). IsAsked p.name minute) listed) a b
+    → AddsQueries (ReadsEach (ListsDefined all naming) minute) a b
 asks_defined all naming listed minute a b is = asks_as
-    (AskedByOne (λ (p : Predecessor). IsAsked p.name minute) listed) (AsksEach (ListsDefined all naming) minute) a b
+    (ReadByOne (λ (p : Predecessor). IsAsked p.name minute) listed) (ReadsEach (ListsDefined all naming) minute) a b
     (λ app m (p, there, asked).
     let same : p ≡ record { name = app; within = p.within } =
     λ i. record { name = sym asked.0 i; within = p.within } in
@@ -163,9 +163,9 @@ asks_defined all naming listed minute a b is = asks_as
     let p : Predecessor = record { name = app; within = within } in
     (p, subst (λ ps. Contains ps p) one has, (refl, at)))
 
-pub asks_undefined : (all : Definitions) (naming : List ℕ) (minute : ℕ) (a : List Ask)
-    → map.get all.predecessors naming ≡ None → AddsAsks (AsksEach (ListsDefined all naming) minute) a a
-asks_undefined all naming minute a none = asks_none (AsksEach (ListsDefined all naming) minute) a
+pub asks_undefined : (all : Definitions) (naming : List ℕ) (minute : ℕ) (a : List LastQuery)
+    → map.get all.predecessors naming ≡ None → AddsQueries (ReadsEach (ListsDefined all naming) minute) a a
+asks_undefined all naming minute a none = asks_none (ReadsEach (ListsDefined all naming) minute) a
     (λ app m (at, defined).
     let (within, by_all) = defined in
     let (others, there, has) = by_all in
@@ -176,16 +176,16 @@ asks_undefined all naming minute a none = asks_none (AsksEach (ListsDefined all 
     some_none xs is = cc
 
 -- no entry
-pub no_entries : (minute : ℕ) (a : List Ask) → AddsAsks (AskedByOne (AsksEntry minute) []) a a
-no_entries minute a = asks_none (AskedByOne (AsksEntry minute) []) a
+pub no_entries : (minute : ℕ) (a : List LastQuery) → AddsQueries (ReadByOne (ReadsEntry minute) []) a a
+no_entries minute a = asks_none (ReadByOne (ReadsEntry minute) []) a
     (λ app m (entry, (k, lt, at), asked). absurd (omega arith))
 
 -- all entries
-pub asks_entries : (all : Definitions) (entries : List (List ℕ × List Predecessor)) (minute : ℕ) (a b : List Ask)
-    → AreEntriesOf entries all.predecessors → AddsAsks (AskedByOne (AsksEntry minute) entries) a b
-    → AddsAsks (AsksEach (IsDefined all) minute) a b
-asks_entries all entries minute a b are = asks_as (AskedByOne (AsksEntry minute) entries)
-    (AsksEach (IsDefined all) minute) a b
+pub asks_entries : (all : Definitions) (entries : List (List ℕ × List Predecessor)) (minute : ℕ) (a b : List LastQuery)
+    → AreEntriesOf entries all.predecessors → AddsQueries (ReadByOne (ReadsEntry minute) entries) a b
+    → AddsQueries (ReadsEach (IsDefined all) minute) a b
+asks_entries all entries minute a b are = asks_as (ReadByOne (ReadsEntry minute) entries)
+    (ReadsEach (IsDefined all) minute) a b
     (λ app m (entry, there, by_entry).
     let (p, has, asked) = by_entry in
     let same : p ≡ record { name = app; within = p.within } =
@@ -213,12 +213,12 @@ asks_entries all entries minute a b are = asks_as (AskedByOne (AsksEntry minute)
     ))
 
 -- what a row that waits asks for
-pub asks_row : (links : List Link) (all : Definitions) (current : CurrentRow) (a b c : List Ask)
-    → current.status ≡ W → AddsAsks (AsksEach (Lists links current.row.key.app) (current.row.key.ia + 1)) a b
-    → AddsAsks (AsksEach (ListsDefined all current.row.key.app) (current.row.key.ia + 1)) b c
-    → AddsAsks (AsksRow links all current) a c
+pub asks_row : (links : List Link) (all : Definitions) (current : CurrentRow) (a b c : List LastQuery)
+    → current.status ≡ W → AddsQueries (ReadsEach (Lists links current.row.key.app) (current.row.key.ia + 1)) a b
+    → AddsQueries (ReadsEach (ListsDefined all current.row.key.app) (current.row.key.ia + 1)) b c
+    → AddsQueries (ReadsRow links all current) a c
 asks_row links all current a b c waits one two = asks_as
-    (λ app m. InForce app m ⊎ Defined app m) (AsksRow links all current) a c
+    (λ app m. InForce app m ⊎ Defined app m) (ReadsRow links all current) a c
     (λ app m asked. elim asked [
       | inl listed ↦ (waits, (listed.0, inl listed.1))
       | inr defined ↦ (waits, (defined.0, inr defined.1))
@@ -227,26 +227,26 @@ asks_row links all current a b c waits one two = asks_as
     (asks_then InForce Defined a b c one two)
   where
     InForce : List ℕ → ℕ → Type 0
-    InForce = AsksEach (Lists links current.row.key.app) (current.row.key.ia + 1)
+    InForce = ReadsEach (Lists links current.row.key.app) (current.row.key.ia + 1)
 
     Defined : List ℕ → ℕ → Type 0
-    Defined = AsksEach (ListsDefined all current.row.key.app) (current.row.key.ia + 1)
+    Defined = ReadsEach (ListsDefined all current.row.key.app) (current.row.key.ia + 1)
 
 -- what is asked for at the plan end
 module _ (links : List Link) (all : Definitions) (bounds : Bounds) where
-  abbrev pub AsksNamed : List ℕ → ℕ → Type 0
-  AsksNamed = AskedByOne (λ (link : Link). IsAsked link.predecessor (bounds.plan_end + 1)) links
+  abbrev pub ReadsNamed : List ℕ → ℕ → Type 0
+  ReadsNamed = ReadByOne (λ (link : Link). IsAsked link.predecessor (bounds.plan_end + 1)) links
 
-  end_to : (app : List ℕ) (m : ℕ) → AsksNamed app m ⊎ AsksEach (IsDefined all) (bounds.plan_end + 1) app m
-      → AsksEnd links all (Some bounds) app m
+  end_to : (app : List ℕ) (m : ℕ) → ReadsNamed app m ⊎ ReadsEach (IsDefined all) (bounds.plan_end + 1) app m
+      → ReadsEnd links all (Some bounds) app m
   end_to app m (inl (link, there, asked)) =
       let same : link ≡ record { app = link.app; predecessor = app; within = link.within } =
       λ i. record { app = link.app; predecessor = sym asked.0 i; within = link.within } in
       (bounds, refl, (asked.1, (link.app, inl (link.within, subst (λ (l : Link). Contains links l) same there))))
   end_to app m (inr (at, (naming, listed))) = (bounds, refl, (at, (naming, inr listed)))
 
-  end_from : (app : List ℕ) (m : ℕ) → AsksEnd links all (Some bounds) app m
-      → AsksNamed app m ⊎ AsksEach (IsDefined all) (bounds.plan_end + 1) app m
+  end_from : (app : List ℕ) (m : ℕ) → ReadsEnd links all (Some bounds) app m
+      → ReadsNamed app m ⊎ ReadsEach (IsDefined all) (bounds.plan_end + 1) app m
   end_from app m (known, is, (at, (naming, either))) =
       let one : bounds ≡ known = cc in
       let here : m ≡ bounds.plan_end + 1 = at ∙ ap (λ (x : Bounds). x.plan_end + 1) (sym one) in
@@ -255,43 +255,43 @@ module _ (links : List Link) (all : Definitions) (bounds : Bounds) where
         | inr defined ↦ inr (here, (naming, defined))
       ]
 
-  pub asks_end : (a b c : List Ask) → AddsAsks AsksNamed a b
-      → AddsAsks (AsksEach (IsDefined all) (bounds.plan_end + 1)) b c
-      → AddsAsks (AsksEnd links all (Some bounds)) a c
+  pub asks_end : (a b c : List LastQuery) → AddsQueries ReadsNamed a b
+      → AddsQueries (ReadsEach (IsDefined all) (bounds.plan_end + 1)) b c
+      → AddsQueries (ReadsEnd links all (Some bounds)) a c
   asks_end a b c one two = asks_as
-      (λ app m. AsksNamed app m ⊎ AsksEach (IsDefined all) (bounds.plan_end + 1) app m)
-      (AsksEnd links all (Some bounds)) a c end_to end_from (asks_then AsksNamed (AsksEach (IsDefined all) (bounds.plan_end + 1)) a b c one two)
+      (λ app m. ReadsNamed app m ⊎ ReadsEach (IsDefined all) (bounds.plan_end + 1) app m)
+      (ReadsEnd links all (Some bounds)) a c end_to end_from (asks_then ReadsNamed (ReadsEach (IsDefined all) (bounds.plan_end + 1)) a b c one two)
 
 -- nothing, where there is no plan
-pub no_end : (links : List Link) (all : Definitions) (a : List Ask) → AddsAsks (AsksEnd links all None) a a
-no_end links all a = asks_none (AsksEnd links all None) a (λ app m (known, is, asks). absurd (none_some known is))
+pub no_end : (links : List Link) (all : Definitions) (a : List LastQuery) → AddsQueries (ReadsEnd links all None) a a
+no_end links all a = asks_none (ReadsEnd links all None) a (λ app m (known, is, asks). absurd (none_some known is))
   where
     none_some : (known : Bounds) → (let none : Option Bounds = None in none) ≡ Some known → ⊥
     none_some known same = cc
 
 -- what a statement on the key asks
-pub asks_key : (c : Content) (key : Key) (a b d : List Ask)
-    → AddsAsks (IsAsked key.app (key.ia + 1)) a b → AddsAsks (AsksEach (Lists c.in_force key.app) (key.ia + 1)) b d
-    → AddsAsks (AsksKey c key) a d
+pub asks_key : (c : Content) (key : Key) (a b d : List LastQuery)
+    → AddsQueries (IsAsked key.app (key.ia + 1)) a b → AddsQueries (ReadsEach (Lists c.in_force key.app) (key.ia + 1)) b d
+    → AddsQueries (ReadsKey c key) a d
 asks_key c key a b d own listed = asks_as (λ app m. IsAsked key.app (key.ia + 1) app m ⊎ Listed app m)
-    (AsksKey c key) a d
+    (ReadsKey c key) a d
     (λ app m asked. elim asked [ inl at ↦ (at.1, inl at.0) | inr lists ↦ (lists.0, inr lists.1) ])
     (λ app m (at, either). elim either [ inl same ↦ inl (same, at) | inr lists ↦ inr (at, lists) ])
     (asks_then (IsAsked key.app (key.ia + 1)) Listed a b d own listed)
   where
     Listed : List ℕ → ℕ → Type 0
-    Listed = AsksEach (Lists c.in_force key.app) (key.ia + 1)
+    Listed = ReadsEach (Lists c.in_force key.app) (key.ia + 1)
 
 -- what a statement on the long-term plan asks
 module _ (c : Content) (cp : List CurrentRow) (cp_rows : AreRows of_current cp)
     (cp_is : c.sets.cp ≡ look_up current_serial cp) where
-  abbrev AsksCurrent : List ℕ → ℕ → Type 0
-  AsksCurrent = AskedByOne (AsksRow c.in_force c.definitions) cp
+  abbrev ReadsCurrent : List ℕ → ℕ → Type 0
+  ReadsCurrent = ReadByOne (ReadsRow c.in_force c.definitions) cp
 
   abbrev AtEnd : List ℕ → ℕ → Type 0
-  AtEnd = AsksEnd c.in_force c.definitions c.sets.bounds
+  AtEnd = ReadsEnd c.in_force c.definitions c.sets.bounds
 
-  plan_to : (app : List ℕ) (minute : ℕ) → AsksCurrent app minute ⊎ AtEnd app minute → AsksPlan c app minute
+  plan_to : (app : List ℕ) (minute : ℕ) → ReadsCurrent app minute ⊎ AtEnd app minute → ReadsPlan c app minute
   plan_to app minute (inl (x, there, is_asked)) =
       let waits = is_asked.0 in
       let same : x ≡ record { row = x.row; status = W } = λ i. record { row = x.row; status = waits i } in
@@ -301,7 +301,7 @@ module _ (c : Content) (cp : List CurrentRow) (cp_rows : AreRows of_current cp)
       inl (x.row, stands, is_asked.1.0, is_asked.1.1)
   plan_to app minute (inr (bounds, is, asks)) = inr (bounds, is, asks.0, asks.1)
 
-  plan_from : (app : List ℕ) (minute : ℕ) → AsksPlan c app minute → AsksCurrent app minute ⊎ AtEnd app minute
+  plan_from : (app : List ℕ) (minute : ℕ) → ReadsPlan c app minute → ReadsCurrent app minute ⊎ AtEnd app minute
   plan_from app minute (inl (row, stands, at, lists)) =
       let x : CurrentRow = record { row = row; status = W } in
       let there = (look_some current_serial cp row.serial x
@@ -309,21 +309,21 @@ module _ (c : Content) (cp : List CurrentRow) (cp_rows : AreRows of_current cp)
       inl (x, there, (refl, (at, lists)))
   plan_from app minute (inr (bounds, is, at, named)) = inr (bounds, is, (at, named))
 
-  pub asks_plan : (a b d : List Ask) → AddsAsks AsksCurrent a b → AddsAsks AtEnd b d
-      → AddsAsks (AsksPlan c) a d
-  asks_plan a b d current ends = asks_as (λ app minute. AsksCurrent app minute ⊎ AtEnd app minute)
-      (AsksPlan c) a d plan_to plan_from (asks_then AsksCurrent AtEnd a b d current ends)
+  pub asks_plan : (a b d : List LastQuery) → AddsQueries ReadsCurrent a b → AddsQueries AtEnd b d
+      → AddsQueries (ReadsPlan c) a d
+  asks_plan a b d current ends = asks_as (λ app minute. ReadsCurrent app minute ⊎ AtEnd app minute)
+      (ReadsPlan c) a d plan_to plan_from (asks_then ReadsCurrent AtEnd a b d current ends)
 
 -- what a list has that was made from nothing
 module _ {E : Type 0} (Asked Asks : List ℕ → ℕ → Type 0) (same : Asks ≡ Asked) where
-  pub asks_found : (r : Result (Vec Ask Global) E) → IfOk r (λ asks. AddsAsks Asked [] asks.items)
-      → IfOk r (λ asks. (app : List ℕ) (minute : ℕ) → Asks app minute → IsAskedIn asks.items app minute)
+  pub asks_found : (r : Result (Vec LastQuery Global) E) → IfOk r (λ asks. AddsQueries Asked [] asks.items)
+      → IfOk r (λ asks. (app : List ℕ) (minute : ℕ) → Asks app minute → IsQueriedIn asks.items app minute)
   asks_found (Ok asks) adds = λ app minute asked. adds.found app minute
       (subst (λ (P : List ℕ → ℕ → Type 0). P app minute) same asked)
   asks_found (Err e) adds = tt
 
-  pub asks_only : (r : Result (Vec Ask Global) E) → IfOk r (λ asks. AddsAsks Asked [] asks.items)
-      → IfOk r (λ asks. (ask : Ask) → Contains asks.items ask → Asks ask.app (ask.moment + 1))
+  pub asks_only : (r : Result (Vec LastQuery Global) E) → IfOk r (λ asks. AddsQueries Asked [] asks.items)
+      → IfOk r (λ asks. (ask : LastQuery) → Contains asks.items ask → Asks ask.app (ask.moment + 1))
   asks_only (Ok asks) adds = λ ask there. elim (adds.come ask there) [
     | inl none ↦ absurd (nothing ask none)
     | inr asked ↦ subst (λ (P : List ℕ → ℕ → Type 0). P ask.app (ask.moment + 1)) (sym same) asked

@@ -19,16 +19,16 @@ use Rattle.plan_tables_schema.proofs.ResultLemmas.{still_ok}
 use Rattle.plan_tables_queries.specs.Deletions.{AreGoneFrom}
 use Rattle.plan_tables_queries.specs.Finding.{FindsFact}
 use Rattle.plan_tables_queries.specs.declared.faults.LookupFault.{LookupFault}
-use Rattle.plan_tables_windows.specs.Bringing.{Brings, BringsEach, HasGoneFrom, Stand}
-use Rattle.plan_tables_windows.specs.Gathering.{Gathers, Grows, rest_in}
-use Rattle.plan_tables_windows.proofs.BringLemmas.{brings_either, brings_ok, deleted_grows, numbered_deletion}
+use Rattle.plan_tables_windows.specs.Loading.{Loads, LoadsEach, HasGoneFrom, Stand}
+use Rattle.plan_tables_windows.specs.Fetching.{Fetches, Grows, rest_in}
+use Rattle.plan_tables_windows.proofs.LoadLemmas.{brings_either, brings_ok, deleted_grows, numbered_deletion}
 use Rattle.plan_tables_windows.proofs.EachLemmas.{no_item}
-use Rattle.plan_tables_windows.proofs.GatherLemmas.{as_before, gathers_found, grows_then}
+use Rattle.plan_tables_windows.proofs.FetchLemmas.{as_before, gathers_found, grows_then}
 use Rattle.plan_tables_windows.proofs.SetLemmas.{deletion_found_set}
 
 -- ---- one after another
 
-pub brings_none : (c : Content) → BringsEach [] c c (Ok tt)
+pub brings_none : (c : Content) → LoadsEach [] c c (Ok tt)
 brings_none c = record {
   grows = as_before c;
   part = λ rest stand part. part;
@@ -38,7 +38,7 @@ brings_none c = record {
 
 module _ (deletions : List Deletion) (deletion : Deletion) (was lists now : Content)
     (result : Result (Unit {0}) LookupFault)
-    (one : BringsEach deletions was lists (Ok tt)) (two : Brings (with_deleted deletion lists) lists now result) where
+    (one : LoadsEach deletions was lists (Ok tt)) (two : Loads (with_deleted deletion lists) lists now result) where
   abbrev after : Content
   after = with_deleted deletion lists
 
@@ -63,7 +63,7 @@ module _ (deletions : List Deletion) (deletion : Deletion) (was lists now : Cont
           (deleted_has rest lists deletion here mid)
     ]
 
-  pub brings_more : BringsEach all was now result
+  pub brings_more : LoadsEach all was now result
   brings_more = record {
     grows = grows_then was lists now one.grows (brings_either after lists now result (Grows lists) two
         (deleted_grows lists deletion) (as_before lists));
@@ -78,7 +78,7 @@ module _ (deletions : List Deletion) (deletion : Deletion) (was lists now : Cont
 -- where memory was refused, it was refused for more
 pub brings_part : (some every : List Deletion) (was now : Content) (fault : LookupFault)
     → ((deletion : Deletion) → Contains some deletion → Contains every deletion)
-    → BringsEach some was now (Err fault) → BringsEach every was now (Err fault)
+    → LoadsEach some was now (Err fault) → LoadsEach every was now (Err fault)
 brings_part some every was now fault within is = record {
   grows = is.grows;
   part = λ rest stand. is.part rest (λ deletion there. stand deletion (within deletion there));
@@ -104,7 +104,7 @@ bars_so moment d is =
 
 module _ {S X : Type 0} (g : Ghosts S) (old new : Held S) (moment : ℕ) (found : X) (list_of : X → List Deletion)
     (was now : Content) (result : Result (Unit {0}) LookupFault)
-    (each : BringsEach (list_of found) was now result) where
+    (each : LoadsEach (list_of found) was now result) where
   abbrev tables : Tables
   tables = tables_of (state g old).now.trees
 
@@ -131,7 +131,7 @@ module _ {S X : Type 0} (g : Ghosts S) (old new : Held S) (moment : ℕ) (found 
         subst (λ n. now.sets.deletions n ≡ Some deletion) (numbered_deletion tables serial deletion at)
         (has deletion there))
 
-  pub gathers_bars : FindsFact g old new (Ok found) AreFound → Gathers g old new was now result (HasGoneFrom moment)
+  pub gathers_bars : FindsFact g old new (Ok found) AreFound → Fetches g old new was now result (HasGoneFrom moment)
   gathers_bars finds = gathers_found g old new AreFound was (HasGoneFrom moment) found finds now each.grows result
       each.memory (λ of part are. (
         each.part rest (stand are) part,

@@ -10,8 +10,8 @@ use Rattle.planner_machine.specs.Content.{Content}
 use Rattle.plan_store.specs.Parts.{IsPartOf, Knows, KnowsDeletion, Rest}
 use Rattle.plan_tables_windows.specs.Unknown.{HasMore}
 use Rattle.plan_tables_queries.specs.declared.faults.LookupFault.{LookupFault}
-use Rattle.plan_tables_windows.specs.Gathering.{Gathers}
-use Rattle.plan_tables_windows.proofs.GatherLemmas.{gathers_none, gathers_stopped, gathers_then}
+use Rattle.plan_tables_windows.specs.Fetching.{Fetches}
+use Rattle.plan_tables_windows.proofs.FetchLemmas.{gathers_none, gathers_stopped, gathers_then}
 
 -- each of them is so
 abbrev pub Each : {X : Type 0} → (X → Rest → Content → Type 0) → List X → Rest → Content → Type 0
@@ -25,15 +25,15 @@ of_front n xs x there = subst (λ l. Contains l x) (take-append-drop n xs)
     (Contains-append_left (take n xs) (drop n xs) x there)
 
 module _ {S X : Type 0} (g : Ghosts S) (Is : X → Rest → Content → Type 0) where
-  pub each_none : (held : Held S) (c : Content) → Gathers {T = Unit {0}} g held held c c (Ok tt) (Each Is [])
+  pub each_none : (held : Held S) (c : Content) → Fetches {T = Unit {0}} g held held c c (Ok tt) (Each Is [])
   each_none held c = gathers_none g held c (Ok tt) (Each Is []) tt (λ rest part sound x there. absurd (no_item x there))
 
   module _ (still : (x : X) (rest : Rest) (a b : Content) → IsPartOf rest b → HasMore rest a b → Is x rest a
       → Is x rest b)
       (old mid new : Held S) (was lists now : Content) (xs : List X) (x : X)
-      (one : Gathers {T = Unit {0}} g old mid was lists (Ok tt) (Each Is xs)) where
-    pub each_more : Gathers {T = Unit {0}} g mid new lists now (Ok tt) (Is x)
-        → Gathers {T = Unit {0}} g old new was now (Ok tt) (Each Is (xs ++ x ∷ []))
+      (one : Fetches {T = Unit {0}} g old mid was lists (Ok tt) (Each Is xs)) where
+    pub each_more : Fetches {T = Unit {0}} g mid new lists now (Ok tt) (Is x)
+        → Fetches {T = Unit {0}} g old new was now (Ok tt) (Each Is (xs ++ x ∷ []))
     each_more two = gathers_then g old mid new was lists now (Ok tt) (Each Is xs) (Is x) (Each Is (xs ++ x ∷ [])) one
         two (λ rest part more before here y there. elim (Contains-push_cases xs x y there) [
           | inl earlier ↦ still y rest lists now part more (before y earlier)
@@ -41,8 +41,8 @@ module _ {S X : Type 0} (g : Ghosts S) (Is : X → Rest → Content → Type 0) 
         ])
 
     pub each_stops : (fault : LookupFault) (R : Rest → Content → Type 0)
-        → Gathers {T = Unit {0}} g mid new lists now (Err fault) (Is x)
-        → Gathers {T = Unit {0}} g old new was now (Err fault) R
+        → Fetches {T = Unit {0}} g mid new lists now (Err fault) (Is x)
+        → Fetches {T = Unit {0}} g old new was now (Err fault) R
     each_stops fault R two = gathers_stopped g old new was now fault (λ _ _. Unit {0}) R
         (gathers_then g old mid new was lists now (Err fault) (Each Is xs) (Is x) (λ _ _. Unit {0}) one two
         (λ _ _ _ _ _. tt))

@@ -7,7 +7,7 @@ mod UnknownLemmas
 pub mod WindowLemmas
 mod SetLemmas
 pub mod BarLemmas
-pub mod BringLemmas
+pub mod LoadLemmas
 pub mod EachLemmas
-pub mod GatherLemmas
+pub mod FetchLemmas
 pub mod NeedLemmas

@@ -7,18 +7,18 @@ use Rattle.occurrences.specs.declared.place.Reason.TheVariants.{Operator}
 use Rattle.occurrences.specs.declared.key.Key.{Key}
 use Rattle.planner_machine.specs.Content.{Content}
 use Rattle.planner_machine.specs.declared.content.Bounds.{Bounds}
-use Rattle.plan_store.specs.Asked.{AsksKey, HasLast}
+use Rattle.plan_store.specs.HistoryReads.{ReadsKey, HasLast}
 use Rattle.plan_store.specs.Parts.{HasBars, IsPartOf, Knows, KnowsDeletion, Rest}
 use Rattle.plan_store.specs.Views.{Asks, bars, bars_from, is_by_operator}
 use Rattle.plan_store.specs.declared.stores.Need.{Need}
 use Rattle.plan_store.specs.declared.stores.Need.TheVariants as need
-use Rattle.plan_tables_windows.specs.Asks.{IsAskedIn}
+use Rattle.plan_tables_windows.specs.Queries.{IsQueriedIn}
 use Rattle.plan_tables_windows.specs.Unknown.{HasMore}
 use Rattle.plan_tables_windows.specs.Windows.{HasLastsOf, IsReadyFor, KnowsLive}
-use Rattle.plan_tables_windows.specs.declared.asks.Ask.{Ask}
-use Rattle.plan_tables_windows.specs.Bringing.{IsAnswered, KnowsAll, ends_by}
+use Rattle.plan_tables_windows.specs.declared.queries.LastQuery.{LastQuery}
+use Rattle.plan_tables_windows.specs.Loading.{IsAnswered, KnowsAll, ends_by}
 use Rattle.plan_tables_windows.proofs.BarLemmas.{bars_so}
-use Rattle.plan_tables_windows.proofs.BringLemmas.{last_still}
+use Rattle.plan_tables_windows.proofs.LoadLemmas.{last_still}
 use Rattle.plan_tables_windows.proofs.EachLemmas.{Each, knows_still}
 
 -- ---- the last rows
@@ -33,12 +33,12 @@ asks_back need.LongTerm rest was now more app minute asked =
     subst (λ (c : Content). Asks need.LongTerm c app minute) more.same asked
 asks_back (need.Daily t) rest was now more app minute asked = asked
 
-pub answered_still : (ask : Ask) (rest : Rest) (a b : Content) → IsPartOf rest b → HasMore rest a b
+pub answered_still : (ask : LastQuery) (rest : Rest) (a b : Content) → IsPartOf rest b → HasMore rest a b
     → IsAnswered ask rest a → IsAnswered ask rest b
 answered_still ask rest a b part more = last_still rest a b ask.app (ask.moment + 1) more
 
-pub asked_found : (n : Need) (rest : Rest) (was now : Content) (asks : List Ask)
-    → ((app : List ℕ) (minute : ℕ) → Asks n was app minute → IsAskedIn asks app minute) → HasMore rest was now
+pub asked_found : (n : Need) (rest : Rest) (was now : Content) (asks : List LastQuery)
+    → ((app : List ℕ) (minute : ℕ) → Asks n was app minute → IsQueriedIn asks app minute) → HasMore rest was now
     → Each IsAnswered asks rest now → HasLastsOf (Asks n now) rest now
 asked_found n rest was now asks found more answered app minute asked =
     let (ask, there, is_app, is_minute) = found app minute (asks_back n rest was now more app minute asked) in
@@ -53,7 +53,7 @@ lasts_still n rest a b more has app minute asked =
 -- ---- a key, and the long-term plan
 
 pub key_ready : (key : Key) (rest : Rest) (a b : Content) → HasMore rest a b
-    → HasLastsOf (Asks (need.Key key) a) rest a → (HasLastsOf (AsksKey a key) rest a → KnowsLive rest key b)
+    → HasLastsOf (Asks (need.Key key) a) rest a → (HasLastsOf (ReadsKey a key) rest a → KnowsLive rest key b)
     → IsReadyFor rest (need.Key key) b
 key_ready key rest a b more has knows = (lasts_still (need.Key key) rest a b more has, knows has)
 

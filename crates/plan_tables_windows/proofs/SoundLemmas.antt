@@ -7,7 +7,7 @@ use Rattle.std.proofs.lemmas.Bool.{false≢true}
 use Rattle.occurrences.specs.declared.place.Place.TheVariants.{History}
 use Rattle.occurrences.specs.declared.row.Row.{Row}
 use Rattle.external_dependencies.specs.declared.pairs.Pair.{Pair}
-use Rattle.planner_machine.specs.Content.{Content, Seat, Sets, StandsAt}
+use Rattle.planner_machine.specs.Content.{Content, Seat, Sets, IsOnlyAt}
 use Rattle.planner_machine.specs.Sound.{AreNumbered, HaveOwnKeys, IsSound}
 use Rattle.planner_machine.proofs.SeatLemmas.{not_empty}
 use Rattle.plan_store.specs.Parts.{is_planned}
@@ -89,7 +89,7 @@ module _ (c : Content) (sound : ∥ IsSound c ∥₁) (serial : ℕ) where
   past_pairs past pair there of = ∥∥₁_elim sound no_prop (λ (h : IsSound c).
       let empty = h.serials.unissued serial (inr past) in
       elim ((h.pairs.settled.exactly pair).0 there) [
-        | inl waits ↦ not_empty c.sets serial waits.placed (subst (λ n. StandsAt c.sets n waits.placed) of waits.stands)
+        | inl waits ↦ not_empty c.sets serial waits.placed (subst (λ n. IsOnlyAt c.sets n waits.placed) of waits.stands)
             empty
-        | inr kept ↦ not_empty c.sets serial kept.placed (subst (λ n. StandsAt c.sets n kept.placed) of kept.stands) empty
+        | inr kept ↦ not_empty c.sets serial kept.placed (subst (λ n. IsOnlyAt c.sets n kept.placed) of kept.stands) empty
       ])

@@ -12,7 +12,7 @@ use Rattle.planner_machine.specs.Content.{Content}
 use Rattle.planner_machine.specs.Sound.{IsSound}
 use Rattle.plan_store_lists.specs.Rows.{of_current, of_row}
 use Rattle.plan_store_lists.proofs.KeyLemmas.{nothing}
-use Rattle.plan_store.specs.Asked.{AsksKey}
+use Rattle.plan_store.specs.HistoryReads.{ReadsKey}
 use Rattle.plan_store.specs.Parts.{HasBars, IsPartOf, Knows, KnowsDeletion, Rest, is_planned, with_rest}
 use Rattle.plan_store.specs.declared.changes.Change.{Change}
 use Rattle.plan_tables_windows.specs.Changes.{KnowsNamed, KnowsPairsOf}
@@ -247,7 +247,7 @@ module _ (c : Content) (key : Key) (rows : List Row) (serials : List ℕ)
     (adds : AddsUnsettled (is_settled c.sets) (IsPredecessorOfRow c rows) [] serials)
     (all : (row : Row) → (c.sets.history row.serial ≡ Some row) × (row.key ≡ key) → Contains rows row) where
   pub finds_live : FindsOut c serials []
-      (λ rest more. HasLastsOf (AsksKey c key) rest c → KnowsLive rest key more)
+      (λ rest more. HasLastsOf (ReadsKey c key) rest c → KnowsLive rest key more)
   finds_live rest more has mere sound knows _ lasts serial row stands keyed pair there of =
       let part = part_is rest more mere in
       let own = own_sound (with_rest rest more) sound in

@@ -13,10 +13,10 @@ use Rattle.planner_machine.specs.Content.{Content}
 use Rattle.planner_machine.specs.Moves.{has_key, keep}
 use Rattle.planner_machine.specs.Sound.{IsSound}
 use Rattle.plan_store_lists.proofs.KeyLemmas.{contains_filter, nothing}
-use Rattle.plan_store.specs.Asked.{AsksKey, AsksPlan, HasLast, HasLasts, IsLastOf, IsNoLater}
+use Rattle.plan_store.specs.HistoryReads.{ReadsKey, ReadsPlan, HasLast, HasLasts, IsLastOf, IsNoLater}
 use Rattle.plan_store.specs.Parts.{IsPartOf, Knows, Rest, is_planned, with_rest}
-use Rattle.plan_store.specs.Views.{Shows, ShowsLive, TellsSizes, asked_pairs, asks_completed}
-use Rattle.plan_store.specs.Views.{asks_pairs, asks_planned, bars, is_asked, is_of_key, named, shown}
+use Rattle.plan_store.specs.Views.{Shows, ShowsLive, TellsSizes, needed_pairs, needs_completed}
+use Rattle.plan_store.specs.Views.{needs_pairs, needs_planned, bars, is_asked, is_of_key, named, shown}
 use Rattle.plan_store.specs.Views.{with_these}
 use Rattle.plan_store.specs.declared.stores.Need.{Need}
 use Rattle.plan_store.specs.declared.stores.Need.TheVariants as need
@@ -123,22 +123,22 @@ keeps_same key None (Some row) of has = elim (has_key key row) as (λ b. has_key
     ] refl
 
 module _ (rest : Rest) (c : Content) where
-  pairs_of_plan : asked_pairs None c.sets.ltp c.sets.cp c.sets.history c.pairs
-      ≡ asked_pairs None c.sets.ltp c.sets.cp rest.history c.pairs
-  pairs_of_plan = filter_same (λ (pair : Pair). asks_pairs None c.sets.ltp c.sets.cp c.sets.history pair.successor)
-      (λ (pair : Pair). asks_pairs None c.sets.ltp c.sets.cp rest.history pair.successor)
-      (λ pair. ap (λ b. asks_planned None c.sets.ltp c.sets.cp pair.successor || b)
+  pairs_of_plan : needed_pairs None c.sets.ltp c.sets.cp c.sets.history c.pairs
+      ≡ needed_pairs None c.sets.ltp c.sets.cp rest.history c.pairs
+  pairs_of_plan = filter_same (λ (pair : Pair). needs_pairs None c.sets.ltp c.sets.cp c.sets.history pair.successor)
+      (λ (pair : Pair). needs_pairs None c.sets.ltp c.sets.cp rest.history pair.successor)
+      (λ pair. ap (λ b. needs_planned None c.sets.ltp c.sets.cp pair.successor || b)
       (no_key (c.sets.history pair.successor) ∙ sym (no_key (rest.history pair.successor)))) c.pairs
 
   module _ (part : IsPartOf rest c) (key : Key)
       (has : (serial : ℕ) (row : Row) → rest.history serial ≡ Some row → row.key ≡ key
       → c.sets.history serial ≡ Some row) where
-    pairs_of_key : asked_pairs (Some key) c.sets.ltp c.sets.cp c.sets.history c.pairs
-        ≡ asked_pairs (Some key) c.sets.ltp c.sets.cp rest.history c.pairs
+    pairs_of_key : needed_pairs (Some key) c.sets.ltp c.sets.cp c.sets.history c.pairs
+        ≡ needed_pairs (Some key) c.sets.ltp c.sets.cp rest.history c.pairs
     pairs_of_key = filter_same
-        (λ (pair : Pair). asks_pairs (Some key) c.sets.ltp c.sets.cp c.sets.history pair.successor)
-        (λ (pair : Pair). asks_pairs (Some key) c.sets.ltp c.sets.cp rest.history pair.successor)
-        (λ pair. ap (λ b. asks_planned (Some key) c.sets.ltp c.sets.cp pair.successor || b)
+        (λ (pair : Pair). needs_pairs (Some key) c.sets.ltp c.sets.cp c.sets.history pair.successor)
+        (λ (pair : Pair). needs_pairs (Some key) c.sets.ltp c.sets.cp rest.history pair.successor)
+        (λ pair. ap (λ b. needs_planned (Some key) c.sets.ltp c.sets.cp pair.successor || b)
         (keeps_same key (c.sets.history pair.successor) (rest.history pair.successor)
         (part.history pair.successor) (has pair.successor))) c.pairs
 
@@ -164,20 +164,20 @@ or_true false b (inr is) = is
 module _ (rest : Rest) (c : Content) (part : IsPartOf rest c) (key : Option Key)
     (live : (serial : ℕ) (row : Row) → c.sets.history serial ≡ Some row → is_of_key key row ≡ true → (pair : Pair)
     → Contains c.pairs pair → pair.successor ≡ serial → Knows rest c pair.predecessor) where
-  planned_asked : (serial : ℕ) → asks_planned key c.sets.ltp c.sets.cp serial ≡ true → is_planned c.sets serial ≡ true
+  planned_asked : (serial : ℕ) → needs_planned key c.sets.ltp c.sets.cp serial ≡ true → is_planned c.sets serial ≡ true
   planned_asked serial is = or_true (is_some (c.sets.ltp serial)) (is_some (c.sets.cp serial))
       (elim (either_true (is_some (c.sets.ltp serial)) (is_some (keep (is_asked key) (c.sets.cp serial))) is) [
         | inl in_ltp ↦ inl in_ltp
         | inr in_cp ↦ let was = kept_was (is_asked key) (c.sets.cp serial) in_cp in inr (ap is_some was.1)
       ])
 
-  asked_known : (pair : Pair) → Contains (asked_pairs key c.sets.ltp c.sets.cp c.sets.history c.pairs) pair
+  asked_known : (pair : Pair) → Contains (needed_pairs key c.sets.ltp c.sets.cp c.sets.history c.pairs) pair
       → Knows rest c pair.predecessor
   asked_known pair there =
-      let is = contains_filter (λ (pair : Pair). asks_pairs key c.sets.ltp c.sets.cp c.sets.history pair.successor)
+      let is = contains_filter (λ (pair : Pair). needs_pairs key c.sets.ltp c.sets.cp c.sets.history pair.successor)
       c.pairs pair there in
-      elim (either_true (asks_planned key c.sets.ltp c.sets.cp pair.successor)
-      (asks_completed key c.sets.history pair.successor) is.1) [
+      elim (either_true (needs_planned key c.sets.ltp c.sets.cp pair.successor)
+      (needs_completed key c.sets.history pair.successor) is.1) [
         | inl planned ↦ part.named pair is.0 (planned_asked pair.successor planned)
         | inr completed ↦
             let was = kept_was (is_of_key key) (c.sets.history pair.successor) completed in
@@ -227,8 +227,8 @@ module _ (view : View) (rest : Rest) (c : Content) (sizes : TellsSizes c.sets vi
 
   module _ (key : Key) (ready : IsReadyFor rest (need.Key key) c) (own : HasOwnRows (with_rest rest c).sets)
       (shows : Shows (need.Key key) view c) where
-    key_lasts : HasLasts (AsksKey c key) rest.history (shown view).sets.history
-    key_lasts = lasts_of_whole rest.history c.sets.history part.history (AsksKey c key) (shown view).sets.history ready.0
+    key_lasts : HasLasts (ReadsKey c key) rest.history (shown view).sets.history
+    key_lasts = lasts_of_whole rest.history c.sets.history part.history (ReadsKey c key) (shown view).sets.history ready.0
         shows.lasts
 
     key_has : (serial : ℕ) (row : Row) → rest.history serial ≡ Some row → row.key ≡ key
@@ -279,7 +279,7 @@ module _ (view : View) (rest : Rest) (c : Content) (sizes : TellsSizes c.sets vi
     plan_of_whole : Shows need.LongTerm view (with_rest rest c)
     plan_of_whole = record {
       is = plan_is;
-      lasts = lasts_of_whole rest.history c.sets.history part.history (AsksPlan c) (shown view).sets.history ready
+      lasts = lasts_of_whole rest.history c.sets.history part.history (ReadsPlan c) (shown view).sets.history ready
           shows.lasts;
       predecessors = λ pair there. shows.predecessors pair there ∙ plan_known pair there;
       live = λ _ _ serial row _ same. no_some row.key same;

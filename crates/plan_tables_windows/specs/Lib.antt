@@ -1,6 +1,6 @@
-pub mod Asks
+pub mod Queries
 pub mod Changes
 pub mod Unknown
 pub mod Windows
-pub mod Bringing
-pub mod Gathering
+pub mod Loading
+pub mod Fetching

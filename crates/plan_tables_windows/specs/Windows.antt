@@ -3,7 +3,7 @@ use Rattle.std.specs.Prelude.{◌≡◌, ℕ, List, Some}
 use Rattle.occurrences.specs.declared.key.Key.{Key}
 use Rattle.occurrences.specs.declared.row.Row.{Row}
 use Rattle.planner_machine.specs.Content.{Content}
-use Rattle.plan_store.specs.Asked.{AsksKey, AsksPlan, HasLast}
+use Rattle.plan_store.specs.HistoryReads.{ReadsKey, ReadsPlan, HasLast}
 use Rattle.plan_store.specs.Parts.{Rest}
 use Rattle.plan_store.specs.declared.stores.Need.{Need}
 use Rattle.plan_store.specs.declared.stores.Need.TheVariants as need
@@ -22,6 +22,6 @@ KnowsLive rest key c = (serial : ℕ) (row : Row) → rest.history serial ≡ So
 -- they have what a window for the need reads of history; they always have the deletions that it shows
 abbrev pub IsReadyFor : Rest → Need → Content → Type 0
 IsReadyFor rest need.Definitions c = Unit {0}
-IsReadyFor rest (need.Key key) c = HasLastsOf (AsksKey c key) rest c × KnowsLive rest key c
-IsReadyFor rest need.LongTerm c = HasLastsOf (AsksPlan c) rest c
+IsReadyFor rest (need.Key key) c = HasLastsOf (ReadsKey c key) rest c × KnowsLive rest key c
+IsReadyFor rest need.LongTerm c = HasLastsOf (ReadsPlan c) rest c
 IsReadyFor rest (need.Daily t) c = Unit {0}

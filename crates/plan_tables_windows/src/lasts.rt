@@ -1,15 +1,15 @@
 // The rows of history that are read by an application and a moment are loaded into lists.
 
 ghost use Rattle.std.specs.Prelude.{Contains};
-ghost use Rattle.plan_tables_windows.specs.declared.asks.Ask.{Ask as AskValue};
+ghost use Rattle.plan_tables_windows.specs.declared.queries.LastQuery.{LastQuery as LastQueryValue};
 ghost use Rattle.plan_store.specs.Contents.{content_of};
 ghost use Rattle.plan_store.specs.Views.{Asks};
 ghost use Rattle.plan_tables_windows.specs.Windows.{HasLastsOf};
-ghost use Rattle.plan_tables_windows.specs.Bringing.{IsAnswered};
-ghost use Rattle.plan_tables_windows.specs.Gathering.{Gathers};
+ghost use Rattle.plan_tables_windows.specs.Loading.{IsAnswered};
+ghost use Rattle.plan_tables_windows.specs.Fetching.{Fetches};
 
-use crate::bringing::bring_row;
-use crate::{Ask, asks_of};
+use crate::loading::load_row;
+use crate::{LastQuery, queries_of};
 use plan_store::{Content, Need};
 use plan_tables_queries::{LookupFault, last_completed};
 use sqlite::{Alter, Connection};
@@ -20,13 +20,13 @@ fn find_last<S: Alter>(
     alloc: Global,
     conn: &mut Connection<S>,
     lists: &mut Content,
-    ask: &Ask,
+    ask: &LastQuery,
 ) -> Result<(), LookupFault>
-    ensures { Gathers S.Store conn.old conn.new (content_of lists.old) (content_of lists.new)
+    ensures { Fetches S.Store conn.old conn.new (content_of lists.old) (content_of lists.new)
         result (IsAnswered ask.now) }
 {
     match last_completed(alloc, conn, &ask.app, ask.moment) {
-        Ok(Some(row)) => bring_row(alloc, lists, row),
+        Ok(Some(row)) => load_row(alloc, lists, row),
         Ok(None) => Ok(()),
         Err(fault) => Err(fault),
     }
@@ -37,10 +37,10 @@ fn find_lasts<S: Alter>(
     alloc: Global,
     conn: &mut Connection<S>,
     lists: &mut Content,
-    asks: &[Ask],
+    asks: &[LastQuery],
 ) -> Result<(), LookupFault>
-    ensures { Gathers S.Store conn.old conn.new (content_of lists.old) (content_of lists.new)
-        result (λ rest now. (ask : AskValue) → Contains asks.now ask
+    ensures { Fetches S.Store conn.old conn.new (content_of lists.old) (content_of lists.new)
+        result (λ rest now. (ask : LastQueryValue) → Contains asks.now ask
         → IsAnswered ask rest now) }
 {
     for ask in asks {
@@ -59,10 +59,10 @@ pub(crate) fn find_asked<S: Alter>(
     lists: &mut Content,
     need: &Need,
 ) -> Result<(), LookupFault>
-    ensures { Gathers S.Store conn.old conn.new (content_of lists.old) (content_of lists.new)
+    ensures { Fetches S.Store conn.old conn.new (content_of lists.old) (content_of lists.new)
         result (λ rest now. HasLastsOf (Asks need.now now) rest now) }
 {
-    match asks_of(alloc, lists, need) {
+    match queries_of(alloc, lists, need) {
         Ok(asks) => find_lasts(alloc, conn, lists, &asks),
         Err(AllocError) => Err(LookupFault::Memory),
     }

@@ -4,13 +4,13 @@
 //! window is lent, and before a change is made.
 #![tactic(auto)]
 
-mod asks;
-mod bringing;
-mod gathering;
+mod fetching;
 mod lasts;
+mod loading;
 mod needs;
+mod queries;
 mod unknown;
 
-pub use asks::{Ask, asks_of};
-pub use needs::{gather, gather_for_change};
+pub use needs::{load_for_change, load_for_need};
+pub use queries::{LastQuery, queries_of};
 pub use unknown::{Unknown, unknown_for_key, unknown_of};

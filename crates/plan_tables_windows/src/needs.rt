@@ -1,15 +1,15 @@
 // What a window for a need lacks, or a change, is loaded into lists.
 
 ghost use Rattle.std.specs.Prelude.{◌≡◌, Some};
-ghost use Rattle.plan_store.specs.Asked.{AsksKey};
+ghost use Rattle.plan_store.specs.HistoryReads.{ReadsKey};
 ghost use Rattle.plan_store.specs.Contents.{content_of};
 ghost use Rattle.plan_store.specs.Parts.{HasBars};
 ghost use Rattle.plan_tables_windows.specs.Changes.{KnowsNamed};
 ghost use Rattle.plan_tables_windows.specs.Windows.{HasLastsOf, IsReadyFor, KnowsLive};
-ghost use Rattle.plan_tables_windows.specs.Bringing.{KnowsAll, ends_by};
-ghost use Rattle.plan_tables_windows.specs.Gathering.{Gathers};
+ghost use Rattle.plan_tables_windows.specs.Loading.{KnowsAll, ends_by};
+ghost use Rattle.plan_tables_windows.specs.Fetching.{Fetches};
 
-use crate::gathering::{find_barring, find_each_completed, find_each_deleted};
+use crate::fetching::{find_barring, find_each_completed, find_each_deleted};
 use crate::lasts::find_asked;
 use crate::{Unknown, unknown_for_key, unknown_of};
 use occurrences::Key;
@@ -21,31 +21,31 @@ use std::alloc::{AllocError, Global};
 use work_calendars::Moment;
 
 /// Loads into the lists what a window for the need reads of history. They have the deletions that it shows.
-pub fn gather<S: Alter>(
+pub fn load_for_need<S: Alter>(
     alloc: Global,
     conn: &mut Connection<S>,
     lists: &mut Content,
     need: &Need,
 ) -> Result<(), LookupFault>
-    ensures { Gathers S.Store conn.old conn.new (content_of lists.old) (content_of lists.new)
+    ensures { Fetches S.Store conn.old conn.new (content_of lists.old) (content_of lists.new)
         result (λ rest now. IsReadyFor rest need.now now) }
 {
     match need {
         Need::Definitions => Ok(()),
-        Need::Key(key) => gather_for_key(alloc, conn, lists, key),
-        Need::LongTerm => gather_for_plan(alloc, conn, lists),
+        Need::Key(key) => load_for_key(alloc, conn, lists, key),
+        Need::LongTerm => load_for_plan(alloc, conn, lists),
         Need::Daily(_) => Ok(()),
     }
 }
 
 // What a statement on the key reads.
-fn gather_for_key<S: Alter>(
+fn load_for_key<S: Alter>(
     alloc: Global,
     conn: &mut Connection<S>,
     lists: &mut Content,
     key: &Key,
 ) -> Result<(), LookupFault>
-    ensures { Gathers S.Store conn.old conn.new (content_of lists.old) (content_of lists.new)
+    ensures { Fetches S.Store conn.old conn.new (content_of lists.old) (content_of lists.new)
         result (λ rest now. IsReadyFor rest (Need.Key key.now) now) }
 {
     match find_asked(alloc, conn, lists, &Need::Key(*key)) {
@@ -62,8 +62,8 @@ fn find_live<S: Alter>(
     lists: &mut Content,
     key: &Key,
 ) -> Result<(), LookupFault>
-    ensures { Gathers S.Store conn.old conn.new (content_of lists.old) (content_of lists.new)
-        result (λ rest now. HasLastsOf (AsksKey (content_of lists.old) key.now) rest
+    ensures { Fetches S.Store conn.old conn.new (content_of lists.old) (content_of lists.new)
+        result (λ rest now. HasLastsOf (ReadsKey (content_of lists.old) key.now) rest
         (content_of lists.old) → KnowsLive rest key.now now) }
 {
     match unknown_for_key(alloc, lists, key) {
@@ -73,25 +73,25 @@ fn find_live<S: Alter>(
 }
 
 // What a statement on the long-term plan reads.
-fn gather_for_plan<S: Alter>(
+fn load_for_plan<S: Alter>(
     alloc: Global,
     conn: &mut Connection<S>,
     lists: &mut Content,
 ) -> Result<(), LookupFault>
-    ensures { Gathers S.Store conn.old conn.new (content_of lists.old) (content_of lists.new)
+    ensures { Fetches S.Store conn.old conn.new (content_of lists.old) (content_of lists.new)
         result (λ rest now. IsReadyFor rest Need.LongTerm now) }
 {
     find_asked(alloc, conn, lists, &Need::LongTerm)
 }
 
 /// Loads into the lists what the change names of history and of the deletions.
-pub fn gather_for_change<S: Alter>(
+pub fn load_for_change<S: Alter>(
     alloc: Global,
     conn: &mut Connection<S>,
     lists: &mut Content,
     change: &Change,
 ) -> Result<(), LookupFault>
-    ensures { Gathers S.Store conn.old conn.new (content_of lists.old) (content_of lists.new)
+    ensures { Fetches S.Store conn.old conn.new (content_of lists.old) (content_of lists.new)
         result (λ rest now. KnowsNamed rest change.now now) }
 {
     match unknown_of(alloc, lists, change) {
@@ -108,7 +108,7 @@ fn find_named<S: Alter>(
     change: &Change,
     unknown: &Unknown,
 ) -> Result<(), LookupFault>
-    ensures { Gathers S.Store conn.old conn.new (content_of lists.old) (content_of lists.new)
+    ensures { Fetches S.Store conn.old conn.new (content_of lists.old) (content_of lists.new)
         result (λ rest now. HasBars change.now.bounds rest now
         × KnowsAll unknown.now.history.items unknown.now.deletions.items rest now) }
 {
@@ -125,7 +125,7 @@ fn find_bars<S: Alter>(
     lists: &mut Content,
     bounds: Option<Bounds>,
 ) -> Result<(), LookupFault>
-    ensures { Gathers S.Store conn.old conn.new (content_of lists.old) (content_of lists.new)
+    ensures { Fetches S.Store conn.old conn.new (content_of lists.old) (content_of lists.new)
         result (HasBars bounds) }
 {
     match bounds {
@@ -141,7 +141,7 @@ fn find_bars_from<S: Alter>(
     lists: &mut Content,
     bounds: Bounds,
 ) -> Result<(), LookupFault>
-    ensures { Gathers S.Store conn.old conn.new (content_of lists.old) (content_of lists.new)
+    ensures { Fetches S.Store conn.old conn.new (content_of lists.old) (content_of lists.new)
         result (HasBars (Some bounds)) }
 {
     if ends_by(lists.bounds, bounds.plan_end) {
@@ -167,7 +167,7 @@ fn find_unknown<S: Alter>(
     lists: &mut Content,
     unknown: &Unknown,
 ) -> Result<(), LookupFault>
-    ensures { Gathers S.Store conn.old conn.new (content_of lists.old) (content_of lists.new)
+    ensures { Fetches S.Store conn.old conn.new (content_of lists.old) (content_of lists.new)
         result (KnowsAll unknown.now.history.items unknown.now.deletions.items) }
 {
     match find_each_completed(alloc, conn, lists, &unknown.history) {

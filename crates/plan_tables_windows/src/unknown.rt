@@ -8,7 +8,7 @@ ghost use Rattle.plan_tables_windows.specs.Unknown.{IsPredecessorOf, IsPredecess
 ghost use Rattle.plan_tables_windows.specs.Unknown.{IsPredecessorOfRow, IsSerialIn, is_elsewhere, is_settled};
 ghost use Rattle.plan_tables_windows.specs.Unknown.{is_settled_deletion};
 ghost use Rattle.plan_tables_windows.specs.Windows.{HasLastsOf, KnowsLive};
-ghost use Rattle.plan_store.specs.Asked.{AsksKey};
+ghost use Rattle.plan_store.specs.HistoryReads.{ReadsKey};
 ghost use Rattle.plan_store.specs.Contents.{content_of};
 ghost use Rattle.plan_store.specs.Parts.{HasBars};
 
@@ -31,7 +31,7 @@ pub struct Unknown {
 /// reads: the predecessors of the key's live row, if that is in history. Those of what is planned are known.
 pub fn unknown_for_key(alloc: Global, lists: &Content, key: &Key) -> Result<Vec<Serial>, AllocError>
     ensures finds { IfOk result (λ serials. FindsOut (content_of lists.now) serials.items []
-        (λ rest more. HasLastsOf (AsksKey (content_of lists.now) key.now) rest (content_of lists.now)
+        (λ rest more. HasLastsOf (ReadsKey (content_of lists.now) key.now) rest (content_of lists.now)
         → KnowsLive rest key.now more)) }
     ensures only { IfOk result (λ serials. (serial : ℕ) → Contains serials.items serial
         → IsPredecessorOfKey (content_of lists.now) key.now serial

@@ -12,7 +12,7 @@ use Rattle.app_definitions.specs.declared.options.Options.{Options}
 use Rattle.planner_machine.specs.declared.content.Bounds.{Bounds}
 use Rattle.planner_machine.specs.declared.job.Job.{Job}
 use Rattle.plan_tables_content.specs.Content.{job_values, meta_values}
-use Rattle.plan_tables_writing.specs.Taking.{AreKeysOf}
+use Rattle.plan_tables_writing.specs.Accepted.{AreKeysOf}
 use Rattle.plan_tables_writing.specs.Writing.{AreStorable, StandAlone}
 
 cast-text : (o : Option (List ℕ)) → as_text (or_null (option_map Text o)) ≡ or_null (option_map Text o)

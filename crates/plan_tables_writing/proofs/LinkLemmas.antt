@@ -7,7 +7,7 @@ use Rattle.std.proofs.lemmas.Bool.{eq-eqb, eqb-true, false≢true}
 use Rattle.std.proofs.lemmas.Map.Made.{is_member-Decides}
 use Rattle.std.proofs.lemmas.Slice.Eq.{bytes_eq-Decides}
 use Rattle.external_dependencies.specs.declared.links.Link.{Link}
-use Rattle.plan_tables_content.proofs.Told.{is_some as same_some, none_some}
+use Rattle.plan_tables_content.proofs.SameOptions.{is_some as same_some, none_some}
 use Rattle.plan_tables_writing.specs.Writing.{holds_link, is_same_link}
 
 both_true : (a b : Bool) → (a && b) ≡ true → (a ≡ true) × (b ≡ true)

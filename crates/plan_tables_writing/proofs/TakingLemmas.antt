@@ -14,16 +14,16 @@ use Rattle.sqlite.specs.declared.error.Error.{Error}
 use Rattle.sqlite.specs.declared.transaction.Transaction.{Transaction}
 use Rattle.sqlite.proofs.InsideLemmas.{keeps_then}
 use Rattle.plan_tables_schema.specs.Rows.{AreOfKinds, HaveRowids, IsAlone, IsPlan, MayFail, Stands, Tables, tables_of, with_cells, without_key}
-use Rattle.plan_tables_schema.specs.Schema.{HasOwnIndexes}
-use Rattle.plan_tables_schema.specs.Takes.{IsSoundPlan, LosesKey, TakesRow}
-use Rattle.plan_tables_schema.specs.Writes.{Commits, TakesWhere, WritesWhere, seen}
+use Rattle.plan_tables_schema.specs.Schema.{HasOnlyKeyIndexes}
+use Rattle.plan_tables_schema.specs.Accepted.{IsSoundPlan, LosesKey, AcceptsRow}
+use Rattle.plan_tables_schema.specs.Writes.{Commits, AcceptsWhere, WritesWhere, seen}
 use Rattle.plan_tables_schema.proofs.InTurn.{survives_both, then_ok}
 use Rattle.plan_tables_schema.proofs.OnceLemmas.{ended_so, undone, unended}
 use Rattle.plan_tables_schema.proofs.ResultLemmas.{if_err, still_ok}
 use Rattle.plan_tables_schema.proofs.StatementLemmas.{plan_still}
 use Rattle.plan_tables_schema.proofs.StopLemmas.{vain_before, vain_since}
 use Rattle.plan_tables_schema.specs.declared.tables.Table.{Table}
-use Rattle.plan_tables_writing.specs.Taking.{WritesTaking}
+use Rattle.plan_tables_writing.specs.Accepted.{WritesAccepted}
 use Rattle.plan_tables_writing.specs.Writing.{HasRows, HoldsWritten, MayFailWhere}
 
 -- what is told is the error
@@ -44,59 +44,59 @@ leaves_then a b c rows f one two = (two.0, (λ o. two.1 (one.1 o)), two.2 ∙ ap
 module _ {S : Type 0} (g : Ghosts S) where
   -- where less is asked
   pub takes_weaker : {T : Type 0} (A B : Tables → Type 0) (f : Tables → Tables) (old new : Transaction S)
-      (r : Result T Error) → ((all : Tables) → B all → A all) → TakesWhere A g old new r f → TakesWhere B g old new r f
+      (r : Result T Error) → ((all : Tables) → B all → A all) → AcceptsWhere A g old new r f → AcceptsWhere B g old new r f
   takes_weaker A B f old new r from it = record {
-    fails = λ clean sound takes. it.fails clean sound (from _ takes);
-    sound = λ clean sound takes. it.sound clean sound (from _ takes);
+    fails = λ clean sound accepts. it.fails clean sound (from _ accepts);
+    sound = λ clean sound accepts. it.sound clean sound (from _ accepts);
   }
 
   -- what is written so is written where more is asked
   pub writes_weaker : {T : Type 0} (A B C D : Tables → Type 0) (f : Tables → Tables) (old new : Transaction S)
       (r : Result T Error) → ((all : Tables) → B all → A all) → ((all : Tables) → D all → C all)
-      → WritesTaking A C g old new r f → WritesTaking B D g old new r f
-  writes_weaker A B C D f old new r fits takes it = record {
+      → WritesAccepted A C g old new r f → WritesAccepted B D g old new r f
+  writes_weaker A B C D f old new r fits accepts it = record {
     same_reference = it.same_reference;
     ok = λ clean plan mode b. it.ok clean plan mode (fits _ b);
     kept = it.kept;
     survives = it.survives;
-    takes = takes_weaker C D f old new r takes it.takes;
+    accepts = takes_weaker C D f old new r accepts it.accepts;
   }
 
   -- after one that was made comes another
   pub takes_then : {T U : Type 0} (A B : Tables → Type 0) (f h : Tables → Tables) (old mid new : Transaction S) (v : T)
       (r : Result U Error) → Survives (seen g old) (seen g mid) (λ _. ⊥)
       → Survives (seen g mid) (seen g new) (λ _. ⊥)
-      → TakesWhere {S = S} {T = T} A g old mid (Ok v) f → TakesWhere {S = S} {T = U} B g mid new r h
-      → TakesWhere {S = S} {T = U} (λ all. A all × B (f all)) g old new r (λ all. h (f all))
+      → AcceptsWhere {S = S} {T = T} A g old mid (Ok v) f → AcceptsWhere {S = S} {T = U} B g mid new r h
+      → AcceptsWhere {S = S} {T = U} (λ all. A all × B (f all)) g old new r (λ all. h (f all))
   takes_then A B f h old mid new v r one two first second = record {
-    fails = λ clean sound takes.
-        let it = first.sound (omega (arith, two.clean)) sound takes.0 in
+    fails = λ clean sound accepts.
+        let it = first.sound (omega (arith, two.clean)) sound accepts.0 in
         if_err r (MayFail (seen g mid) (seen g new)) (MayFail (seen g old) (seen g new))
         (λ e. vain_since (seen g old) (seen g mid) (seen g new) e one.counts it.1 one.limit)
-        (second.fails clean it.0 (subst B (sym it.2) takes.1));
-    sound = λ clean sound takes.
-        let it = first.sound (omega (arith, two.clean)) sound takes.0 in
+        (second.fails clean it.0 (subst B (sym it.2) accepts.1));
+    sound = λ clean sound accepts.
+        let it = first.sound (omega (arith, two.clean)) sound accepts.0 in
         still_ok r _ _ (leaves_then (seen g old) (seen g mid) (seen g new) _ h it)
-        (second.sound clean it.0 (subst B (sym it.2) takes.1));
+        (second.sound clean it.0 (subst B (sym it.2) accepts.1));
   }
 
   -- where one is not made, the whole is not
   pub takes_no_more : {T U : Type 0} (A B : Tables → Type 0) (f h : Tables → Tables) (old new : Transaction S)
       (e : Error) (r : Result U Error) → IsErrAnd r (λ told. told ≡ e) → ((all : Tables) → B all → A all)
-      → TakesWhere {S = S} {T = T} A g old new (Err e) f → TakesWhere {S = S} {T = U} B g old new r h
+      → AcceptsWhere {S = S} {T = T} A g old new (Err e) f → AcceptsWhere {S = S} {T = U} B g old new r h
   takes_no_more A B f h old new e (Ok v) is from it = absurd is
   takes_no_more A B f h old new e (Err told) is from it = record {
-    fails = λ clean sound takes. subst (MayFail (seen g old) (seen g new)) (sym is) (it.fails clean sound (from _ takes));
-    sound = λ clean sound takes. tt;
+    fails = λ clean sound accepts. subst (MayFail (seen g old) (seen g new)) (sym is) (it.fails clean sound (from _ accepts));
+    sound = λ clean sound accepts. tt;
   }
 
 -- ---- one after another
 
 -- what is written first, and then the next
 pub writes_then : {S T U : Type 0} {g : Ghosts S} {A B C D : Tables → Type 0} {f h : Tables → Tables}
-    {old mid new : Transaction S} {v : T} {r : Result U Error} → WritesTaking A B g old mid (Ok v) f
-    → WritesTaking C D g mid new r h
-    → WritesTaking (λ all. A all × C (f all)) (λ all. B all × D (f all)) g old new r (λ all. h (f all))
+    {old mid new : Transaction S} {v : T} {r : Result U Error} → WritesAccepted A B g old mid (Ok v) f
+    → WritesAccepted C D g mid new r h
+    → WritesAccepted (λ all. A all × C (f all)) (λ all. B all × D (f all)) g old new r (λ all. h (f all))
 writes_then {g = g} {B = B} {C = C} {D = D} {f = f} {h = h} {old = old} {mid = mid} {new = new} {v = v} {r = r} first second =
     record {
       same_reference = second.same_reference ∙ first.same_reference;
@@ -107,27 +107,27 @@ writes_then {g = g} {B = B} {C = C} {D = D} {f = f} {h = h} {old = old} {mid = m
       kept = λ clean. keeps_then (seen g old) (seen g mid) (seen g new)
           (first.kept (omega (arith, second.survives.clean))) (second.kept clean);
       survives = survives_both (seen g old) (seen g mid) (seen g new) first.survives second.survives;
-      takes = takes_then g B D f h old mid new v r first.survives second.survives first.takes second.takes;
+      accepts = takes_then g B D f h old mid new v r first.survives second.survives first.accepts second.accepts;
     }
 
 -- where one is not written, the whole is not
 pub writes_no_more : {S T U : Type 0} {g : Ghosts S} {A B C D : Tables → Type 0} {f h : Tables → Tables}
     {old new : Transaction S} {e : Error} (r : Result U Error) → IsErrAnd r (λ told. told ≡ e)
-    → ((all : Tables) → D all → B all) → WritesTaking {T = T} A B g old new (Err e) f → WritesTaking C D g old new r h
+    → ((all : Tables) → D all → B all) → WritesAccepted {T = T} A B g old new (Err e) f → WritesAccepted C D g old new r h
 writes_no_more (Ok v) is from it = absurd is
 writes_no_more {g = g} {B = B} {D = D} {f = f} {h = h} {old = old} {new = new} {e = e} (Err told) is from it = record {
   same_reference = it.same_reference;
   ok = λ clean plan mode fits. tt;
   kept = it.kept;
   survives = it.survives;
-  takes = takes_no_more g B D f h old new e (Err told) is from it.takes;
+  accepts = takes_no_more g B D f h old new e (Err told) is from it.accepts;
 }
 
 -- ---- a transaction
 
 -- a transaction begins with a plan that is sound
 begins_sound : {S : Type 0} (g : Ghosts S) (held begun : Held S) → begun ≡ record held { in_transaction = true }
-    → IsLive (state g held) → IsPlan (state g held) → HasOwnIndexes (state g held).now.schema
+    → IsLive (state g held) → IsPlan (state g held) → HasOnlyKeyIndexes (state g held).now.schema
     → IsSoundPlan (state g begun)
 begins_sound g held begun is live plan own = subst (λ h. IsSoundPlan (state g h)) (sym is) (record {
   plan = record { schema = plan.schema; told = plan.told; rowids = plan.rowids };
@@ -150,29 +150,29 @@ plan_on mid new rows schema is plan rows_are in_it = (
 pub put_by : {S : Type 0} (g : Ghosts S) (old new : Transaction S) (result : Result (Unit {0}) Error) (t : Table)
     (given cells : Values) → given ≡ cells
     → WritesWhere (λ _. AreOfKinds t given) g old new result (with_cells t given)
-    → TakesWhere (TakesRow t given) g old new result (with_cells t given)
-    → WritesTaking (λ _. AreOfKinds t cells) (TakesRow t cells) g old new result (with_cells t cells)
-put_by g old new result t given cells same writes takes =
-    subst (λ v. WritesTaking (λ _. AreOfKinds t v) (TakesRow t v) g old new result (with_cells t v)) same (record {
+    → AcceptsWhere (AcceptsRow t given) g old new result (with_cells t given)
+    → WritesAccepted (λ _. AreOfKinds t cells) (AcceptsRow t cells) g old new result (with_cells t cells)
+put_by g old new result t given cells same writes accepts =
+    subst (λ v. WritesAccepted (λ _. AreOfKinds t v) (AcceptsRow t v) g old new result (with_cells t v)) same (record {
       same_reference = writes.same_reference;
       ok = writes.ok;
       kept = writes.kept;
       survives = writes.survives;
-      takes = takes;
+      accepts = accepts;
     })
 
 -- what is taken out by a key that was handed over is taken out by that key
 pub taken_by : {S : Type 0} (g : Ghosts S) (old new : Transaction S) (result : Result (Unit {0}) Error) (t : Table)
     (given key : Values) → given ≡ key → WritesWhere (IsAlone t given) g old new result (without_key t given)
-    → TakesWhere (LosesKey t given) g old new result (without_key t given)
-    → WritesTaking (IsAlone t key) (LosesKey t key) g old new result (without_key t key)
-taken_by g old new result t given key same writes takes =
-    subst (λ v. WritesTaking (IsAlone t v) (LosesKey t v) g old new result (without_key t v)) same (record {
+    → AcceptsWhere (LosesKey t given) g old new result (without_key t given)
+    → WritesAccepted (IsAlone t key) (LosesKey t key) g old new result (without_key t key)
+taken_by g old new result t given key same writes accepts =
+    subst (λ v. WritesAccepted (IsAlone t v) (LosesKey t v) g old new result (without_key t v)) same (record {
       same_reference = writes.same_reference;
       ok = writes.ok;
       kept = writes.kept;
       survives = writes.survives;
-      takes = takes;
+      accepts = accepts;
     })
 
 -- what a crash leaves of a commit
@@ -203,7 +203,7 @@ module _ {S : Type 0} (g : Ghosts S) (conn : Held S) (tx mid : Transaction S)
   rows : tables_of (seen g tx).now.trees ≡ tables_of old.now.trees
   rows = ap (λ (h : Held S). tables_of (state g h).now.trees) begun
 
-  stands : {T : Type 0} {t : T} → WritesTaking Fit Take g tx mid (Ok t) made → HasCleanDisk (seen g mid) → IsPlan old
+  stands : {T : Type 0} {t : T} → WritesAccepted Fit Take g tx mid (Ok t) made → HasCleanDisk (seen g mid) → IsPlan old
       → Stands (seen g tx) (seen g mid) (made (tables_of old.now.trees))
   stands writes calm plan = subst (λ (all : Tables). Stands (seen g tx) (seen g mid) (made all)) rows
       (writes.ok calm (subst (λ (h : Held S). IsPlan (state g h)) (sym begun)
@@ -211,21 +211,21 @@ module _ {S : Type 0} (g : Ghosts S) (conn : Held S) (tx mid : Transaction S)
       (subst (λ (h : Held S). IsTrue h.in_transaction) (sym begun) refl) (fit _))
 
   taken : Takes (tables_of old.now.trees) → Take (tables_of (seen g tx).now.trees)
-  taken takes = take _ (subst Takes (sym rows) takes)
+  taken accepts = take _ (subst Takes (sym rows) accepts)
 
   since : (new : State) (e : Error) → MayFail (seen g tx) new e → MayFail old new e
   since new e = subst (λ (h : Held S). MayFail (state g h) new e) begun
 
-  pub written_not : {T U : Type 0} {e : Error} (r : Result U Error) → WritesTaking {T = T} Fit Take g tx mid (Err e) made
+  pub written_not : {T U : Type 0} {e : Error} (r : Result U Error) → WritesAccepted {T = T} Fit Take g tx mid (Err e) made
       → Survives (seen g mid) (state g end) (λ _. ⊥)
       → (HasCleanDisk (state g end) → IsRolledBack (seen g mid) (state g end)) → IsErrAnd r (λ x. x ≡ e) → CommitsIt r
   written_not {e = e} r writes ends back is = undone g conn tx mid begun settled IsPlan (HasRows made)
       (MayFailWhere Takes) (λ old. HoldsWritten old (made (tables_of old.now.trees))) writes.kept writes.survives end last
       same ended e r ends back
-      (λ calm plan own takes. since (state g end) e (vain_before (seen g tx) (seen g mid) (state g end) e
-      (writes.takes.fails calm (begins_sound g conn tx.conn.now begun live plan own) (taken takes)) ends.counts)) is
+      (λ calm plan own accepts. since (state g end) e (vain_before (seen g tx) (seen g mid) (state g end) e
+      (writes.accepts.fails calm (begins_sound g conn tx.conn.now begun live plan own) (taken accepts)) ends.counts)) is
 
-  module _ {T : Type 0} {t : T} (writes : WritesTaking Fit Take g tx mid (Ok t) made)
+  module _ {T : Type 0} {t : T} (writes : WritesAccepted Fit Take g tx mid (Ok t) made)
       (ends : Survives (seen g mid) (state g end) (λ db. db ≡ (seen g mid).now.trees)) where
     abbrev Made : Type 0
     Made = Stands (seen g tx) (seen g mid) (made (tables_of old.now.trees))
@@ -240,8 +240,8 @@ module _ {S : Type 0} (g : Ghosts S) (conn : Held S) (tx mid : Transaction S)
     written_unended {e = e} r failed is = unended g conn tx mid begun settled IsPlan (HasRows made) (MayFailWhere Takes)
         (λ old. HoldsWritten old (made (tables_of old.now.trees))) writes.kept writes.survives end last same ended Made
         (stands writes) left ends e r (λ it. it.mode) failed
-        (λ calm plan may own takes. let was = writes.takes.sound calm
-        (begins_sound g conn tx.conn.now begun live plan own) (taken takes) in
+        (λ calm plan may own accepts. let was = writes.accepts.sound calm
+        (begins_sound g conn tx.conn.now begun live plan own) (taken accepts) in
         since (state g end) e (vain_since (seen g tx) (seen g mid) (state g end) e writes.survives.counts was.1
         writes.survives.limit may)) is
 

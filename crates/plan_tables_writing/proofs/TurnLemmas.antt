@@ -3,12 +3,12 @@ use Rattle.std.proofs.Common.{◌≡◌, ◌<◌, ◌+◌, ℕ, suc, List, [], �
 use Rattle.std.specs.List.{Contains}
 use Rattle.sqlite.specs.Order.{Row as Values}
 use Rattle.plan_tables_schema.specs.Rows.{IsAlone, Tables, with_cells, without_key}
-use Rattle.plan_tables_schema.specs.Takes.{TakesRow}
+use Rattle.plan_tables_schema.specs.Accepted.{AcceptsRow}
 use Rattle.plan_tables_schema.specs.declared.tables.Table.{Table}
 use Rattle.plan_tables_schema.proofs.InTurn.{cut}
 use Rattle.plan_tables_writing.specs.InTurn.{HoldsInTurn}
 use Rattle.plan_tables_writing.specs.Redefining.{AreAlone, name_key}
-use Rattle.plan_tables_writing.specs.Taking.{TakesEach}
+use Rattle.plan_tables_writing.specs.Accepted.{AcceptsEach}
 use Rattle.plan_tables_writing.proofs.AloneLemmas.{alone_still}
 
 module _ {X : Type 0} (P : X → Tables → Type 0) (makes : X → Tables → Tables) where
@@ -33,8 +33,8 @@ module _ {X : Type 0} (P : X → Tables → Type 0) (makes : X → Tables → Ta
   both Q (x ∷ xs) all p q = ((p.0, q.0), both Q xs (makes x all) p.1 q.1)
 
 pub rows_taken : {X : Type 0} (t : Table) (values_of : X → Values) (items : List X) (all : Tables)
-    → TakesEach t values_of items all
-    → HoldsInTurn (λ x. TakesRow t (values_of x)) (λ x. with_cells t (values_of x)) items all
+    → AcceptsEach t values_of items all
+    → HoldsInTurn (λ x. AcceptsRow t (values_of x)) (λ x. with_cells t (values_of x)) items all
 rows_taken t values_of [] all h = tt
 rows_taken t values_of (x ∷ xs) all h = (h.0, rows_taken t values_of xs (with_cells t (values_of x) all) h.1)
 

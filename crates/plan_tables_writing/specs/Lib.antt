@@ -1,4 +1,4 @@
 pub mod InTurn
 pub mod Writing
 pub mod Redefining
-pub mod Taking
+pub mod Accepted

@@ -3,8 +3,8 @@ use Rattle.std.specs.Prelude.{◌≡◌, ◌↔◌, ℕ, List, [], ◌∷◌, Co
 use Rattle.sqlite.specs.Order.{Row as Values}
 use Rattle.sqlite.specs.declared.types.Value.TheVariants.{Text}
 use Rattle.app_definition_records.specs.ByName.{AreNamesOf}
-use Rattle.app_definitions.specs.declared.kinds.Block.{Block}
-use Rattle.app_definitions.specs.declared.kinds.Block.TheVariants as block
+use Rattle.app_definitions.specs.declared.kinds.DefinitionBlock.{DefinitionBlock}
+use Rattle.app_definitions.specs.declared.kinds.DefinitionBlock.TheVariants as block
 use Rattle.app_definitions.specs.declared.kinds.Kind.{Kind}
 use Rattle.app_definitions.specs.declared.kinds.Kind.TheVariants as kind
 use Rattle.app_definitions.specs.declared.options.Options.{Options}
@@ -18,7 +18,7 @@ use Rattle.plan_store.specs.declared.changes.DefinitionChange.{DefinitionChange}
 use Rattle.plan_store.specs.declared.changes.DefinitionChange.TheVariants.{AsBefore, Merged, Removed}
 use Rattle.plan_tables_definitions.specs.Adding.{HaveOwnKeys}
 use Rattle.plan_tables_definitions.specs.Storing.{IsStorable}
-use Rattle.plan_tables_definitions.specs.Telling.{IsTellableBlock}
+use Rattle.plan_tables_definitions.specs.Representable.{IsRepresentableBlock}
 use Rattle.plan_tables_content.specs.Content.{ByName, IsApplicationRow, IsOfSome}
 use Rattle.plan_tables_content.specs.Facts.{IsCalendarRow, IsCycleRow, IsOffsetRow, IsPeriodRow, IsPredecessorRow}
 use Rattle.plan_tables_writing.specs.Writing.{meta_told, plans_written, with_each, without_each}
@@ -81,7 +81,7 @@ pub record AreRowsOf {D : Type 0} (cells : ℕ) (IsRow : List ℕ → D → Valu
   pub own : HaveOwnKeys cells rows
 
 -- of one kind the names and the rows that a block brings
-abbrev pub BringsRows : Block → DefinitionMoves → Type 0
+abbrev pub BringsRows : DefinitionBlock → DefinitionMoves → Type 0
 BringsRows (block.Applications more) moves = AreRowsOf 1 IsApplicationRow more moves.names.items moves.rows.items
 BringsRows (block.Calendars more) moves = AreRowsOf 3 IsCalendarRow more moves.names.items moves.rows.items
 BringsRows (block.Periods more) moves = AreRowsOf 2 IsPeriodRow more moves.names.items moves.rows.items
@@ -91,7 +91,7 @@ BringsRows (block.RunCycles more) moves =
     × AreRowsOf 3 IsOffsetRow more moves.names.items moves.offsets.items
 BringsRows (block.Options given) moves = ⊤
 
-abbrev pub kind_of : Block → Kind
+abbrev pub kind_of : DefinitionBlock → Kind
 kind_of (block.Applications more) = kind.Applications
 kind_of (block.Calendars more) = kind.Calendars
 kind_of (block.Periods more) = kind.Periods
@@ -102,7 +102,7 @@ kind_of (block.Options given) = kind.Options
 -- what a change of definitions changes in the tables
 abbrev pub AreMovesOf : DefinitionChange → DefinitionMoves → Type 0
 AreMovesOf AsBefore moves = moves.kind ≡ None
-AreMovesOf (Merged b) moves = (moves.kind ≡ Some (kind_of b)) × BringsRows b moves × IsTellableBlock b
+AreMovesOf (Merged b) moves = (moves.kind ≡ Some (kind_of b)) × BringsRows b moves × IsRepresentableBlock b
 AreMovesOf (Removed k name) moves = (moves.kind ≡ Some k) × (moves.names.items ≡ name ∷ []) × (moves.rows.items ≡ [])
     × (moves.offsets.items ≡ [])
 

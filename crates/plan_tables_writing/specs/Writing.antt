@@ -7,7 +7,7 @@ use Rattle.sqlite.specs.Tree.{Trees}
 use Rattle.sqlite.specs.declared.error.Error.{Error}
 use Rattle.plan_tables_schema.specs.Rows.{AreOfKinds, HaveRowids, IsAlone, IsPlan, MayFail, Tables, tables_of, with_cells}
 use Rattle.plan_tables_schema.specs.Rows.{without_key}
-use Rattle.plan_tables_schema.specs.Schema.{HasOwnIndexes}
+use Rattle.plan_tables_schema.specs.Schema.{HasOnlyKeyIndexes}
 use Rattle.plan_tables_schema.specs.declared.tables.Table.{Table}
 use Rattle.plan_tables_schema.specs.declared.tables.Table.TheVariants as table
 use Rattle.std.specs.Prelude.{ℕ, ◌&&◌, Bool, Option, Some, None, filter, nat_eq, not}
@@ -141,7 +141,7 @@ HasRows made old new =
 
 -- if no index was made by hand, and the tables accept it, it fails for one of the four general errors
 abbrev pub MayFailWhere : (Tables → Type 0) → State → State → Error → Type 0
-MayFailWhere Takes old new e = HasOwnIndexes old.now.schema → Takes (tables_of old.now.trees) → MayFail old new e
+MayFailWhere Takes old new e = HasOnlyKeyIndexes old.now.schema → Takes (tables_of old.now.trees) → MayFail old new e
 
 -- what a commit of these rows leaves of a database: its tables have them, no two with one rowid; and where the
 -- connection was open it obeys the schema that it had
@@ -151,6 +151,6 @@ pub record HoldsWritten (old : State) (rows : Tables) (db : Trees) : Type 0 wher
   pub obeys : IsTrue old.is_open → IsDatabase (record { schema = old.now.schema; trees = db })
 
 -- the lists that come into force are in their order, and the reply of the job can be encoded
-pub record IsTellableChange (change : Change) : Type 0 where
+pub record IsRepresentableChange (change : Change) : Type 0 where
   pub links : IfSome change.in_force (IsRising link_cmp)
   pub job : IfSome change.job (λ (job : Job). IsSmall job.reply)

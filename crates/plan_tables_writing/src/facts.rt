@@ -2,10 +2,10 @@
 
 ghost use Rattle.sqlite.specs.Order.{Row as Values};
 ghost use Rattle.plan_tables_schema.specs.Rows.{AreOfKinds, IsAlone, with_cells, without_key};
-ghost use Rattle.plan_tables_schema.specs.Takes.{LosesKey, TakesRow};
+ghost use Rattle.plan_tables_schema.specs.Accepted.{LosesKey, AcceptsRow};
 ghost use Rattle.plan_tables_content.specs.Facts.{row_values, current_values, deletion_values, pair_values, link_values};
 ghost use Rattle.plan_tables_content.specs.Facts.{row_key, current_key, deletion_key, link_key};
-ghost use Rattle.plan_tables_writing.specs.Taking.{WritesTaking};
+ghost use Rattle.plan_tables_writing.specs.Accepted.{WritesAccepted};
 
 use crate::cells::{limit, number, origin};
 use external_dependencies::{Link, Pair};
@@ -24,13 +24,13 @@ pub(crate) trait Fact {
 
     /// Inserts its row into the table.
     fn put<S: Alter>(&self, tx: &mut Transaction<'_, S>, table: Table) -> Result<(), Error>
-        ensures { WritesTaking (λ _. AreOfKinds table (values self.now))
-            (TakesRow table (values self.now)) S.Store tx.old tx.new result
+        ensures { WritesAccepted (λ _. AreOfKinds table (values self.now))
+            (AcceptsRow table (values self.now)) S.Store tx.old tx.new result
             (with_cells table (values self.now)) };
 
     /// Deletes its row from the table.
-    fn take<S: Alter>(&self, tx: &mut Transaction<'_, S>, table: Table) -> Result<(), Error>
-        ensures { WritesTaking (IsAlone table (key self.now)) (LosesKey table (key self.now))
+    fn delete<S: Alter>(&self, tx: &mut Transaction<'_, S>, table: Table) -> Result<(), Error>
+        ensures { WritesAccepted (IsAlone table (key self.now)) (LosesKey table (key self.now))
             S.Store tx.old tx.new result
             (without_key table (key self.now)) };
 }
@@ -54,7 +54,7 @@ impl Fact for Row {
         )
     }
 
-    fn take<S: Alter>(&self, tx: &mut Transaction<'_, S>, table: Table) -> Result<(), Error> {
+    fn delete<S: Alter>(&self, tx: &mut Transaction<'_, S>, table: Table) -> Result<(), Error> {
         delete(tx, table, &[number(self.serial.get())])
     }
 }
@@ -72,7 +72,7 @@ impl Fact for Pair {
         )
     }
 
-    fn take<S: Alter>(&self, tx: &mut Transaction<'_, S>, table: Table) -> Result<(), Error> {
+    fn delete<S: Alter>(&self, tx: &mut Transaction<'_, S>, table: Table) -> Result<(), Error> {
         delete(
             tx,
             table,
@@ -101,7 +101,7 @@ impl Fact for CurrentRow {
         )
     }
 
-    fn take<S: Alter>(&self, tx: &mut Transaction<'_, S>, table: Table) -> Result<(), Error> {
+    fn delete<S: Alter>(&self, tx: &mut Transaction<'_, S>, table: Table) -> Result<(), Error> {
         delete(tx, table, &[number(self.row.serial.get())])
     }
 }
@@ -126,7 +126,7 @@ impl Fact for Deletion {
         )
     }
 
-    fn take<S: Alter>(&self, tx: &mut Transaction<'_, S>, table: Table) -> Result<(), Error> {
+    fn delete<S: Alter>(&self, tx: &mut Transaction<'_, S>, table: Table) -> Result<(), Error> {
         delete(tx, table, &[number(self.row.serial.get())])
     }
 }
@@ -148,7 +148,7 @@ impl Fact for Link {
         )
     }
 
-    fn take<S: Alter>(&self, tx: &mut Transaction<'_, S>, table: Table) -> Result<(), Error> {
+    fn delete<S: Alter>(&self, tx: &mut Transaction<'_, S>, table: Table) -> Result<(), Error> {
         delete(
             tx,
             table,

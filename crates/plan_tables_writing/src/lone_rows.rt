@@ -5,9 +5,9 @@ ghost use Rattle.std.specs.Prelude.{◌≡◌, ⊤};
 ghost use Rattle.plan_tables_content.specs.Content.{answer_text, job_values, meta_values};
 ghost use Rattle.plan_tables_content.specs.Facts.{natural};
 ghost use Rattle.plan_tables_schema.specs.Rows.{AreOfKinds, with_cells, without_key};
-ghost use Rattle.plan_tables_schema.specs.Takes.{TakesRow};
+ghost use Rattle.plan_tables_schema.specs.Accepted.{AcceptsRow};
 ghost use Rattle.plan_tables_schema.specs.declared.tables.Table.TheVariants.{Job as JobTable, Meta};
-ghost use Rattle.plan_tables_writing.specs.Taking.{TakesMeta, WritesTaking};
+ghost use Rattle.plan_tables_writing.specs.Accepted.{AcceptsMeta, WritesAccepted};
 ghost use Rattle.plan_tables_writing.specs.Writing.{job_put, meta_told, with_meta};
 
 use crate::cells::number;
@@ -26,7 +26,7 @@ pub(crate) fn put_job<'x, S: Alter>(
 ) -> Result<(), Error>
     requires number { job.now.number < 2 ^ 63 }
     requires line { line.now ≡ answer_text job.now.reply }
-    ensures { WritesTaking (λ _. ⊤) (TakesRow JobTable (job_values job.now)) S.Store tx.old tx.new
+    ensures { WritesAccepted (λ _. ⊤) (AcceptsRow JobTable (job_values job.now)) S.Store tx.old tx.new
         result (job_put job.now) }
 {
     insert(
@@ -47,8 +47,8 @@ fn put_no_bounds<S: Alter>(
     issued: u32,
     options: &Options,
 ) -> Result<(), Error>
-    ensures { WritesTaking (λ _. AreOfKinds table (meta_values None issued options.now))
-        (TakesRow table (meta_values None issued options.now))
+    ensures { WritesAccepted (λ _. AreOfKinds table (meta_values None issued options.now))
+        (AcceptsRow table (meta_values None issued options.now))
         S.Store tx.old tx.new result
         (with_cells table (meta_values None issued options.now)) }
 {
@@ -77,9 +77,9 @@ fn put_bounds<S: Alter>(
     issued: u32,
     options: &Options,
 ) -> Result<(), Error>
-    ensures { WritesTaking (λ _.
+    ensures { WritesAccepted (λ _.
         AreOfKinds table (meta_values (Some bounds.now) issued options.now))
-        (TakesRow table (meta_values (Some bounds.now) issued options.now))
+        (AcceptsRow table (meta_values (Some bounds.now) issued options.now))
         S.Store tx.old tx.new result
         (with_cells table (meta_values (Some bounds.now) issued options.now)) }
 {
@@ -106,8 +106,8 @@ fn put_meta<S: Alter>(
     issued: u32,
     options: &Options,
 ) -> Result<(), Error>
-    ensures { WritesTaking (λ _. AreOfKinds Meta (meta_values bounds.now issued options.now))
-        (TakesRow Meta (meta_values bounds.now issued options.now))
+    ensures { WritesAccepted (λ _. AreOfKinds Meta (meta_values bounds.now issued options.now))
+        (AcceptsRow Meta (meta_values bounds.now issued options.now))
         S.Store tx.old tx.new result
         (with_meta bounds.now issued options.now) }
 {
@@ -117,8 +117,8 @@ fn put_meta<S: Alter>(
     }
 }
 
-fn take_meta<S: Alter>(tx: &mut Transaction<'_, S>) -> Result<(), Error>
-    ensures { WritesTaking (λ _. ⊤) (λ _. ⊤) S.Store tx.old tx.new result
+fn delete_meta<S: Alter>(tx: &mut Transaction<'_, S>) -> Result<(), Error>
+    ensures { WritesAccepted (λ _. ⊤) (λ _. ⊤) S.Store tx.old tx.new result
         (without_key Meta (natural 1 ∷ [])) }
 {
     delete(tx, Table::Meta, &[number(1)])
@@ -131,9 +131,9 @@ pub(crate) fn write_meta<S: Alter>(
     issued: u32,
     options: &Options,
 ) -> Result<(), Error>
-    ensures { WritesTaking (λ _. ⊤) (TakesMeta bounds.now issued options.now) S.Store tx.old tx.new
+    ensures { WritesAccepted (λ _. ⊤) (AcceptsMeta bounds.now issued options.now) S.Store tx.old tx.new
         result (meta_told bounds.now issued options.now) }
 {
-    take_meta(tx)?;
+    delete_meta(tx)?;
     put_meta(tx, bounds, issued, options)
 }

@@ -1,8 +1,8 @@
 // What moves in the tables of occurrences, pairs and links.
 
 ghost use Rattle.std.specs.Prelude.{◌≡◌, IfOk, Some, ⊤};
-ghost use Rattle.plan_tables_writing.specs.Taking.{AreKeysOf, TakesLinks, TakesMoves, TakesPairs};
-ghost use Rattle.plan_tables_writing.specs.Taking.{TakesRows, WritesTaking};
+ghost use Rattle.plan_tables_writing.specs.Accepted.{AreKeysOf, AcceptsLinks, AcceptsMoves, AcceptsPairs};
+ghost use Rattle.plan_tables_writing.specs.Accepted.{AcceptsRows, WritesAccepted};
 ghost use Rattle.plan_tables_writing.specs.Writing.{AreStorable, StandAlone, moved_in, rows_moved, pairs_moved};
 ghost use Rattle.external_dependencies.specs.Pair.{pair_cmp};
 ghost use Rattle.external_dependencies.specs.Rising.{IsRising};
@@ -10,8 +10,8 @@ ghost use Rattle.plan_store.specs.Changes.{is_among};
 ghost use Rattle.plan_tables_writing.specs.Writing.{beside, holds_link, links_moved, links_replaced, standing};
 
 use crate::facts::Fact;
-use crate::loops::{put_each, take_each};
-use crate::steps::{PutEach, Step, TakeEach};
+use crate::loops::{delete_each, put_each};
+use crate::steps::{DeleteEach, PutEach, Step};
 use external_dependencies::{Link, Links, Pair, PairChange};
 use plan_store::{Change, Moves};
 use plan_store_lists::has_key;
@@ -25,17 +25,17 @@ fn write_moves<R: Fact, S: Alter>(
     table: Table,
     moves: &Moves<R>,
 ) -> Result<(), Error>
-    ensures { WritesTaking (λ _. AreStorable table R.values × StandAlone table)
+    ensures { WritesAccepted (λ _. AreStorable table R.values × StandAlone table)
         (λ all. (AreKeysOf table R.key × StandAlone table)
-        × TakesMoves table R.values R.key moves.now all)
+        × AcceptsMoves table R.values R.key moves.now all)
         S.Store tx.old tx.new result
         (moved_in table R.values R.key moves.now) }
 {
-    let gone = TakeEach {
+    let gone = DeleteEach {
         table,
         facts: &moves.gone,
     };
-    let old = TakeEach {
+    let old = DeleteEach {
         table,
         facts: &moves.changed,
     };
@@ -56,7 +56,7 @@ pub(crate) fn write_rows<S: Alter>(
     tx: &mut Transaction<'_, S>,
     change: &Change,
 ) -> Result<(), Error>
-    ensures { WritesTaking (λ _. ⊤) (TakesRows change.now) S.Store tx.old tx.new result
+    ensures { WritesAccepted (λ _. ⊤) (AcceptsRows change.now) S.Store tx.old tx.new result
         (rows_moved change.now) }
 {
     write_moves(tx, Table::LongTerm, &change.ltp)?;
@@ -93,12 +93,12 @@ pub(crate) fn write_pairs<S: Alter>(
     change: &PairChange,
 ) -> Result<(), Error>
     requires { IsRising pair_cmp old.now }
-    ensures { WritesTaking (λ _. ⊤) (TakesPairs old.now change.now) S.Store tx.old tx.new result
+    ensures { WritesAccepted (λ _. ⊤) (AcceptsPairs old.now change.now) S.Store tx.old tx.new result
         (pairs_moved old.now change.now) }
 {
     let there = standing(alloc, old, change.added.as_slice())?;
-    take_each(tx, Table::Dependency, change.removed.as_slice())?;
-    take_each(tx, Table::Dependency, &there)?;
+    delete_each(tx, Table::Dependency, change.removed.as_slice())?;
+    delete_each(tx, Table::Dependency, &there)?;
     put_each(tx, Table::Dependency, change.added.as_slice())
 }
 
@@ -129,12 +129,12 @@ fn replace_links<S: Alter>(
     old: &Links,
     new: &Links,
 ) -> Result<(), Error>
-    ensures { WritesTaking (λ _. ⊤) (TakesLinks old.now (Some new.now)) S.Store tx.old tx.new result
+    ensures { WritesAccepted (λ _. ⊤) (AcceptsLinks old.now (Some new.now)) S.Store tx.old tx.new result
         (links_replaced old.now new.now) }
 {
     let gone = links_beside(alloc, new, old)?;
     let come = links_beside(alloc, old, new)?;
-    take_each(tx, Table::LinkInForce, &gone)?;
+    delete_each(tx, Table::LinkInForce, &gone)?;
     put_each(tx, Table::LinkInForce, &come)
 }
 
@@ -145,7 +145,7 @@ pub(crate) fn write_links<S: Alter>(
     old: &Links,
     new: &Option<Links>,
 ) -> Result<(), Error>
-    ensures { WritesTaking (λ _. ⊤) (TakesLinks old.now new.now) S.Store tx.old tx.new result
+    ensures { WritesAccepted (λ _. ⊤) (AcceptsLinks old.now new.now) S.Store tx.old tx.new result
         (links_moved old.now new.now) }
 {
     match new {

@@ -2,14 +2,14 @@
 
 ghost use Rattle.std.specs.Prelude.{⊤};
 ghost use Rattle.plan_tables_schema.specs.Rows.{IsAlone, with_cells, without_key};
-ghost use Rattle.plan_tables_schema.specs.Takes.{LosesKey, TakesRow};
+ghost use Rattle.plan_tables_schema.specs.Accepted.{LosesKey, AcceptsRow};
 ghost use Rattle.plan_tables_definitions.specs.Storing.{IsStorable};
 ghost use Rattle.plan_tables_writing.specs.Redefining.{AreAlone, AreRowsFor, AreStorableMoves};
 ghost use Rattle.plan_tables_schema.specs.declared.tables.Table.TheVariants.{Offset, RunCycle};
 ghost use Rattle.plan_tables_writing.specs.Redefining.{cycles_gone, cycles_put, cycles_renewed, definitions_moved};
 ghost use Rattle.plan_tables_writing.specs.Redefining.{name_key, renewed, rows_of};
-ghost use Rattle.plan_tables_writing.specs.Taking.{AreKeysOf, TakesCycles, TakesEach, TakesKind};
-ghost use Rattle.plan_tables_writing.specs.Taking.{TakesNamed, WritesTaking};
+ghost use Rattle.plan_tables_writing.specs.Accepted.{AreKeysOf, AcceptsCycles, AcceptsEach, AcceptsKind};
+ghost use Rattle.plan_tables_writing.specs.Accepted.{AcceptsNamed, WritesAccepted};
 ghost use Rattle.plan_tables_writing.specs.Writing.{StandAlone, with_each, without_each};
 
 use crate::lone_rows::write_meta;
@@ -45,8 +45,8 @@ fn put_row<S: Alter>(
     table: Table,
     row: &Row,
 ) -> Result<(), Error>
-    ensures { WritesTaking (λ _. IsStorable table row.now)
-        (λ all. IsStorable table row.now × TakesRow table row.now all) S.Store tx.old tx.new result
+    ensures { WritesAccepted (λ _. IsStorable table row.now)
+        (λ all. IsStorable table row.now × AcceptsRow table row.now all) S.Store tx.old tx.new result
         (with_cells table row.now) }
 {
     let values = lend(alloc, row)?;
@@ -63,7 +63,7 @@ struct PutRow {
 impl ForEach<Row> for PutRow {
     ghost fits = { λ it row _. IsStorable it.table row };
 
-    ghost takes = { λ it row all. IsStorable it.table row × TakesRow it.table row all };
+    ghost accepts = { λ it row all. IsStorable it.table row × AcceptsRow it.table row all };
 
     ghost makes = { λ it row. with_cells it.table row };
 
@@ -79,8 +79,8 @@ fn put_rows<S: Alter>(
     table: Table,
     rows: &[Row],
 ) -> Result<(), Error>
-    ensures { WritesTaking (λ _. AreRowsFor table rows.now)
-        (λ all. AreRowsFor table rows.now × TakesEach table rows_of rows.now all)
+    ensures { WritesAccepted (λ _. AreRowsFor table rows.now)
+        (λ all. AreRowsFor table rows.now × AcceptsEach table rows_of rows.now all)
         S.Store tx.old tx.new result
         (with_each table rows_of rows.now) }
 {
@@ -88,8 +88,12 @@ fn put_rows<S: Alter>(
 }
 
 // Deletes the rows of a name from the table.
-fn take_name<S: Alter>(tx: &mut Transaction<'_, S>, table: Table, name: &Name) -> Result<(), Error>
-    ensures { WritesTaking (IsAlone table (name_key name.now)) (LosesKey table (name_key name.now))
+fn delete_name<S: Alter>(
+    tx: &mut Transaction<'_, S>,
+    table: Table,
+    name: &Name,
+) -> Result<(), Error>
+    ensures { WritesAccepted (IsAlone table (name_key name.now)) (LosesKey table (name_key name.now))
         S.Store tx.old tx.new result
         (without_key table (name_key name.now)) }
 {
@@ -98,34 +102,34 @@ fn take_name<S: Alter>(tx: &mut Transaction<'_, S>, table: Table, name: &Name) -
 
 // The rows of a name, out of the table.
 #[derive(Drop)]
-struct TakeName {
+struct DeleteName {
     table: Table,
 }
 
-impl ForEach<Name> for TakeName {
+impl ForEach<Name> for DeleteName {
     ghost fits = { λ it name. IsAlone it.table (name_key name) };
 
-    ghost takes = { λ it name. LosesKey it.table (name_key name) };
+    ghost accepts = { λ it name. LosesKey it.table (name_key name) };
 
     ghost makes = { λ it name. without_key it.table (name_key name) };
 
     fn write<S: Alter>(&self, tx: &mut Transaction<'_, S>, item: &Name) -> Result<(), Error> {
-        take_name(tx, self.table, item)
+        delete_name(tx, self.table, item)
     }
 }
 
 // Deletes the rows of these names from the table.
-fn take_names<S: Alter>(
+fn delete_names<S: Alter>(
     tx: &mut Transaction<'_, S>,
     table: Table,
     names: &[Name],
 ) -> Result<(), Error>
-    ensures { WritesTaking (AreAlone table names.now)
+    ensures { WritesAccepted (AreAlone table names.now)
         (λ all. AreKeysOf table name_key × AreAlone table names.now all)
         S.Store tx.old tx.new result
         (without_each table name_key names.now) }
 {
-    write_each(tx, &TakeName { table }, names)
+    write_each(tx, &DeleteName { table }, names)
 }
 
 // Deletes the rows of these names from the table, and inserts rows.
@@ -135,23 +139,23 @@ fn renew<S: Alter>(
     table: Table,
     moves: &DefinitionMoves,
 ) -> Result<(), Error>
-    ensures { WritesTaking (λ _. StandAlone table × AreRowsFor table moves.now.rows.items)
+    ensures { WritesAccepted (λ _. StandAlone table × AreRowsFor table moves.now.rows.items)
         (λ all. (AreKeysOf table name_key × StandAlone table)
         × (AreRowsFor table moves.now.rows.items
-        × TakesNamed table moves.now.names.items moves.now.rows.items all))
+        × AcceptsNamed table moves.now.names.items moves.now.rows.items all))
         S.Store tx.old tx.new result
         (renewed table moves.now.names.items moves.now.rows.items) }
 {
-    take_names(tx, table, &moves.names)?;
+    delete_names(tx, table, &moves.names)?;
     put_rows(tx, alloc, table, &moves.rows)
 }
 
 // Deletes the run cycles of these applications from their table, after their offsets.
-fn take_cycles<S: Alter>(tx: &mut Transaction<'_, S>, apps: &[Name]) -> Result<(), Error>
-    ensures { WritesTaking (λ _. ⊤) (λ _. ⊤) S.Store tx.old tx.new result (cycles_gone apps.now) }
+fn delete_cycles<S: Alter>(tx: &mut Transaction<'_, S>, apps: &[Name]) -> Result<(), Error>
+    ensures { WritesAccepted (λ _. ⊤) (λ _. ⊤) S.Store tx.old tx.new result (cycles_gone apps.now) }
 {
-    take_names(tx, Table::Offset, apps)?;
-    take_names(tx, Table::RunCycle, apps)
+    delete_names(tx, Table::Offset, apps)?;
+    delete_names(tx, Table::RunCycle, apps)
 }
 
 // Inserts run cycles into their table, before their offsets.
@@ -161,10 +165,10 @@ fn put_cycles<S: Alter>(
     cycles: &[Row],
     offsets: &[Row],
 ) -> Result<(), Error>
-    ensures { WritesTaking (λ _. AreRowsFor RunCycle cycles.now × AreRowsFor Offset offsets.now)
-        (λ all. (AreRowsFor RunCycle cycles.now × TakesEach RunCycle rows_of cycles.now all)
+    ensures { WritesAccepted (λ _. AreRowsFor RunCycle cycles.now × AreRowsFor Offset offsets.now)
+        (λ all. (AreRowsFor RunCycle cycles.now × AcceptsEach RunCycle rows_of cycles.now all)
         × (AreRowsFor Offset offsets.now
-        × TakesEach Offset rows_of offsets.now (with_each RunCycle rows_of cycles.now all)))
+        × AcceptsEach Offset rows_of offsets.now (with_each RunCycle rows_of cycles.now all)))
         S.Store tx.old tx.new result
         (cycles_put cycles.now offsets.now) }
 {
@@ -178,14 +182,14 @@ fn renew_cycles<S: Alter>(
     alloc: Global,
     moves: &DefinitionMoves,
 ) -> Result<(), Error>
-    ensures { WritesTaking
+    ensures { WritesAccepted
         (λ _. AreRowsFor RunCycle moves.now.rows.items × AreRowsFor Offset moves.now.offsets.items)
         (λ all. (AreRowsFor RunCycle moves.now.rows.items
-        × AreRowsFor Offset moves.now.offsets.items) × TakesCycles moves.now all)
+        × AreRowsFor Offset moves.now.offsets.items) × AcceptsCycles moves.now all)
         S.Store tx.old tx.new result
         (cycles_renewed moves.now.names.items moves.now.rows.items moves.now.offsets.items) }
 {
-    take_cycles(tx, &moves.names)?;
+    delete_cycles(tx, &moves.names)?;
     put_cycles(tx, alloc, &moves.rows, &moves.offsets)
 }
 
@@ -197,8 +201,8 @@ pub(crate) fn write_definitions<S: Alter>(
     content: &Content,
     moves: &DefinitionMoves,
 ) -> Result<(), Error>
-    ensures { WritesTaking (λ _. AreStorableMoves moves.now)
-        (λ all. AreStorableMoves moves.now × TakesKind moves.now.kind content.now.bounds
+    ensures { WritesAccepted (λ _. AreStorableMoves moves.now)
+        (λ all. AreStorableMoves moves.now × AcceptsKind moves.now.kind content.now.bounds
         content.now.issued content.now.definitions.options moves.now all)
         S.Store tx.old tx.new result
         (definitions_moved content.now.bounds content.now.issued content.now.definitions.options

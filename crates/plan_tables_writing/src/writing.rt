@@ -11,8 +11,8 @@ ghost use Rattle.plan_store.specs.Contents.{content_of};
 ghost use Rattle.plan_store.specs.Room.{with_pairs_of};
 ghost use Rattle.plan_tables_content.specs.Content.{answer_text};
 ghost use Rattle.plan_tables_writing.specs.Redefining.{AreStorableMoves, written};
-ghost use Rattle.plan_tables_writing.specs.Taking.{TakesChange, TakesJob, TakesNewMeta, TakesPlans};
-ghost use Rattle.plan_tables_writing.specs.Taking.{WritesTaking};
+ghost use Rattle.plan_tables_writing.specs.Accepted.{AcceptsChange, AcceptsJob, AcceptsNewMeta, AcceptsPlans};
+ghost use Rattle.plan_tables_writing.specs.Accepted.{WritesAccepted};
 ghost use Rattle.plan_tables_writing.specs.Writing.{HasRows, HoldsWritten, MayFailWhere, job_kept, meta_moved, plans_written};
 
 use crate::lone_rows::{put_job, write_meta};
@@ -40,7 +40,7 @@ fn write_new_meta<S: Alter>(
     old: &Content,
     change: &Change,
 ) -> Result<(), Error>
-    ensures { WritesTaking (λ _. ⊤) (TakesNewMeta change.now old.now.bounds old.now.issued
+    ensures { WritesAccepted (λ _. ⊤) (AcceptsNewMeta change.now old.now.bounds old.now.issued
         old.now.definitions.options) S.Store tx.old tx.new result
         (meta_moved change.now old.now.bounds old.now.issued old.now.definitions.options) }
 {
@@ -61,7 +61,7 @@ fn write_job<S: Alter>(
 ) -> Result<(), Error>
     requires number { IfSome job.now (λ (job : JobValue). job.number < 2 ^ 63) }
     requires line { IfSome job.now (λ (job : JobValue). line.now ≡ answer_text job.reply) }
-    ensures { WritesTaking (λ _. ⊤) (TakesJob job.now) S.Store tx.old tx.new result
+    ensures { WritesAccepted (λ _. ⊤) (AcceptsJob job.now) S.Store tx.old tx.new result
         (job_kept job.now) }
 {
     match job {
@@ -82,8 +82,8 @@ fn write_plans<S: Alter>(
     requires rising { IsRising pair_cmp pairs.now }
     requires number { IfSome change.now.job (λ (job : JobValue). job.number < 2 ^ 63) }
     requires line { IfSome change.now.job (λ (job : JobValue). line.now ≡ answer_text job.reply) }
-    ensures { WritesTaking (λ _. ⊤)
-        (TakesPlans (with_pairs_of pairs.now (content_of old.now)) change.now)
+    ensures { WritesAccepted (λ _. ⊤)
+        (AcceptsPlans (with_pairs_of pairs.now (content_of old.now)) change.now)
         S.Store tx.old tx.new result
         (plans_written (with_pairs_of pairs.now (content_of old.now)) change.now) }
 {
@@ -108,9 +108,9 @@ pub(crate) fn write_change<S: Alter>(
     requires rising { IsRising pair_cmp pairs.now }
     requires number { IfSome change.now.job (λ (job : JobValue). job.number < 2 ^ 63) }
     requires line { IfSome change.now.job (λ (job : JobValue). line.now ≡ answer_text job.reply) }
-    ensures { WritesTaking (λ _. AreStorableMoves moves.now)
+    ensures { WritesAccepted (λ _. AreStorableMoves moves.now)
         (λ all. AreStorableMoves moves.now
-        × TakesChange (with_pairs_of pairs.now (content_of content.now)) moves.now change.now all)
+        × AcceptsChange (with_pairs_of pairs.now (content_of content.now)) moves.now change.now all)
         S.Store tx.old tx.new result
         (written (with_pairs_of pairs.now (content_of content.now)) moves.now change.now) }
 {
@@ -137,7 +137,7 @@ pub fn commit_change<S: Alter>(
     requires line { IfSome change.now.job (λ (job : JobValue). line.now ≡ answer_text job.reply) }
     ensures { Commits S.Store conn.old conn.new result IsPlan
         (HasRows (written (with_pairs_of pairs.now (content_of content.now)) moves.now change.now))
-        (MayFailWhere (TakesChange (with_pairs_of pairs.now (content_of content.now)) moves.now
+        (MayFailWhere (AcceptsChange (with_pairs_of pairs.now (content_of content.now)) moves.now
         change.now))
         (λ old. HoldsWritten old
         (written (with_pairs_of pairs.now (content_of content.now)) moves.now change.now

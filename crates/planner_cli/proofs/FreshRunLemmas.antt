@@ -17,15 +17,15 @@ use Rattle.planner_machine.specs.Statement.{Define, Delete, Extend, Job, ModifyA
 use Rattle.planner_machine.specs.Statement.{Undefine, decision_of}
 use Rattle.planner_machine.specs.Stream.{IsStatement, RunsSound}
 use Rattle.planner_cli_stream.specs.Items.{Item}
-use Rattle.planner_cli.specs.Asked.{Asks}
+use Rattle.planner_cli.specs.Requests.{Asks}
 use Rattle.planner_cli.specs.Faults.{cause_of, fault_line}
 use Rattle.planner_cli.specs.FreshRuns.{CrashLeavesFresh, FaultLeavesFresh, ItemsLeaveFresh, KeepsDefinitions}
-use Rattle.planner_cli.specs.FreshRuns.{KeepsInHand, LeavesDefinitions, MakesFresh, MakesPlan, PlansAnew}
+use Rattle.planner_cli.specs.FreshRuns.{KeepsInProgress, LeavesDefinitions, MakesFresh, MakesPlan, PlansAnew}
 use Rattle.planner_cli.specs.FreshRuns.{RunLeavesFresh}
 use Rattle.planner_cli.specs.Meaning.{Answers}
 use Rattle.planner_cli.specs.Outcomes.{answer_text}
 use Rattle.planner_cli.specs.Replies.{AnswerLines, ended as ended_line, is_accepted}
-use Rattle.planner_cli.specs.Runs.{LeavesInHand}
+use Rattle.planner_cli.specs.Runs.{LeavesInProgress}
 use Rattle.planner_cli.specs.Steps.{AnswersAsked, Serves, Step}
 use Rattle.planner_cli.proofs.OutcomeLemmas.{accepted_prints, refused_prints}
 use Rattle.planner_cli.proofs.PlanLemmas.{answers_sound, ended, step_sound}
@@ -81,8 +81,8 @@ module _ (one : OneStatement) (stays : StaysFresh) (keeps : RunsSound) where
       (step_keeps item c between reply sound leaves step fresh)
 
   -- the item in hand too, where it is neither `define` nor `undefine`
-  hand_keeps : (c c' : Content) (hand : Option Item) → IsSound c → KeepsInHand hand
-      → (c' ≡ c) ⊎ LeavesInHand Step c hand c' → IsFresh c → IsFresh c'
+  hand_keeps : (c c' : Content) (hand : Option Item) → IsSound c → KeepsInProgress hand
+      → (c' ≡ c) ⊎ LeavesInProgress Step c hand c' → IsFresh c → IsFresh c'
   hand_keeps c c' hand sound leaves (inl same) fresh = subst IsFresh (sym same) fresh
   hand_keeps c c' hand sound leaves (inr (item, is, (reply, step))) fresh =
       step_keeps item c c' reply sound (λ s asks redefines accepted. absurd (leaves item s is asks redefines)) step

@@ -9,8 +9,8 @@ use Rattle.std.proofs.lemmas.List.{length-append, length-map}
 use Rattle.occurrences.specs.declared.reply.Reply.TheVariants.{Rows}
 use Rattle.plan_listings.specs.Line.{AreLinesOf}
 use Rattle.plan_store.specs.Faults.{IsMildListing}
-use Rattle.plan_store.specs.Listings.{EndsSo, HandsAll, HandsPart, IsListing, Shown, ShowLinks, ShowPairs, ShowRows}
-use Rattle.plan_store.specs.Listings.{TakesAll, in_force_shown, link_shown, row_shown}
+use Rattle.plan_store.specs.Listings.{EndsSo, EmitsAll, EmitsPart, IsListing, Shown, ShowLinks, ShowPairs, ShowRows}
+use Rattle.plan_store.specs.Listings.{AcceptsAll, in_force_shown, link_shown, row_shown}
 use Rattle.plan_store.specs.declared.listings.ListFault.{ListFault}
 use Rattle.plan_store.specs.declared.listings.ListFault.TheVariants as Faults
 use Rattle.plan_store.specs.declared.listings.What.{What}
@@ -22,21 +22,21 @@ use Rattle.planner_machine.specs.Content.{Content}
 use Rattle.planner_machine.specs.Shown.{CurrentPlan, InDeletions, InHistory, Listed, LongTermPlan}
 use Rattle.planner_machine.specs.Statement.{ListLinks, ListPairs, ListRows}
 use Rattle.planner_cli_stream.specs.Items.{Item}
-use Rattle.planner_cli.specs.Asked.{Asks, list_asked}
+use Rattle.planner_cli.specs.Requests.{Asks, list_asked}
 use Rattle.planner_cli.specs.Faults.{store_cause}
-use Rattle.planner_cli.specs.Lists.{BeginsInHand, BeginsList}
+use Rattle.planner_cli.specs.Lists.{BeginsInProgress, BeginsList}
 use Rattle.planner_cli.specs.Outcomes.{answer_text, answering}
 use Rattle.planner_cli.specs.Replies.{Prints, AnswerLines, ended, is_accepted, is_refused, printed}
 use Rattle.planner_cli.specs.Rows.{IsShownText}
 use Rattle.planner_cli.specs.Runs.{IsFrontOf, ItemBreaks}
-use Rattle.planner_cli.specs.Sinks.{TakesFront, TakesLine, TakesLines, WritesAll, WritesPart}
+use Rattle.planner_cli.specs.Sinks.{AcceptsFront, AcceptsLine, AcceptsLines, WritesAll, WritesPart}
 use Rattle.planner_cli.specs.Steps.{Serves, Step}
 use Rattle.planner_cli.specs.Stores.{IsBlamed, LeavesOwn}
 use Rattle.planner_cli.specs.Writes.{AnswersItem, IsUnwritten, IsWritten}
 use Rattle.planner_cli.specs.declared.answers.Printed.{Printed}
 use Rattle.planner_cli.specs.declared.faults.Cause.{Cause}
 use Rattle.planner_cli.specs.declared.faults.Cause.TheVariants.{Device, Memory}
-use Rattle.planner_cli.specs.declared.faults.Part.TheVariants.{Store, Writer}
+use Rattle.planner_cli.specs.declared.faults.FaultSource.TheVariants.{Store, Writer}
 use Rattle.planner_cli.proofs.Progress.{writer_breaks}
 use Rattle.planner_cli.proofs.RowLemmas.{flat_map_more}
 
@@ -73,14 +73,14 @@ lines_more (x ∷ items) (l ∷ lines) item line are is = (are.0, lines_more ite
 -- ---- what a sink that writes lines took
 
 module _ {K N : Type 0} (some : K) (contents : K → Option (List ℕ)) (name : K → N) where
-  abbrev pub Takes : K → Shown → K → Type 0
-  Takes old item new = (name new ≡ name old) × TakesLine (contents old) item (contents new)
+  abbrev pub Accepts : K → Shown → K → Type 0
+  Accepts old item new = (name new ≡ name old) × AcceptsLine (contents old) item (contents new)
 
   abbrev pub Refuses : K → Shown → K → Type 0
-  Refuses old item new = (name new ≡ name old) × TakesFront (contents old) item (contents new)
+  Refuses old item new = (name new ≡ name old) × AcceptsFront (contents old) item (contents new)
 
-  took : (items : List Shown) (old new : K) → TakesAll Takes old items new → (name new ≡ name old)
-      × TakesLines (contents old) items (contents new)
+  took : (items : List Shown) (old new : K) → AcceptsAll Accepts old items new → (name new ≡ name old)
+      × AcceptsLines (contents old) items (contents new)
   took [] old new is =
       (ap name is, ([], tt, subst (λ k. Appends (contents old) (contents k) []) (sym is) (Appends-nil (contents old))))
   took (item ∷ items) old new (next, (named, (line, is, appended)), later) =
@@ -95,7 +95,7 @@ module _ {K N : Type 0} (some : K) (contents : K → Option (List ℕ)) (name : 
       )
 
   module _ (IsWhole : List Shown → Type 0) (old new : K) where
-    pub wrote_all : (count : ℕ) → HandsAll Takes IsWhole old new count → (name new ≡ name old)
+    pub wrote_all : (count : ℕ) → EmitsAll Accepts IsWhole old new count → (name new ≡ name old)
         × WritesAll IsWhole (contents old) (contents new) count
     wrote_all count h =
         let (named, lines) = took h.items old new h.taken in
@@ -104,7 +104,7 @@ module _ {K N : Type 0} (some : K) (contents : K → Option (List ℕ)) (name : 
     -- the lines before, and a front of the next
     cut_off : (done rest : List Shown) (last : K) (item : Shown) (later : List Shown) (fault : ListFault)
         → IsWhole (done ++ rest) → rest ≡ item ∷ later
-        → TakesAll Takes old done last → Refuses last item new
+        → AcceptsAll Accepts old done last → Refuses last item new
         → (name new ≡ name old) × ((first : List Shown) × (others : List Shown) × IsWhole (first ++ others)
         × ((lines : List (List ℕ)) × AreLinesOf IsShownText first lines
         × ((front : List ℕ) × IsFrontOf front (flat_map ended lines) × Appends (contents old) (contents new) front)))
@@ -129,7 +129,7 @@ module _ {K N : Type 0} (some : K) (contents : K → Option (List ℕ)) (name : 
         )
 
     wrote_first : (fault : ListFault) (done rest : List Shown) → IsWhole (done ++ rest)
-        → EndsSo Takes Refuses old done rest new fault
+        → EndsSo Accepts Refuses old done rest new fault
         → (name new ≡ name old) × WritesPart IsWhole (contents old) (contents new) fault
     wrote_first Faults.Memory done rest whole taken =
         let (named, lines) = took done old new taken in
@@ -142,7 +142,7 @@ module _ {K N : Type 0} (some : K) (contents : K → Option (List ℕ)) (name : 
         refused in
         (named, record { first = first; rest = others; whole = all; ends = ends })
 
-    pub wrote_part : (fault : ListFault) → HandsPart Takes Refuses IsWhole old new fault
+    pub wrote_part : (fault : ListFault) → EmitsPart Accepts Refuses IsWhole old new fault
         → (name new ≡ name old) × WritesPart IsWhole (contents old) (contents new) fault
     wrote_part fault h = wrote_first fault h.done h.rest h.whole h.ends
 
@@ -248,8 +248,8 @@ module _ {S : Type 0} (g : Ghosts S) (before now : S) (old mid new : Option (Lis
 
   -- the first lines, before a fault
   lines_begun : (c : Content) (new' : Option (List ℕ)) (first rest : List Shown) → IsListing what app c (first ++ rest)
-      → TakesLines old first new'
-      → (front : List ℕ) × BeginsInHand c (Some item) front × Appends old new' front
+      → AcceptsLines old first new'
+      → (front : List ℕ) × BeginsInProgress c (Some item) front × Appends old new' front
   lines_begun c new' first rest whole (lines, are, appended) =
       (flat_map ended lines, inr (lines, (item, refl, begins c first rest lines whole are), refl), appended)
 

@@ -7,7 +7,7 @@ use Rattle.planner_cli.specs.Plans.{RanPlan, StoppedPlan}
 use Rattle.planner_cli.specs.Runs.{ends_of}
 use Rattle.planner_cli.specs.Stores.{IsBlamed}
 use Rattle.planner_cli.specs.declared.faults.Cause.TheVariants.{Device}
-use Rattle.planner_cli.specs.declared.faults.Part.TheVariants.{Store}
+use Rattle.planner_cli.specs.declared.faults.FaultSource.TheVariants.{Store}
 use Rattle.planner_cli.specs.declared.faults.RunFault.{RunFault}
 use Rattle.planner_cli.specs.declared.tally.Tally.{Tally}
 

@@ -9,17 +9,17 @@ use Rattle.planner_machine.specs.Statement.{Answer, Days, DefineJob, Job, ListLi
 use Rattle.planner_machine.specs.Statement.{Trial}
 use Rattle.planner_machine.specs.Stream.{IsStatement, Runs, RunsByFate, RunsSound}
 use Rattle.planner_cli_stream.specs.Items.{Item}
-use Rattle.planner_cli.specs.Asked.{AreAsked, Asks}
+use Rattle.planner_cli.specs.Requests.{AreAsked, Asks}
 use Rattle.planner_cli.specs.Faults.{cause_of, fault_line}
 use Rattle.planner_cli.specs.Meaning.{Answers}
 use Rattle.planner_cli.specs.Outcomes.{answering}
 use Rattle.planner_cli.specs.Plans.{AreAnswered, CrashedPlan, LeadsTo, RanPlan, RepliedPlan, StoppedPlan}
 use Rattle.planner_cli.specs.Replies.{AnswerLines}
-use Rattle.planner_cli.specs.Runs.{Crashed, EndsBy, LeavesInHand, Ran, Stopped, ends_of}
+use Rattle.planner_cli.specs.Runs.{Crashed, EndsBy, LeavesInProgress, Ran, Stopped, ends_of}
 use Rattle.planner_cli.specs.Steps.{AnswersAsked, Serves, Step}
 use Rattle.planner_cli.specs.declared.faults.Cause.{Cause}
 use Rattle.planner_cli.specs.declared.faults.Cause.TheVariants.{Device, Memory}
-use Rattle.planner_cli.specs.declared.faults.Part.TheVariants.{Reader, Store, Writer}
+use Rattle.planner_cli.specs.declared.faults.FaultSource.TheVariants.{Reader, Store, Writer}
 use Rattle.planner_cli.specs.declared.faults.RunFault.{RunFault}
 use Rattle.planner_cli.specs.declared.tally.Tally.{Tally}
 use Rattle.planner_cli.proofs.Progress.{answers_more}
@@ -149,7 +149,7 @@ pub record Reached (done : List Item) (replies : List AnswerLines) (c c' : Conte
 -- where nothing changed since, or the item in hand was answered
 since : (done : List Item) (replies : List AnswerLines) (c between c' : Content) (hand : Option Item)
     → Answers Step c done replies between
-    → (c' ≡ between) ⊎ LeavesInHand Step between hand c' → Reached done replies c c' hand
+    → (c' ≡ between) ⊎ LeavesInProgress Step between hand c' → Reached done replies c c' hand
 since done replies c between c' hand h (inl same) = record {
   items = done;
   told = replies;
@@ -166,7 +166,7 @@ since done replies c between c' hand h (inr (item, is, (reply, step))) = record 
 -- a fault changes nothing after the answers, but for the item in hand
 pub ended : (cause : Cause) (line : List ℕ) (between c' : Content) (hand : Option Item) (tail : List ℕ)
     → EndsBy Step cause line between c' hand tail
-    → (c' ≡ between) ⊎ LeavesInHand Step between hand c'
+    → (c' ≡ between) ⊎ LeavesInProgress Step between hand c'
 ended Memory line between c' hand tail h = inl h.0
 ended (Device Store) line between c' hand tail h = h.0
 ended (Device Reader) line between c' hand tail h = inl h.0

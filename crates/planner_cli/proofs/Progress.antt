@@ -14,13 +14,13 @@ use Rattle.planner_cli.specs.Meaning.{Answers, StepOf, tally_after, tally_of}
 use Rattle.plan_store.specs.declared.stores.StoreFault.{StoreFault}
 use Rattle.plan_store.specs.declared.stores.StoreFault.TheVariants as Stores
 use Rattle.planner_cli.specs.Faults.{cause_of, read_cause, store_cause, tally_in, fault_line}
-use Rattle.planner_cli.specs.Lists.{BeginsInHand}
-use Rattle.planner_cli.specs.Runs.{Crashed, EndsBy, IsFrontOf, ItemBreaks, LeavesInHand, Stopped, WritesFault}
+use Rattle.planner_cli.specs.Lists.{BeginsInProgress}
+use Rattle.planner_cli.specs.Runs.{Crashed, EndsBy, IsFrontOf, ItemBreaks, LeavesInProgress, Stopped, WritesFault}
 use Rattle.planner_cli.specs.Runs.{ends_of, with_hand}
 use Rattle.planner_cli.specs.declared.tally.Tally.{Tally}
 use Rattle.planner_cli_stream.specs.declared.lines.ReadFault.{ReadFault}
 use Rattle.planner_cli_stream.specs.declared.lines.ReadFault.TheVariants as Reads
-use Rattle.planner_cli.specs.declared.faults.Part.TheVariants.{Store, Reader, Writer}
+use Rattle.planner_cli.specs.declared.faults.FaultSource.TheVariants.{Store, Reader, Writer}
 use Rattle.planner_cli.specs.declared.faults.Cause.{Cause}
 use Rattle.planner_cli.specs.declared.faults.Cause.TheVariants.{Memory, Device}
 use Rattle.planner_cli.specs.declared.faults.RunFault.{RunFault}
@@ -209,7 +209,7 @@ one_in_hand None c done item h = tt
 one_in_hand (Some text) c done item h = (items_of h.0, h.2)
 
 -- the first rows of a listing, and no line of a fault
-rows_begun : (s : Content) (item : Item) (front : List ℕ) → BeginsInHand s (Some item) front
+rows_begun : (s : Content) (item : Item) (front : List ℕ) → BeginsInProgress s (Some item) front
     → WritesFault s (Some item) [] front
 rows_begun s item front begins = (front, [], sym (append-nil front), begins, nothing_front [])
 
@@ -256,7 +256,7 @@ crashes_between Step s0 s w0 w remaining b tally f fault p e tallied c same =
 
 -- what stays, or that after the item in hand
 in_hand : (Step : StepOf Content) (s t : Content) (item : Item) → (t ≡ s) ⊎ ((reply : AnswerLines) × Step s item reply t)
-    → (t ≡ s) ⊎ LeavesInHand Step s (Some item) t
+    → (t ≡ s) ⊎ LeavesInProgress Step s (Some item) t
 in_hand Step s t item (inl same) = inl same
 in_hand Step s t item (inr did) = inr (item, refl, did)
 
@@ -345,7 +345,7 @@ crash_written Step s t w0 w w' read fault cause c h e appended =
 
 -- nothing is written of the item in hand
 nothing_begun : (s : Content) (w w' : Option (List ℕ)) (item : Item) → Keeps w w'
-    → (front : List ℕ) × BeginsInHand s (Some item) front × Appends w w' front
+    → (front : List ℕ) × BeginsInProgress s (Some item) front × Appends w w' front
 nothing_begun s w w' item kept = ([], inl refl, kept_appends w w' kept)
 
 -- a store fails within an item

@@ -10,7 +10,7 @@ use Rattle.planner_machine.specs.Stream.{IsStatement, Runs, RunsSound}
 use Rattle.planner_cli_stream.specs.Statement.{IsLineOf, Reads}
 use Rattle.planner_cli_stream.specs.declared.statements.Statement.{Statement as LineStatement}
 use Rattle.planner_cli_stream.specs.Items.{Alone, Item, NoStatement, WithBlock, items_of}
-use Rattle.planner_cli.specs.Asked.{AreAsked, Asks, asked_alone, asked_with, if_asked}
+use Rattle.planner_cli.specs.Requests.{AreAsked, Asks, asked_alone, asked_with, if_asked}
 use Rattle.planner_cli.specs.Faults.{fault_line}
 use Rattle.planner_cli.specs.Meaning.{Answers}
 use Rattle.planner_cli.specs.Outcomes.{answering}

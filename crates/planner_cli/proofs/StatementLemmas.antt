@@ -8,8 +8,8 @@ use Rattle.plan_store.specs.declared.stores.StoreFault.{StoreFault}
 use Rattle.plan_store.specs.declared.stores.StoreFault.TheVariants.{Memory}
 use Rattle.planner_cli_stream.specs.Statement.{Reads}
 use Rattle.planner_cli_stream.specs.declared.statements.Statement.{Statement as LineStatement}
-use Rattle.planner_cli_stream.specs.Items.{Alone, Block, Item, WithBlock}
-use Rattle.planner_cli.specs.Asked.{Asks, asked_alone, asked_with}
+use Rattle.planner_cli_stream.specs.Items.{Alone, DataBlock, Item, WithBlock}
+use Rattle.planner_cli.specs.Requests.{Asks, asked_alone, asked_with}
 use Rattle.planner_cli.specs.Outcomes.{refusing}
 use Rattle.planner_cli.specs.Replies.{Prints}
 use Rattle.planner_cli.specs.Steps.{Serves, Step}
@@ -21,7 +21,7 @@ use Rattle.planner_cli.proofs.StoreLemmas.{answers_so, untouched}
 use Rattle.planner_cli.proofs.WriteLemmas.{wrote}
 
 -- what a line with data asks
-pub asks_with : (line : List ℕ) (block : Block) (read : LineStatement) (asked : Option Statement)
+pub asks_with : (line : List ℕ) (block : DataBlock) (read : LineStatement) (asked : Option Statement)
     → Reads line (Some read) → asked_with line block read ≡ asked → Asks (WithBlock line block) asked
 asks_with line block read asked reads is = (Some read, reads, sym is)
 

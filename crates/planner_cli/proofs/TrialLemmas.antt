@@ -14,7 +14,7 @@ use Rattle.occurrences.specs.declared.row.Row.{Row}
 use Rattle.occurrences.specs.declared.status.Status.{Status}
 use Rattle.occurrences.specs.declared.status.Status.TheVariants.{C, D, E, S, W}
 use Rattle.external_dependencies.specs.declared.rows.PlacedRow.{PlacedRow}
-use Rattle.planner_machine.specs.Content.{Seat, Sets, StandsAt}
+use Rattle.planner_machine.specs.Content.{Seat, Sets, IsOnlyAt}
 use Rattle.planner_machine.specs.DailyPlan.{is_completed, is_deleted, is_uncompleted}
 use Rattle.planner_machine.specs.Fate.{DailyFate, Fate, ModifyFate, Stays, place_after_daily_plan}
 use Rattle.planner_machine.specs.Shown.{DailyChange, DailyMark, IsDailyChange, IsDailyStep, IsPlanChange, PlanChange}
@@ -42,22 +42,22 @@ abbrev planned : Row → PlacedRow
 planned row = record { row = row; place = LongTerm }
 
 module _ (s : Sets) (numbered : AreNumbered s) where
-  in_ltp : (serial : ℕ) (row : Row) → StandsAt s serial (planned row) → s.ltp serial ≡ Some row
+  in_ltp : (serial : ℕ) (row : Row) → IsOnlyAt s serial (planned row) → s.ltp serial ≡ Some row
   in_ltp serial row stands = ap (λ (x : Seat). x.ltp) stands
 
-  in_cp : (serial : ℕ) (row : Row) (status : Status) → StandsAt s serial (record { row = row; place = Current status })
+  in_cp : (serial : ℕ) (row : Row) (status : Status) → IsOnlyAt s serial (record { row = row; place = Current status })
       → s.cp serial ≡ Some (record { row = row; status = status })
   in_cp serial row status stands = ap (λ (x : Seat). x.cp) stands
 
   -- the place of what the long-term plan has, and what it has of a place
-  place_planned : (serial : ℕ) (row : Row) (q : PlacedRow) → s.ltp serial ≡ Some row → StandsAt s serial q
+  place_planned : (serial : ℕ) (row : Row) (q : PlacedRow) → s.ltp serial ≡ Some row → IsOnlyAt s serial q
       → q ≡ planned row
   place_planned serial row q is stands = one_place s serial q (planned row) stands (stands_ltp s numbered serial row is)
 
-  not_planned : (serial : ℕ) (q : PlacedRow) → StandsAt s serial q → s.ltp serial ≡ None → q.place ≡ LongTerm → ⊥
+  not_planned : (serial : ℕ) (q : PlacedRow) → IsOnlyAt s serial q → s.ltp serial ≡ None → q.place ≡ LongTerm → ⊥
   not_planned serial q stands none is =
       some_none (s.ltp serial) q.row
-      (in_ltp serial q.row (subst (λ place. StandsAt s serial (record { row = q.row; place = place })) is stands)) none
+      (in_ltp serial q.row (subst (λ place. IsOnlyAt s serial (record { row = q.row; place = place })) is stands)) none
 
   unissued_none : (serial : ℕ) → s.issued < serial → s.ltp serial ≡ None
   unissued_none serial above = ap (λ (x : Seat). x.ltp) (numbered.unissued serial (inr above))
@@ -109,7 +109,7 @@ abbrev pub GoesOut : Sets → Sets → ℕ → Row → Type 0
 GoesOut s s' serial row = (s.ltp serial ≡ Some row) × (s'.ltp serial ≡ None)
 
 module _ (s s' : Sets) (numbered : AreNumbered s) (numbered' : AreNumbered s') (fate : Fate) (fair : IsPlanFate fate)
-    (old : (serial : ℕ) (p : PlacedRow) → StandsAt s serial p → (q : PlacedRow) × fate p q × StandsAt s' serial q)
+    (old : (serial : ℕ) (p : PlacedRow) → IsOnlyAt s serial p → (q : PlacedRow) × fate p q × IsOnlyAt s' serial q)
     (made withdrawn : List Row) (are_made : AreRowsOf (ComesIn s s') made)
     (are_withdrawn : AreRowsOf (GoesOut s s') withdrawn) where
   made_so : (row : Row) → Contains made row → IsPlanChange s s' (would_be_made row)
@@ -118,7 +118,7 @@ module _ (s s' : Sets) (numbered : AreNumbered s) (numbered' : AreNumbered s') (
       let stands = stands_ltp s' numbered' row.serial row is in
       (row.serial, (new none is stands (cases_issued s.issued row.serial), stands))
     where
-      new : s.ltp row.serial ≡ None → s'.ltp row.serial ≡ Some row → StandsAt s' row.serial (planned row)
+      new : s.ltp row.serial ≡ None → s'.ltp row.serial ≡ Some row → IsOnlyAt s' row.serial (planned row)
           → ((1 ≤ row.serial) × (row.serial ≤ s.issued)) ⊎ ((row.serial ≡ 0) ⊎ (s.issued < row.serial))
           → s.issued < row.serial
       new none is stands (inl within) =
@@ -142,7 +142,7 @@ module _ (s s' : Sets) (numbered : AreNumbered s) (numbered' : AreNumbered s') (
           stood,
           elim (fair.goes (planned row) q f refl) [
             | inl still ↦ absurd (not_planned s' numbered' row.serial q stands none still)
-            | inr gone ↦ subst (StandsAt s' row.serial) gone stands
+            | inr gone ↦ subst (IsOnlyAt s' row.serial) gone stands
           ],
         ),
       )
@@ -238,16 +238,16 @@ moved_place t row other = elim (nat_lt row.key.ia t) as
     ] other
 
 module _ (s s' : Sets) (numbered : AreNumbered s) (numbered' : AreNumbered s') (t : ℕ)
-    (old : (serial : ℕ) (p : PlacedRow) → StandsAt s serial p → (q : PlacedRow) × DailyFate t p q
-    × StandsAt s' serial q)
+    (old : (serial : ℕ) (p : PlacedRow) → IsOnlyAt s serial p → (q : PlacedRow) × DailyFate t p q
+    × IsOnlyAt s' serial q)
     (moved : List Row) (rows : List CurrentRow) (are_moved : AreRowsOf (GoesOut s s') moved)
     (are_current : AreCurrent s rows) where
   -- where what stood somewhere stands after the plan
-  goes_to : (serial : ℕ) (row : Row) (place : Place) → StandsAt s serial (record { row = row; place = place })
-      → StandsAt s' serial (record { row = row; place = place_after_daily_plan t row place })
+  goes_to : (serial : ℕ) (row : Row) (place : Place) → IsOnlyAt s serial (record { row = row; place = place })
+      → IsOnlyAt s' serial (record { row = row; place = place_after_daily_plan t row place })
   goes_to serial row place stood =
       let (q, is, stands) = old serial (record { row = row; place = place }) stood in
-      subst (StandsAt s' serial) is stands
+      subst (IsOnlyAt s' serial) is stands
 
   moved_so : (row : Row) → Contains moved row → IsDailyChange s s' (would_be_moved row)
   moved_so row there =
@@ -260,12 +260,12 @@ module _ (s s' : Sets) (numbered : AreNumbered s) (numbered' : AreNumbered s') (
         Current W,
         stood,
         subst
-            (λ place. StandsAt s' row.serial (record { row = row; place = place })) waits stands,
+            (λ place. IsOnlyAt s' row.serial (record { row = row; place = place })) waits stands,
         (refl, refl, refl),
       )
 
   stood_current : (current : CurrentRow) → Contains rows current
-      → StandsAt s current.row.serial (record { row = current.row; place = Current current.status })
+      → IsOnlyAt s current.row.serial (record { row = current.row; place = Current current.status })
   stood_current current there = stands_cp s numbered current.row.serial current (are_current.is current there)
 
   carried_so : (current : CurrentRow) → Contains rows current → is_uncompleted current.status ≡ true
@@ -277,7 +277,7 @@ module _ (s s' : Sets) (numbered : AreNumbered s) (numbered' : AreNumbered s') (
         Current current.status,
         Current current.status,
         stood,
-        subst (λ place. StandsAt s' current.row.serial (record { row = current.row; place = place }))
+        subst (λ place. IsOnlyAt s' current.row.serial (record { row = current.row; place = place }))
             (uncompleted_stays t current.row current.status unfinished) stands,
         (refl, refl),
       )
@@ -285,14 +285,14 @@ module _ (s s' : Sets) (numbered : AreNumbered s) (numbered' : AreNumbered s') (
   history_so : (row : Row) (status : Status) → status ≡ C → Contains rows (record { row = row; status = status })
       → IsDailyChange s s' (would_be_history (record { row = row; status = status }))
   history_so row status is there =
-      let stood = subst (λ x. StandsAt s row.serial (record { row = row; place = Current x })) is
+      let stood = subst (λ x. IsOnlyAt s row.serial (record { row = row; place = Current x })) is
       (stood_current (record { row = row; status = status }) there) in
       (row.serial, Current C, History, stood, goes_to row.serial row (Current C) stood, (refl, refl, refl))
 
   deleted_so : (row : Row) (status : Status) → status ≡ D → Contains rows (record { row = row; status = status })
       → IsDailyChange s s' (would_be_deleted (record { row = row; status = status }))
   deleted_so row status is there =
-      let stood = subst (λ x. StandsAt s row.serial (record { row = row; place = Current x })) is
+      let stood = subst (λ x. IsOnlyAt s row.serial (record { row = row; place = Current x })) is
       (stood_current (record { row = row; status = status }) there) in
       (row.serial, Current D, Deleted Plan, stood, goes_to row.serial row (Current D) stood, (refl, refl, refl))
 
@@ -348,38 +348,38 @@ module _ (s s' : Sets) (numbered : AreNumbered s) (numbered' : AreNumbered s') (
       (deleted_so current.row current.status (deleted_is current.status gone) in_rows)
 
   current_at : (serial : ℕ) (row : Row) (status : Status)
-      → StandsAt s serial (record { row = row; place = Current status })
+      → IsOnlyAt s serial (record { row = row; place = Current status })
       → Contains rows (record { row = row; status = status })
   current_at serial row status stood = are_current.all serial (record { row = row; status = status })
       (in_cp s numbered serial row status stood)
 
   so_part : (row : Row) (mark : DailyMark) (status : Status) (serial : ℕ) (before after : Place)
-      → StandsAt s serial (record { row = row; place = before })
-      → StandsAt s' serial (record { row = row; place = after })
+      → IsOnlyAt s serial (record { row = row; place = before })
+      → IsOnlyAt s' serial (record { row = row; place = after })
       → IsDailyStep mark status before after → InParts (record { row = row; mark = mark; status = status })
   so_part row WouldBeMoved status serial before after stood stands (is, was, now) =
-      let from = subst (λ place. StandsAt s serial (record { row = row; place = place })) was stood in
-      let to = subst (λ place. StandsAt s' serial (record { row = row; place = place })) now stands in
+      let from = subst (λ place. IsOnlyAt s serial (record { row = row; place = place })) was stood in
+      let to = subst (λ place. IsOnlyAt s' serial (record { row = row; place = place })) now stands in
       let at = are_moved.all serial row (in_ltp s numbered serial row from, ap (λ (x : Seat). x.ltp) to) in
       inl (subst (λ x. Contains (map would_be_moved moved) (record { row = row; mark = WouldBeMoved; status = x }))
       (sym is) (map_contains would_be_moved moved row at))
   so_part row WouldBeCarried status serial before after stood stands (was, now) =
-      let from = subst (λ place. StandsAt s serial (record { row = row; place = place })) was stood in
-      let to = subst (λ place. StandsAt s' serial (record { row = row; place = place })) now stands in
+      let from = subst (λ place. IsOnlyAt s serial (record { row = row; place = place })) was stood in
+      let to = subst (λ place. IsOnlyAt s' serial (record { row = row; place = place })) now stands in
       let same = one_place s' serial _ _ (goes_to serial row (Current status) from) to in
       let unfinished = still_uncompleted t row status (ap (λ (p : PlacedRow). p.place) same) in
       let at = filter_contains uncompleted rows (record { row = row; status = status })
       (current_at serial row status from) unfinished in
       inr (inl (map_contains would_be_carried (filter uncompleted rows) (record { row = row; status = status }) at))
   so_part row WouldBeHistory status serial before after stood stands (is, was, now) =
-      let from = subst (λ place. StandsAt s serial (record { row = row; place = place })) was stood in
+      let from = subst (λ place. IsOnlyAt s serial (record { row = row; place = place })) was stood in
       let at = filter_contains completed rows (record { row = row; status = C }) (current_at serial row C from) refl in
       inr
       (inr (inl (subst (λ x. Contains (history_part rows) (record { row = row; mark = WouldBeHistory; status = x }))
       (sym is)
       (map_contains would_be_history (filter completed rows) (record { row = row; status = C }) at))))
   so_part row WouldBeDeleted status serial before after stood stands (is, was, now) =
-      let from = subst (λ place. StandsAt s serial (record { row = row; place = place })) was stood in
+      let from = subst (λ place. IsOnlyAt s serial (record { row = row; place = place })) was stood in
       let at = filter_contains deleted rows (record { row = row; status = D }) (current_at serial row D from) refl in
       inr
       (inr (inr (subst (λ x. Contains (deleted_part rows) (record { row = row; mark = WouldBeDeleted; status = x }))

@@ -14,7 +14,7 @@ use Rattle.occurrences.specs.declared.row.Row.{Row}
 use Rattle.occurrences.specs.declared.status.Status.{Status}
 use Rattle.occurrences.specs.declared.status.Status.TheVariants.{C, D}
 use Rattle.external_dependencies.specs.declared.rows.PlacedRow.{PlacedRow}
-use Rattle.planner_machine.specs.Content.{Content, StandsAt}
+use Rattle.planner_machine.specs.Content.{Content, IsOnlyAt}
 use Rattle.planner_machine.specs.DailyExtendBy.{DailyFateBy}
 use Rattle.planner_machine.specs.Decision.{Decides}
 use Rattle.planner_machine.specs.Fate.{DailyFate}
@@ -233,8 +233,8 @@ daily_shown function law stays made reply c sound verdict rows lists text report
     } in
     let current = current_rows c sound.serials rows lists in
     let (t, is_to) = daily_end function c reply left verdict.1 in
-    let old : (serial : ℕ) (p : PlacedRow) → StandsAt c.sets serial p → (q : PlacedRow)
-    × DailyFate t p q × StandsAt left.sets serial q = λ serial p at.
+    let old : (serial : ℕ) (p : PlacedRow) → IsOnlyAt c.sets serial p → (q : PlacedRow)
+    × DailyFate t p q × IsOnlyAt left.sets serial q = λ serial p at.
     let (q, goes, there) = follows.old serial p at in (q, is_to p q goes, there) in
     let items = daily_changes made.ltp.gone.items rows in
     let apart = daily_apart c.sets left.sets sound.serials left_sound.serials t old made.ltp.gone.items rows gone

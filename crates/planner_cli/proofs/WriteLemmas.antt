@@ -15,7 +15,7 @@ use Rattle.planner_cli.specs.Writes.{AnswersItem, IsUnwritten, IsWritten}
 use Rattle.planner_cli.specs.declared.answers.Printed.{Printed}
 use Rattle.planner_cli.specs.declared.faults.Cause.{Cause}
 use Rattle.planner_cli.specs.declared.faults.Cause.TheVariants.{Device, Memory}
-use Rattle.planner_cli.specs.declared.faults.Part.TheVariants.{Store, Writer}
+use Rattle.planner_cli.specs.declared.faults.FaultSource.TheVariants.{Store, Writer}
 use Rattle.planner_cli.proofs.Progress.{memory_breaks, store_breaks, writer_breaks}
 
 module _ {S : Type 0} (g : Ghosts S) (before now : S) (old new : Option (List ℕ)) (item : Item) where

@@ -6,7 +6,7 @@ use Rattle.planner_cli_stream.specs.declared.lines.ReadFault.{ReadFault}
 use Rattle.planner_cli_stream.specs.declared.lines.ReadFault.TheVariants as Reads
 use Rattle.plan_store.specs.declared.stores.StoreFault.{StoreFault}
 use Rattle.plan_store.specs.declared.stores.StoreFault.TheVariants as Stores
-use Rattle.planner_cli.specs.declared.faults.Part.TheVariants.{Store, Reader, Writer}
+use Rattle.planner_cli.specs.declared.faults.FaultSource.TheVariants.{Store, Reader, Writer}
 use Rattle.planner_cli.specs.declared.faults.Cause.{Cause}
 use Rattle.planner_cli.specs.declared.faults.Cause.TheVariants as Causes
 use Rattle.planner_cli.specs.declared.faults.RunFault.{RunFault}

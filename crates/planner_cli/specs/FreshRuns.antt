@@ -5,7 +5,7 @@ use Rattle.planner_machine.specs.Fresh.{IsFresh, IsRepeated, Redefines}
 use Rattle.planner_machine.specs.Sound.{IsSound}
 use Rattle.planner_machine.specs.Statement.{Change, Create, Job, ModifyAll, Statement}
 use Rattle.planner_cli_stream.specs.Items.{Item}
-use Rattle.planner_cli.specs.Asked.{Asks}
+use Rattle.planner_cli.specs.Requests.{Asks}
 use Rattle.planner_cli.specs.Faults.{fault_line}
 use Rattle.planner_cli.specs.Meaning.{Answers}
 use Rattle.planner_cli.specs.Replies.{AnswerLines, is_accepted}
@@ -71,8 +71,8 @@ RunLeavesFresh =
     → LeadsFresh ran.items ran.replies ends.before ends.after ran.answers → IsFresh ends.after
 
 -- the item in progress, if there is one, is neither `define` nor `undefine`
-abbrev pub KeepsInHand : Option Item → Type 0
-KeepsInHand hand = (item : Item) (s : Statement) → hand ≡ Some item → Asks item (Some s) → Redefines s → ⊥
+abbrev pub KeepsInProgress : Option Item → Type 0
+KeepsInProgress hand = (item : Item) (s : Statement) → hand ≡ Some item → Asks item (Some s) → Redefines s → ⊥
 
 -- a run that a fault ended: what the acknowledged items left is fresh; and so is what the run left, unless the item in
 -- progress may have changed a definition
@@ -81,7 +81,7 @@ FaultLeavesFresh =
     (c c' : Content) (written written' read : Option (List ℕ)) (fault : RunFault) → IsSound c
     → (stopped : Stopped Step fault_line (ends_of c c' written written' read) fault)
     → LeadsFresh stopped.done stopped.replies c stopped.between stopped.answers
-    → IsFresh stopped.between × (KeepsInHand stopped.hand → IsFresh c')
+    → IsFresh stopped.between × (KeepsInProgress stopped.hand → IsFresh c')
 
 -- and what a crash left then
 abbrev pub CrashLeavesFresh : Type 0
@@ -89,4 +89,4 @@ CrashLeavesFresh =
     (c c' left : Content) (written written' read : Option (List ℕ)) (fault : RunFault) → IsSound c
     → (crashed : Crashed Step fault_line (ends_of c c' written written' read) fault left)
     → LeadsFresh crashed.stopped.done crashed.stopped.replies c crashed.stopped.between crashed.stopped.answers
-    → KeepsInHand crashed.stopped.hand → IsFresh left
+    → KeepsInProgress crashed.stopped.hand → IsFresh left

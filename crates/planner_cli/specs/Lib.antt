@@ -5,7 +5,7 @@ pub mod Kinds
 pub mod Changes
 pub mod Texts
 pub mod Trials
-pub mod Asked
+pub mod Requests
 pub mod Steps
 pub mod Stores
 pub mod Verdicts

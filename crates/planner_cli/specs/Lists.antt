@@ -5,7 +5,7 @@ use Rattle.plan_store.specs.Listings.{IsListing, Shown}
 use Rattle.plan_store.specs.declared.listings.What.{What}
 use Rattle.planner_machine.specs.Content.{Content}
 use Rattle.planner_cli_stream.specs.Items.{Item}
-use Rattle.planner_cli.specs.Asked.{Asks, list_asked}
+use Rattle.planner_cli.specs.Requests.{Asks, list_asked}
 use Rattle.planner_cli.specs.Replies.{ended}
 use Rattle.planner_cli.specs.Rows.{IsShownText}
 
@@ -20,10 +20,10 @@ pub record BeginsList (c : Content) (item : Item) (lines : List (List ℕ)) : Ty
   pub are_lines : AreLinesOf IsShownText first lines
 
 -- these are the lines of the first things that the item in progress lists
-abbrev pub ListsInHand : Content → Option Item → List (List ℕ) → Type 0
-ListsInHand c hand lines = (item : Item) × (hand ≡ Some item) × BeginsList c item lines
+abbrev pub ListsInProgress : Content → Option Item → List (List ℕ) → Type 0
+ListsInProgress c hand lines = (item : Item) × (hand ≡ Some item) × BeginsList c item lines
 
 -- what is written of the item in progress before a fault: nothing, or the first lines of a listing
-abbrev pub BeginsInHand : Content → Option Item → List ℕ → Type 0
-BeginsInHand c hand front =
-    (front ≡ []) ⊎ ((lines : List (List ℕ)) × ListsInHand c hand lines × (front ≡ flat_map ended lines))
+abbrev pub BeginsInProgress : Content → Option Item → List ℕ → Type 0
+BeginsInProgress c hand front =
+    (front ≡ []) ⊎ ((lines : List (List ℕ)) × ListsInProgress c hand lines × (front ≡ flat_map ended lines))

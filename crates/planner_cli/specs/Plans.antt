@@ -1,18 +1,18 @@
 -- What a stream makes of the plans.
 use Rattle.std.specs.Prelude.{◌≡◌, ◌⊎◌, ℕ, ◌≤◌, All, List, [], ◌∷◌, ◌++◌, IfErr, IfOk, OnOk, Option, Result, Some}
 use Rattle.external_dependencies.specs.declared.rows.PlacedRow.{PlacedRow}
-use Rattle.planner_machine.specs.Content.{Content, StandsAt}
+use Rattle.planner_machine.specs.Content.{Content, IsOnlyAt}
 use Rattle.planner_machine.specs.Sound.{IsSound}
 use Rattle.planner_machine.specs.Statement.{Answer, Statement}
 use Rattle.planner_machine.specs.Stream.{Goes, IsStatement, Lives, Runs}
 use Rattle.planner_cli_stream.specs.Items.{Item}
-use Rattle.planner_cli.specs.Asked.{AreAsked}
+use Rattle.planner_cli.specs.Requests.{AreAsked}
 use Rattle.planner_cli.specs.Faults.{IsMildCause, cause_of, fault_line}
 use Rattle.planner_cli.specs.Runs.{Crashed, Ends, Ran, Stopped, with_last}
 use Rattle.planner_cli.specs.Steps.{Step}
 use Rattle.planner_cli.specs.Stores.{IsBlamed, LeavesOnly}
 use Rattle.planner_cli.specs.declared.faults.Cause.TheVariants.{Device}
-use Rattle.planner_cli.specs.declared.faults.Part.TheVariants.{Store}
+use Rattle.planner_cli.specs.declared.faults.FaultSource.TheVariants.{Store}
 use Rattle.planner_cli.specs.declared.faults.RunFault.{RunFault}
 use Rattle.planner_cli.specs.declared.tally.Tally.{Tally}
 
@@ -28,8 +28,8 @@ pub record LeadsTo (items : List Item) (c c' : Content) : Type 0 where
   -- and each serial issued by then is in exactly one place, where its fates put it: from where it was before, or from
   -- where it was made on the way
   pub placed : (serial : ℕ) → 1 ≤ serial → serial ≤ c'.sets.issued
-      → (q : PlacedRow) × StandsAt c'.sets serial q
-      × (((p : PlacedRow) × StandsAt c.sets serial p × Goes stream answers c c' run p q)
+      → (q : PlacedRow) × IsOnlyAt c'.sets serial q
+      × (((p : PlacedRow) × IsOnlyAt c.sets serial p × Goes stream answers c c' run p q)
       ⊎ Lives stream answers c c' run serial q)
 
 -- a run of the planner to the end of a stream: the statements that its items are lead to what is left

@@ -5,7 +5,7 @@ use Rattle.planner_machine.specs.Rerun.{job_number}
 use Rattle.planner_machine.specs.Sound.{IsSound}
 use Rattle.planner_machine.specs.Statement.{Statement}
 use Rattle.planner_cli_stream.specs.Items.{Item, items_of}
-use Rattle.planner_cli.specs.Asked.{Asks}
+use Rattle.planner_cli.specs.Requests.{Asks}
 use Rattle.planner_cli.specs.Faults.{fault_line}
 use Rattle.planner_cli.specs.Meaning.{Answers}
 use Rattle.planner_cli.specs.Replies.{AnswerLines}

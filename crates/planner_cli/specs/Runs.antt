@@ -3,12 +3,12 @@ use Rattle.std.specs.Prelude.{◌≡◌, ◌⊎◌, ℕ, ◌≤◌, List, ◌∷
 use Rattle.std.specs.Io.KnownBytes.{Appends}
 use Rattle.planner_machine.specs.Content.{Content}
 use Rattle.planner_cli_stream.specs.Items.{Item, items_of}
-use Rattle.planner_cli.specs.Lists.{BeginsInHand, ListsInHand}
+use Rattle.planner_cli.specs.Lists.{BeginsInProgress, ListsInProgress}
 use Rattle.planner_cli.specs.Replies.{AnswerLines, ended, printed, prints}
 use Rattle.planner_cli.specs.Meaning.{Answers, StepOf, tally_of}
 use Rattle.planner_cli.specs.Faults.{cause_of, tally_in}
 use Rattle.planner_cli.specs.declared.tally.Tally.{Tally}
-use Rattle.planner_cli.specs.declared.faults.Part.TheVariants.{Store, Reader, Writer}
+use Rattle.planner_cli.specs.declared.faults.FaultSource.TheVariants.{Store, Reader, Writer}
 use Rattle.planner_cli.specs.declared.faults.Cause.{Cause}
 use Rattle.planner_cli.specs.declared.faults.Cause.TheVariants.{Memory, Device}
 use Rattle.planner_cli.specs.declared.faults.RunFault.{RunFault}
@@ -51,8 +51,8 @@ with_hand None rest = rest
 with_hand (Some item) rest = item ∷ rest
 
 -- a step on the item in progress, if there is one, leaves t
-abbrev pub LeavesInHand : {S : Type 0} (Step : StepOf S) → S → Option Item → S → Type 0
-LeavesInHand Step s hand t = (item : Item) × (hand ≡ Some item) × ((reply : AnswerLines) × Step s item reply t)
+abbrev pub LeavesInProgress : {S : Type 0} (Step : StepOf S) → S → Option Item → S → Type 0
+LeavesInProgress Step s hand t = (item : Item) × (hand ≡ Some item) × ((reply : AnswerLines) × Step s item reply t)
 
 -- the item's change is made, and these bytes are a front of what its reply prints
 abbrev pub IsCutOff : {S : Type 0} (Step : StepOf S) → S → Option Item → S → List ℕ → Type 0
@@ -62,12 +62,12 @@ IsCutOff Step s hand t tail =
 -- nothing is changed, and these bytes are a front of the first lines of a listing
 abbrev pub IsListCutOff : Content → Option Item → Content → List ℕ → Type 0
 IsListCutOff s hand t tail =
-    (t ≡ s) × ((lines : List (List ℕ)) × ListsInHand s hand lines × IsFrontOf tail (flat_map ended lines))
+    (t ≡ s) × ((lines : List (List ℕ)) × ListsInProgress s hand lines × IsFrontOf tail (flat_map ended lines))
 
 -- the first lines of a listing, if the item in progress is one, and then a front of the line of the fault
 abbrev pub WritesFault : Content → Option Item → (line tail : List ℕ) → Type 0
 WritesFault s hand line tail =
-    (front : List ℕ) × (last : List ℕ) × (tail ≡ front ++ last) × BeginsInHand s hand front × IsFrontOf last line
+    (front : List ℕ) × (last : List ℕ) × (tail ≡ front ++ last) × BeginsInProgress s hand front × IsFrontOf last line
 
 -- how a run ended after the replies, if `between` was known and this item was in progress, if one was: with a front of
 -- the line of the fault, and nothing changed. If the item in progress is `list`, its first lines may come before. If
@@ -76,7 +76,7 @@ abbrev pub EndsBy : (Step : StepOf Content)
     → Cause → (line : List ℕ) → (between t : Content) → (hand : Option Item) → (tail : List ℕ) → Type 0
 EndsBy Step Memory line between t hand tail = (t ≡ between) × WritesFault between hand line tail
 EndsBy Step (Device Store) line between t hand tail =
-    ((t ≡ between) ⊎ LeavesInHand Step between hand t) × WritesFault between hand line tail
+    ((t ≡ between) ⊎ LeavesInProgress Step between hand t) × WritesFault between hand line tail
 EndsBy Step (Device Reader) line between t hand tail = (t ≡ between) × IsFrontOf tail line
 EndsBy Step (Device Writer) line between t hand tail =
     IsCutOff Step between hand t tail ⊎ IsListCutOff between hand t tail
@@ -109,17 +109,17 @@ pub record Crashed (Step : StepOf Content) (line : Cause → List ℕ) (ends : E
     : Type 0 where
   pub last : Content
   pub stopped : Stopped Step line (with_last ends last) fault
-  pub leaves : (c ≡ stopped.between) ⊎ LeavesInHand Step stopped.between stopped.hand c
+  pub leaves : (c ≡ stopped.between) ⊎ LeavesInProgress Step stopped.between stopped.hand c
 
 -- one item was not acknowledged: lack of memory changes nothing; a store that fails may have made its change; a writer
 -- that fails has accepted a front of the reply, and the change is made. Of `list` the first lines may be written
 abbrev pub ItemBreaks : (Step : StepOf Content)
     → Cause → Content → Content → Option (List ℕ) → Option (List ℕ) → Item → Type 0
 ItemBreaks Step Memory s t old new item =
-    (t ≡ s) × ((front : List ℕ) × BeginsInHand s (Some item) front × Appends old new front)
+    (t ≡ s) × ((front : List ℕ) × BeginsInProgress s (Some item) front × Appends old new front)
 ItemBreaks Step (Device Store) s t old new item =
-    ((t ≡ s) ⊎ LeavesInHand Step s (Some item) t)
-    × ((front : List ℕ) × BeginsInHand s (Some item) front × Appends old new front)
+    ((t ≡ s) ⊎ LeavesInProgress Step s (Some item) t)
+    × ((front : List ℕ) × BeginsInProgress s (Some item) front × Appends old new front)
 ItemBreaks Step (Device Reader) s t old new item = ⊥
 ItemBreaks Step (Device Writer) s t old new item =
     (tail : List ℕ) × (IsCutOff Step s (Some item) t tail ⊎ IsListCutOff s (Some item) t tail) × Appends old new tail

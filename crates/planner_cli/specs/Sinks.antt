@@ -11,30 +11,30 @@ use Rattle.planner_cli.specs.Rows.{IsShownText}
 use Rattle.planner_cli.specs.Runs.{IsFrontOf}
 
 -- the item's line is written
-abbrev pub TakesLine : Option (List ℕ) → Shown → Option (List ℕ) → Type 0
-TakesLine old item new = (line : List ℕ) × IsShownText item line × Appends old new (ended line)
+abbrev pub AcceptsLine : Option (List ℕ) → Shown → Option (List ℕ) → Type 0
+AcceptsLine old item new = (line : List ℕ) × IsShownText item line × Appends old new (ended line)
 
 -- a front of it is
-abbrev pub TakesFront : Option (List ℕ) → Shown → Option (List ℕ) → Type 0
-TakesFront old item new =
+abbrev pub AcceptsFront : Option (List ℕ) → Shown → Option (List ℕ) → Type 0
+AcceptsFront old item new =
     (line : List ℕ) × IsShownText item line × ((front : List ℕ) × IsFrontOf front (ended line) × Appends old new front)
 
 -- the lines of these items are written
-abbrev pub TakesLines : Option (List ℕ) → List Shown → Option (List ℕ) → Type 0
-TakesLines old items new =
+abbrev pub AcceptsLines : Option (List ℕ) → List Shown → Option (List ℕ) → Type 0
+AcceptsLines old items new =
     (lines : List (List ℕ)) × AreLinesOf IsShownText items lines × Appends old new (flat_map ended lines)
 
 -- the whole listing is written, which has so many items
 pub record WritesAll (IsWhole : List Shown → Type 0) (old new : Option (List ℕ)) (count : ℕ) : Type 0 where
   pub items : List Shown
   pub whole : IsWhole items
-  pub taken : TakesLines old items new
+  pub taken : AcceptsLines old items new
   pub counted : count ≡ length items
 
 -- the lines of the first items are written or, where the writer is to blame, a front of them
 abbrev pub EndsInLines : ListFault → Option (List ℕ) → List Shown → Option (List ℕ) → Type 0
-EndsInLines Faults.Memory old first new = TakesLines old first new
-EndsInLines Faults.Device old first new = TakesLines old first new
+EndsInLines Faults.Memory old first new = AcceptsLines old first new
+EndsInLines Faults.Device old first new = AcceptsLines old first new
 EndsInLines (Faults.Sink _) old first new =
     (lines : List (List ℕ)) × AreLinesOf IsShownText first lines
     × ((front : List ℕ) × IsFrontOf front (flat_map ended lines) × Appends old new front)

@@ -9,7 +9,7 @@ use Rattle.planner_machine.specs.Days.{ListsDays}
 use Rattle.planner_machine.specs.Statement.{Answer, Change, Days, ListLinks, ListPairs, ListRows, Statement, Steps, Trial}
 use Rattle.planner_machine.specs.Stream.{IsStatement}
 use Rattle.planner_cli_stream.specs.Items.{Item}
-use Rattle.planner_cli.specs.Asked.{Asks}
+use Rattle.planner_cli.specs.Requests.{Asks}
 use Rattle.planner_cli.specs.Outcomes.{answer_text, refusing}
 use Rattle.planner_cli.specs.Replies.{Prints, AnswerLines}
 use Rattle.planner_cli.specs.declared.answers.Printed.{Printed}

@@ -13,7 +13,7 @@ use Rattle.planner_cli.specs.Stores.{IsBlamed, LeavesOwn}
 use Rattle.planner_cli.specs.declared.answers.Printed.{Printed}
 use Rattle.planner_cli.specs.declared.faults.Cause.{Cause}
 use Rattle.planner_cli.specs.declared.faults.Cause.TheVariants.{Device}
-use Rattle.planner_cli.specs.declared.faults.Part.TheVariants.{Store, Writer}
+use Rattle.planner_cli.specs.declared.faults.FaultSource.TheVariants.{Store, Writer}
 
 -- an item gets its reply by a step of the planner, and what the reply prints is written; or a fault ends the run
 pub record AnswersItem {S : Type 0} (g : Ghosts S) (before now : S) (old new : Option (List ℕ)) (item : Item)

@@ -14,7 +14,7 @@ ghost use Rattle.planner_cli.specs.Verdicts.{plan_in, plan_of};
 
 use crate::define::{define, undefine};
 use crate::kinds::definitions_kind;
-use app_definitions::Block;
+use app_definitions::DefinitionBlock;
 use occurrences::Refusal;
 use plan_store::{Need, Verdict, View};
 use planner_cli_stream::{ChangeStatement, DailyFunction, PlanFunction};
@@ -25,7 +25,7 @@ use work_calendars::Moment;
 #[derive(Drop)]
 pub enum JobChange {
     /// To merge what a block defines.
-    Define(Block),
+    Define(DefinitionBlock),
     /// What a statement without data changes.
     Statement(ChangeStatement),
 }

@@ -10,7 +10,7 @@ use thiserror::Error;
 
 /// What a device fault blames.
 #[derive(Clone, Copy, Debug, PartialEq, Eq)]
-pub enum Part {
+pub enum FaultSource {
     /// What keeps the plan.
     Store,
     /// Where the stream comes from.
@@ -19,12 +19,12 @@ pub enum Part {
     Writer,
 }
 
-impl fmt::Display for Part {
+impl fmt::Display for FaultSource {
     fn fmt<W: fmt::Write>(&self, f: &mut fmt::Formatter<W>) -> fmt::Result {
         match self {
-            Part::Store => write!(f, "store"),
-            Part::Reader => write!(f, "reader"),
-            Part::Writer => write!(f, "writer"),
+            FaultSource::Store => write!(f, "store"),
+            FaultSource::Reader => write!(f, "reader"),
+            FaultSource::Writer => write!(f, "writer"),
         }
     }
 }
@@ -35,7 +35,7 @@ pub enum Cause {
     /// Memory was refused.
     Memory,
     /// A part failed.
-    Device(Part),
+    Device(FaultSource),
 }
 
 /// The fault that ended a run, with the tally of the statements acknowledged before it.
@@ -51,7 +51,7 @@ pub enum RunFault {
     #[error("fault 41: the {part} failed")]
     Device {
         /// The part that failed.
-        part: Part,
+        part: FaultSource,
         /// The statements acknowledged before it.
         tally: Tally,
     },
@@ -106,7 +106,7 @@ pub fn cause_of_read(fault: ReadFault) -> Cause
 {
     match fault {
         ReadFault::Memory => Cause::Memory,
-        ReadFault::Reader => Cause::Device(Part::Reader),
+        ReadFault::Reader => Cause::Device(FaultSource::Reader),
     }
 }
 
@@ -116,6 +116,6 @@ pub fn cause_of_store(fault: StoreFault) -> Cause
 {
     match fault {
         StoreFault::Memory => Cause::Memory,
-        StoreFault::Device => Cause::Device(Part::Store),
+        StoreFault::Device => Cause::Device(FaultSource::Store),
     }
 }

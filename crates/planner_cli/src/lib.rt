@@ -30,7 +30,7 @@ mod trials;
 mod well_formed;
 mod writing;
 
-pub use faults::{Part, RunFault};
+pub use faults::{FaultSource, RunFault};
 pub use laws::{fresh_plans, reruns};
 pub use over_lists::run_lists;
 pub use stream::{exit_status, run, run_reported};

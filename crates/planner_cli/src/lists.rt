@@ -7,19 +7,19 @@ ghost use Rattle.plan_store.specs.Faults.{IsMildListing};
 ghost use Rattle.plan_store.specs.Listings.{IsListing, item_shown};
 ghost use Rattle.plan_store.specs.declared.listings.ListFault.TheVariants as list_fault;
 ghost use Rattle.planner_cli_stream.specs.Items.{Alone};
-ghost use Rattle.planner_cli.specs.Asked.{Asks, list_asked};
+ghost use Rattle.planner_cli.specs.Requests.{Asks, list_asked};
 ghost use Rattle.planner_cli.specs.Replies.{ended};
 ghost use Rattle.planner_cli.specs.Runs.{IsFrontOf};
-ghost use Rattle.planner_cli.specs.Sinks.{TakesFront, TakesLine, WritesAll, WritesPart};
+ghost use Rattle.planner_cli.specs.Sinks.{AcceptsFront, AcceptsLine, WritesAll, WritesPart};
 ghost use Rattle.planner_cli.specs.Stores.{IsBlamed};
 ghost use Rattle.planner_cli.specs.Writes.{AnswersItem};
 
 use crate::answers::print_alone;
-use crate::faults::{Cause, Part};
+use crate::faults::{Cause, FaultSource};
 use crate::writing::{write_answer, write_bytes};
 use occurrences::Reply;
 use plan_listings::{link_line, marked_line, pair_line, row_line};
-use plan_store::{Item, ListFault, PlanStore, RowSink, SinkFault, What};
+use plan_store::{Item, ItemRefused, ItemSink, ListFault, PlanStore, What};
 use std::alloc::Global;
 use std::io::Write;
 use work_calendars::App;
@@ -30,26 +30,26 @@ pub struct LineSink<'a, W> {
     writer: &'a mut W,
 }
 
-impl<W: Write> RowSink for LineSink<'_, W> {
-    ghost takes = { λ old item new. (new.writer.ghost_name ≡ old.writer.ghost_name)
-        × TakesLine (W.contents old.writer.now) item (W.contents new.writer.now) };
+impl<W: Write> ItemSink for LineSink<'_, W> {
+    ghost accepts = { λ old item new. (new.writer.ghost_name ≡ old.writer.ghost_name)
+        × AcceptsLine (W.contents old.writer.now) item (W.contents new.writer.now) };
 
     ghost refuses = { λ old item new. (new.writer.ghost_name ≡ old.writer.ghost_name)
-        × TakesFront (W.contents old.writer.now) item (W.contents new.writer.now) };
+        × AcceptsFront (W.contents old.writer.now) item (W.contents new.writer.now) };
 
-    fn take(&mut self, item: Item<'_>) -> Result<(), SinkFault> {
+    fn accept(&mut self, item: Item<'_>) -> Result<(), ItemRefused> {
         match write_item(self.writer, item) {
             Ok(()) => Ok(()),
-            Err(_) => Err(SinkFault),
+            Err(_) => Err(ItemRefused),
         }
     }
 }
 
 // Writes the line of an item.
 fn write_item<W: Write>(writer: &mut W, item: Item<'_>) -> Result<(), Cause>
-    ensures ok { OnOk result (TakesLine (W.contents writer.old) (item_shown item.entry)
+    ensures ok { OnOk result (AcceptsLine (W.contents writer.old) (item_shown item.entry)
         (W.contents writer.new)) }
-    ensures front { OnErr result (TakesFront (W.contents writer.old) (item_shown item.entry)
+    ensures front { OnErr result (AcceptsFront (W.contents writer.old) (item_shown item.entry)
         (W.contents writer.new)) }
 {
     match item {
@@ -128,7 +128,7 @@ pub(crate) fn answer_list<S: PlanStore, W: Write>(
             write_answer(writer, answered)
         }
         Err(ListFault::Memory) => Err(Cause::Memory),
-        Err(ListFault::Device) => Err(Cause::Device(Part::Store)),
-        Err(ListFault::Sink(_)) => Err(Cause::Device(Part::Writer)),
+        Err(ListFault::Device) => Err(Cause::Device(FaultSource::Store)),
+        Err(ListFault::Sink(_)) => Err(Cause::Device(FaultSource::Writer)),
     }
 }

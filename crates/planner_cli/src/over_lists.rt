@@ -7,7 +7,7 @@ ghost use Rattle.planner_cli.specs.Faults.{cause_of};
 ghost use Rattle.planner_cli.specs.Plans.{RanPlan, StoppedPlan};
 ghost use Rattle.planner_cli.specs.Runs.{ends_of};
 ghost use Rattle.planner_cli.specs.declared.faults.Cause.TheVariants.{Device};
-ghost use Rattle.planner_cli.specs.declared.faults.Part.TheVariants.{Store};
+ghost use Rattle.planner_cli.specs.declared.faults.FaultSource.TheVariants.{Store};
 
 use crate::faults::RunFault;
 use crate::stream::run;

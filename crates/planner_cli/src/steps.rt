@@ -6,7 +6,7 @@ ghost use Rattle.planner_cli_stream.specs.JobNumber.{IsJobNumber};
 ghost use Rattle.planner_cli_stream.specs.Statement.{Reads};
 ghost use Rattle.planner_cli_stream.specs.Items.{WithBlock, longest_block};
 ghost use Rattle.planner_cli_stream.specs.Pages.{block_shown, BlockFits};
-ghost use Rattle.planner_cli.specs.Asked.{define_asked};
+ghost use Rattle.planner_cli.specs.Requests.{define_asked};
 ghost use Rattle.planner_cli.specs.Changes.{change_of};
 ghost use Rattle.planner_cli.specs.Steps.{Serves, Step};
 ghost use Rattle.planner_cli.specs.Stores.{AnswersBy};
@@ -21,7 +21,7 @@ use crate::well_formed::change_is_well_formed;
 use app_definitions::{BlockFault, Kind, read_block};
 use occurrences::Refusal;
 use plan_store::{PlanStore, StoreFault};
-use planner_cli_stream::{Block, ChangeStatement, Statement, joined_words, read_statement};
+use planner_cli_stream::{ChangeStatement, DataBlock, Statement, joined_words, read_statement};
 use planner_machine::JobText;
 use std::alloc::Global;
 
@@ -49,7 +49,7 @@ pub(crate) fn answer_with_data<S: PlanStore>(
     alloc: Global,
     store: &mut S,
     line: &[u8],
-    block: Block<'_>,
+    block: DataBlock<'_>,
 ) -> Result<Printed, StoreFault>
     requires fits { BlockFits block }
     requires sound { S.is_honest store.old → IsSound (S.content store.old) }
@@ -68,7 +68,7 @@ fn answer_block<S: PlanStore>(
     store: &mut S,
     line: &[u8],
     statement: &Statement,
-    block: Block<'_>,
+    block: DataBlock<'_>,
 ) -> Result<Printed, StoreFault>
     requires reads { Reads line.now (Some statement.now) }
     requires fits { BlockFits block }
@@ -98,7 +98,7 @@ pub(crate) fn answer_define<S: PlanStore>(
     line: &[u8],
     number: u64,
     kind: Kind,
-    block: Block<'_>,
+    block: DataBlock<'_>,
 ) -> Result<Printed, StoreFault>
     requires fits { BlockFits block }
     requires numbered { IsJobNumber number }
@@ -107,9 +107,9 @@ pub(crate) fn answer_define<S: PlanStore>(
         (Serves (define_asked line.now number kind (block_shown block.entry)) (S.content store.old)) }
 {
     match block {
-        Block::Whole(bytes) => answer_data(alloc, store, line, number, kind, bytes),
-        Block::TooLong => print_alone(alloc, &Err(Refusal::FaultyData { record: 0 })),
-        Block::Unended => print_alone(alloc, &Err(Refusal::FaultyData { record: 0 })),
+        DataBlock::Whole(bytes) => answer_data(alloc, store, line, number, kind, bytes),
+        DataBlock::TooLong => print_alone(alloc, &Err(Refusal::FaultyData { record: 0 })),
+        DataBlock::Unended => print_alone(alloc, &Err(Refusal::FaultyData { record: 0 })),
     }
 }
 

@@ -13,11 +13,11 @@ ghost use Rattle.planner_cli.specs.Steps.{Step};
 ghost use Rattle.planner_cli.specs.Stores.{IsBlamed, LeavesOwn};
 ghost use Rattle.planner_cli.specs.Writes.{AnswersItem, EndsWith};
 ghost use Rattle.planner_cli.specs.declared.faults.Cause.TheVariants.{Device};
-ghost use Rattle.planner_cli.specs.declared.faults.Part.TheVariants.{Store};
+ghost use Rattle.planner_cli.specs.declared.faults.FaultSource.TheVariants.{Store};
 
 use crate::answers::no_statement;
 use crate::days::answer_days;
-use crate::faults::{Cause, Part, RunFault, cause_of_read};
+use crate::faults::{Cause, FaultSource, RunFault, cause_of_read};
 use crate::kinds::{definitions_kind, what_of};
 use crate::lists::answer_list;
 use crate::steps::{answer_change, answer_define, answer_with_data};
@@ -26,7 +26,7 @@ use crate::trials::{answer_daily_trial, answer_plan_trial};
 use crate::writing::{write_answer, write_bytes};
 use app_occurrences::CalendarIndexes;
 use plan_store::PlanStore;
-use planner_cli_stream::{Block, Item, Page, Statement, read_statement};
+use planner_cli_stream::{DataBlock, Item, Page, Statement, read_statement};
 use planner_machine::streams;
 use std::alloc::Global;
 use std::io::{BufRead, Write};
@@ -139,7 +139,7 @@ fn answer_all<S: PlanStore, R: BufRead, W: Write>(
             Err(cause) => return Err(RunFault::new(cause, tally)),
         }
     }
-    Err(RunFault::new(Cause::Device(Part::Reader), tally))
+    Err(RunFault::new(Cause::Device(FaultSource::Reader), tally))
 }
 
 /// Processes one item: makes the reply, then changes the store, then writes the reply and flushes. The rows of a
@@ -209,7 +209,7 @@ fn answer_statement<S: PlanStore, W: Write>(
         Statement::Define { kind, job } => {
             let number = u64::from(job.number());
             let kind = definitions_kind(*kind);
-            let answered = answer_define(alloc, store, line, number, kind, Block::Unended);
+            let answered = answer_define(alloc, store, line, number, kind, DataBlock::Unended);
             write_answer(writer, answered)
         }
         Statement::Change { change, job } => {
@@ -263,8 +263,8 @@ fn line_of_fault(cause: Cause) -> &'static [u8]
 {
     match cause {
         Cause::Memory => b"fault 40\n",
-        Cause::Device(Part::Store) | Cause::Device(Part::Reader) => b"fault 41\n",
-        Cause::Device(Part::Writer) => b"",
+        Cause::Device(FaultSource::Store) | Cause::Device(FaultSource::Reader) => b"fault 41\n",
+        Cause::Device(FaultSource::Writer) => b"",
     }
 }
 

@@ -3,10 +3,10 @@ ghost use Rattle.std.specs.Prelude.{◌≡◌, ℕ, ◌<◌, ◌≤◌, length, 
 ghost use Rattle.std.specs.Io.KnownBytes.{Appends};
 ghost use Rattle.planner_cli.specs.declared.faults.Cause.TheVariants.{Device};
 ghost use Rattle.planner_cli.specs.Writes.{IsUnwritten, IsWritten};
-ghost use Rattle.planner_cli.specs.declared.faults.Part.TheVariants.{Writer};
+ghost use Rattle.planner_cli.specs.declared.faults.FaultSource.TheVariants.{Writer};
 
 use crate::answers::Printed;
-use crate::faults::{Cause, Part, cause_of_store};
+use crate::faults::{Cause, FaultSource, cause_of_store};
 use plan_store::StoreFault;
 use std::io::Write;
 
@@ -23,7 +23,7 @@ pub fn write_bytes<W: Write>(writer: &mut W, bytes: &[u8]) -> Result<(), Cause>
     let mut written = 0;
     while written < bytes.len() {
         match writer.write(&bytes[written..]) {
-            Ok(0) | Err(_) => return Err(Cause::Device(Part::Writer)),
+            Ok(0) | Err(_) => return Err(Cause::Device(FaultSource::Writer)),
             Ok(n) => written += n,
         }
     }
@@ -40,7 +40,7 @@ pub fn write_out<W: Write>(writer: &mut W, bytes: &[u8]) -> Result<(), Cause>
     write_bytes(writer, bytes)?;
     match writer.flush() {
         Ok(()) => Ok(()),
-        Err(_) => Err(Cause::Device(Part::Writer)),
+        Err(_) => Err(Cause::Device(FaultSource::Writer)),
     }
 }
 

@@ -36,8 +36,8 @@ module _ (l : Layout) where
   read_on us r = option_map rows_for (option_and_then (λ more. accepted l (us ++ more)) r)
 
   -- where there was a plain word, it is used
-  abbrev pub Taken : List Use → Bool → Type 0
-  Taken us b = b ≡ true → (name : Text) → l.word ≡ Some name → is_used name us ≡ true
+  abbrev pub Consumed : List Use → Bool → Type 0
+  Consumed us b = b ≡ true → (name : Text) → l.word ≡ Some name → is_used name us ≡ true
 
   long_found : (name : Text) → IsFound (arg_by_long c name)
   long_found name = go (bool_cases (is_option l name))
@@ -101,11 +101,11 @@ module _ (l : Layout) where
 
   -- the claim, of the words after
   abbrev pub Claim : List Text → Type 0
-  Claim words = (waits : Option Text) (us : List Use) (b : Bool) → Waits waits → is_distinct us ≡ true → Taken us b
+  Claim words = (waits : Option Text) (us : List Use) (b : Bool) → Waits waits → is_distinct us ≡ true → Consumed us b
       → outcome c (walk_for us waits b) words ≡ read_on us (uses_of l waits words)
 
   next_use : (us : List Use) (name v : Text) (b : Bool) (words : List Text) → Claim words → is_distinct us ≡ true
-      → Taken (us ++ (name, v) ∷ []) b
+      → Consumed (us ++ (name, v) ∷ []) b
       → cond (is_used name us) None (outcome c (walk_in (held_at (us ++ (name, v) ∷ []) None) idle (position b)) words)
       ≡ read_on us (before_rest name v (uses_of l None words))
   next_use us name v b words rest d taken = go (bool_cases (is_used name us))
@@ -129,13 +129,13 @@ module _ (l : Layout) where
       go true h rest = refl
       go false h rest = rest h
 
-  taken_more : (us : List Use) (u : Use) (b : Bool) → Taken us b → Taken (us ++ u ∷ []) b
+  taken_more : (us : List Use) (u : Use) (b : Bool) → Consumed us b → Consumed (us ++ u ∷ []) b
   taken_more us u b taken t name e = used_more us u name (taken t name e)
 
   -- ---- a word where an option may stand
 
   module _ (word : Text) (words : List Text) (us : List Use) (b : Bool) (rest : Claim words) (d : is_distinct us ≡ true)
-      (taken : Taken us b) (none : list_any is_stray words ≡ false) where
+      (taken : Consumed us b) (none : list_any is_stray words ≡ false) where
     h : Held
     h = held_at us None
 
@@ -219,7 +219,7 @@ module _ (l : Layout) where
     first_plain cuts short =
         turn_plain c (held_at us None) idle (position b) word words cuts short ∙ go b taken l.word refl
       where
-        go : (b : Bool) → Taken us b → (w : Option Text) → l.word ≡ w
+        go : (b : Bool) → Consumed us b → (w : Option Text) → l.word ≡ w
             → word_turn c (held_at us None) idle (position b) word words (arg_by_index c (position b))
             ≡ read_on us (word_use w word (uses_of l None words))
         go true had None e = ap (word_turn c (held_at us None) idle 2 word words) (knows l).word_once

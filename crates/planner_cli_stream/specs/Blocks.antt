@@ -1,13 +1,13 @@
 -- The data after a line, and what is held of them.
 use Rattle.std.specs.Prelude.{◌≡◌, ℕ, ◌≤◌, List, true, Option, Some, length, nat_le, if◌then◌else◌}
 use Rattle.planner_cli_stream.specs.Lines.{raw_lines}
-use Rattle.planner_cli_stream.specs.Items.{longest_block, Block, Whole, TooLong, Unended}
+use Rattle.planner_cli_stream.specs.Items.{longest_block, DataBlock, Whole, TooLong, Unended}
 use Rattle.planner_cli_stream.specs.Items.{block_of, bytes_before_end, items_of, items_of_lines}
 use Rattle.planner_cli_stream.specs.declared.blocks.Ending.{Ending}
 use Rattle.planner_cli_stream.specs.declared.blocks.Ending.TheVariants as Endings
 
 -- the block whose front is held
-abbrev pub block_held : Ending → List ℕ → Block
+abbrev pub block_held : Ending → List ℕ → DataBlock
 block_held Endings.Whole bytes = Whole bytes
 block_held Endings.TooLong bytes = TooLong
 block_held Endings.Unended bytes = Unended

@@ -2,15 +2,15 @@
 use Rattle.std.specs.Prelude.{◌≡◌, ◌≢◌, ℕ, List, ◌-◌, ◌++◌, true, Option, length, take, All, OnSome}
 use Rattle.std.specs.Io.{StopsAt, IsEmptyOrEndsWith}
 use Rattle.std.specs.Io.KnownBytes.{Consumes, IsAtEnd}
-use Rattle.planner_cli_stream.specs.declared.lines.Taken.{Taken}
+use Rattle.planner_cli_stream.specs.declared.lines.Consumed.{Consumed}
 
 -- what a buffer with room for `limit` bytes holds once bs came after what it held
 abbrev pub kept : ℕ → List ℕ → List ℕ → List ℕ
 kept limit held bs = held ++ take (limit - length held) bs
 
 -- bytes of a line are consumed, up to its line feed or as far as the reader showed them, and two buffers keep them
-pub record TakesPart (before after : Option (List ℕ)) (head_limit : ℕ) (head head' : List ℕ)
-    (all_limit : ℕ) (all all' : List ℕ) (taken : Taken) : Type 0 where
+pub record ConsumesPart (before after : Option (List ℕ)) (head_limit : ℕ) (head head' : List ℕ)
+    (all_limit : ℕ) (all all' : List ℕ) (taken : Consumed) : Type 0 where
   pub bytes : List ℕ
   pub len_is : length bytes ≡ taken.len
   pub stops : StopsAt bytes 10

@@ -19,10 +19,10 @@ abbrev pub end_room : ℕ
 end_room = 4
 
 -- the data after a line: their bytes, or too many of them, or no line that ends them
-pub data Block : Type 0 where
-  Whole : (bytes : List ℕ) → Block
-  TooLong : Block
-  Unended : Block
+pub data DataBlock : Type 0 where
+  Whole : (bytes : List ℕ) → DataBlock
+  TooLong : DataBlock
+  Unended : DataBlock
 
 -- an item of a text
 pub data Item : Type 0 where
@@ -31,7 +31,7 @@ pub data Item : Type 0 where
   -- a line without data
   Alone : (line : List ℕ) → Item
   -- a line, and the data after it
-  WithBlock : (line : List ℕ) → (block : Block) → Item
+  WithBlock : (line : List ℕ) → (block : DataBlock) → Item
 
 -- all bytes before the first line that is `/*`, where there is one
 unfoldable pub bytes_before_end : List (List ℕ) → Option (List ℕ)
@@ -39,7 +39,7 @@ bytes_before_end [] = None
 bytes_before_end (raw ∷ rest) =
     if ends_data (line_of raw) then Some [] else option_map (λ bytes. raw ++ bytes) (bytes_before_end rest)
 
-unfoldable pub block_of : Option (List ℕ) → Block
+unfoldable pub block_of : Option (List ℕ) → DataBlock
 block_of None = Unended
 block_of (Some bytes) = if nat_le (length bytes) longest_block then Whole bytes else TooLong
 

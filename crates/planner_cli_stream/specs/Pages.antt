@@ -1,12 +1,12 @@
 -- What a page holds, and what reading an item gives.
 use Rattle.std.specs.Prelude.{◌≡◌, ℕ, ◌-◌, ◌≤◌, List, [], ◌∷◌, ◌++◌, Option, None, Some, length}
 use Rattle.planner_cli_stream.specs.Blocks.{block_held}
-use Rattle.planner_cli_stream.specs.Items.{longest_block, Block, Whole, TooLong, Unended}
+use Rattle.planner_cli_stream.specs.Items.{longest_block, DataBlock, Whole, TooLong, Unended}
 use Rattle.planner_cli_stream.specs.Items.{Item, NoStatement, Alone, WithBlock, items_of}
 use Rattle.planner_cli_stream.specs.declared.line_kinds.LineKind.{LineKind}
 use Rattle.planner_cli_stream.specs.declared.line_kinds.LineKind.TheVariants as Kinds
-use Rattle.planner_cli_stream.specs.declared.items.Block.{Block as BlockValue}
-use Rattle.planner_cli_stream.specs.declared.items.Block.TheVariants as Blocks
+use Rattle.planner_cli_stream.specs.declared.items.DataBlock.{DataBlock as BlockValue}
+use Rattle.planner_cli_stream.specs.declared.items.DataBlock.TheVariants as Blocks
 use Rattle.planner_cli_stream.specs.declared.items.Item.{Item as ItemValue}
 use Rattle.planner_cli_stream.specs.declared.items.Item.TheVariants as Items
 use Rattle.planner_cli_stream.specs.declared.blocks.Ending.{Ending}
@@ -15,7 +15,7 @@ use Rattle.planner_cli_stream.specs.declared.pages.Held.TheVariants as Helds
 use Rattle.planner_cli_stream.specs.declared.pages.Page.{Page}
 
 -- the item, and the block, that slices stand for
-abbrev pub block_shown : BlockValue → Block
+abbrev pub block_shown : BlockValue → DataBlock
 block_shown (Blocks.Whole bytes) = Whole bytes.now
 block_shown Blocks.TooLong = TooLong
 block_shown Blocks.Unended = Unended

@@ -2,7 +2,7 @@
 
 /// The data after a line.
 #[derive(Clone, Copy, Debug)]
-pub enum Block<'a> {
+pub enum DataBlock<'a> {
     /// All bytes before the line `/*` that ends them, at most as many as a block may have.
     Whole(&'a [u8]),
     /// More bytes than a block may have.
@@ -19,5 +19,5 @@ pub enum Item<'a> {
     /// A line without data.
     Alone(&'a [u8]),
     /// A line, and the data after it.
-    WithBlock(&'a [u8], Block<'a>),
+    WithBlock(&'a [u8], DataBlock<'a>),
 }

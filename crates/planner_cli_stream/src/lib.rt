@@ -19,7 +19,7 @@
 //! let mut page = Page::new(alloc);
 //! page.read_item(&mut reader)?;
 //! // the line `define`, and the bytes `A\n` after it
-//! assert!(rt; matches!(page.item(), Some(Item::WithBlock(_, Block::Whole(b"A\n")))));
+//! assert!(rt; matches!(page.item(), Some(Item::WithBlock(_, DataBlock::Whole(b"A\n")))));
 //! page.read_item(&mut reader)?;
 //! assert!(rt; matches!(page.item(), Some(Item::Alone(b"x"))));
 //! ```
@@ -57,7 +57,7 @@ mod words;
 
 pub use blocks::LONGEST_BLOCK;
 pub use form::Form;
-pub use items::{Block, Item};
+pub use items::{DataBlock, Item};
 pub use job_numbers::JobNumber;
 pub use law::one_statement_per_line;
 pub use limits::limits_hold;

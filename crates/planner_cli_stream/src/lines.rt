@@ -2,7 +2,7 @@
 ghost use Rattle.std.specs.Prelude.{◌≡◌, ◌≢◌, ◌↔◌, ◌-◌, ◌<◌, ◌≤◌, length, max, take};
 ghost use Rattle.std.specs.Prelude.{All, IfOk, OnOk, OnErr, IfSome, IsTrue};
 ghost use Rattle.std.specs.Io.BufRead.{take_through, strip_last, DropsThrough};
-ghost use Rattle.planner_cli_stream.specs.Buffers.{kept, TakesPart};
+ghost use Rattle.planner_cli_stream.specs.Buffers.{kept, ConsumesPart};
 ghost use Rattle.planner_cli_stream.specs.Lines.{line_of};
 
 use std::io::BufRead;
@@ -48,7 +48,7 @@ fn keep(held: &mut Vec<u8>, limit: usize, bytes: &[u8]) -> Result<(), ReadFault>
 }
 
 /// What was consumed of a line at once.
-struct Taken {
+struct Consumed {
     /// How many bytes.
     len: usize,
     /// Whether they end with the line's end, or the reader has no more.
@@ -56,14 +56,14 @@ struct Taken {
 }
 
 /// Consumes what the reader shows of a line, and puts its first bytes into both buffers.
-fn take_part<R: BufRead>(
+fn consume_part<R: BufRead>(
     reader: &mut R,
     head: &mut Vec<u8>,
     head_limit: usize,
     all: &mut Vec<u8>,
     all_limit: usize,
-) -> Result<Taken, ReadFault>
-    ensures part { IfOk result (λ taken. TakesPart (R.remaining reader.old) (R.remaining reader.new)
+) -> Result<Consumed, ReadFault>
+    ensures part { IfOk result (λ taken. ConsumesPart (R.remaining reader.old) (R.remaining reader.new)
         head_limit head.old.items head.new.items all_limit all.old.items all.new.items taken) }
     ensures head_bound { length head.new.items ≤ max head_limit (length head.old.items) }
     ensures all_bound { length all.new.items ≤ max all_limit (length all.old.items) }
@@ -77,7 +77,7 @@ fn take_part<R: BufRead>(
     keep(head, head_limit, &available[..end])?;
     keep(all, all_limit, &available[..end])?;
     reader.consume(end);
-    Ok(Taken { len: end, is_done })
+    Ok(Consumed { len: end, is_done })
 }
 
 /// Consumes one line of a reader, with its line feed. `head` and `all` each get its bytes as far as they have room.
@@ -102,7 +102,7 @@ pub fn read_line<R: BufRead>(
 {
     let mut total = 0usize;
     for _ in 0..u64::MAX {
-        let Taken { len, is_done } = take_part(reader, head, head_limit, all, all_limit)?;
+        let Consumed { len, is_done } = consume_part(reader, head, head_limit, all, all_limit)?;
         total = total.saturating_add(len);
         if is_done {
             return Ok(total > 0);

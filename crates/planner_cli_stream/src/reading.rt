@@ -6,7 +6,7 @@ ghost use Rattle.planner_cli_stream.specs.Pages.{FitsBlock, ItemRead, PartRead};
 ghost use Rattle.planner_cli_stream.specs.Pages.{held_alone, held_with_data, item_held, item_of, item_on};
 
 use crate::blocks::{Ending, read_block};
-use crate::items::{Block, Item};
+use crate::items::{DataBlock, Item};
 use crate::line_kinds::{LONGEST_LINE, LineKind, kind_of, opens_data};
 use crate::lines::{ReadFault, read_line, trim_line_end};
 use crate::pages::{Held, Page};
@@ -59,9 +59,9 @@ impl Page {
             Held::Alone => Some(Item::Alone(&self.line)),
             Held::WithBlock(ending) => {
                 let block = match ending {
-                    Ending::Whole => Block::Whole(&self.block),
-                    Ending::TooLong => Block::TooLong,
-                    Ending::Unended => Block::Unended,
+                    Ending::Whole => DataBlock::Whole(&self.block),
+                    Ending::TooLong => DataBlock::TooLong,
+                    Ending::Unended => DataBlock::Unended,
                 };
                 Some(Item::WithBlock(&self.line, block))
             }

@@ -17,7 +17,7 @@ use Rattle.occurrences.specs.declared.place.CurrentRow.{CurrentRow}
 use Rattle.occurrences.specs.declared.reply.Reply.{Reply}
 use Rattle.planner_machine.specs.declared.content.Bounds.{Bounds}
 use Rattle.planner_machine.specs.Act.{Acts, IsCurrent, acted, acted_status, action_move}
-use Rattle.planner_machine.specs.Content.{Seat, Sets, StandsAt, alone}
+use Rattle.planner_machine.specs.Content.{Seat, Sets, IsOnlyAt, alone}
 use Rattle.planner_machine.specs.Fate.{ActionFate, place_after_action}
 use Rattle.planner_machine.specs.Laws.{Follows}
 use Rattle.planner_machine.specs.Moves.{each, has_key}
@@ -75,7 +75,7 @@ cp_place row History current is = cc
 cp_place row (Deleted reason) current is = cc
 
 pub stands_in_cp : (c : Sets) → RowsSound c → (serial : ℕ) (current : CurrentRow) → c.cp serial ≡ Some current
-    → StandsAt c serial (record { row = current.row; place = Current current.status })
+    → IsOnlyAt c serial (record { row = current.row; place = Current current.status })
 stands_in_cp c sound serial current is = elim (cases_issued c.issued serial) [
   | inl within ↦
       let (p, there) = sound.placed serial within.0 within.1 in

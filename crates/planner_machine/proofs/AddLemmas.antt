@@ -12,7 +12,7 @@ use Rattle.external_dependencies.specs.declared.rows.PlacedRow.{PlacedRow}
 use Rattle.planner_machine.specs.declared.content.Bounds.{Bounds}
 use Rattle.planner_machine.specs.declared.content.Draft.{Draft}
 use Rattle.planner_machine.specs.Add.{IsLiveKey, IsOutside}
-use Rattle.planner_machine.specs.Content.{Sets, StandsAt, midnight}
+use Rattle.planner_machine.specs.Content.{Sets, IsOnlyAt, midnight}
 use Rattle.planner_machine.specs.Drafts.{added}
 use Rattle.planner_machine.specs.Moves.{with_made}
 use Rattle.planner_machine.specs.Sound.{ArrivesIn}
@@ -46,7 +46,7 @@ pub add_sound : (place : Place) (key : Key) (c : Sets) → RowsSound c → (b : 
 add_sound place key c sound b is inside free = made_sound place c sound (added key ∷ []) b is
     (λ draft there. let same = only_one (added key) draft there in
     let P : Draft → Type 0 = λ d. ArrivesIn b d.key.ia place
-    × ((serial : ℕ) (p : PlacedRow) → StandsAt c serial p → IsLive p.place → p.row.key ≢ d.key) in
+    × ((serial : ℕ) (p : PlacedRow) → IsOnlyAt c serial p → IsLive p.place → p.row.key ≢ d.key) in
     subst P same (
       not_outside b key.ia place inside,
       λ serial p stands live keyed. free (serial, p, stands, live, keyed),

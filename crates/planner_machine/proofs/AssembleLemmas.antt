@@ -16,7 +16,7 @@ use Rattle.external_dependencies.specs.declared.rows.PlacedRow.{PlacedRow}
 use Rattle.planner_machine.specs.declared.content.Bounds.{Bounds}
 use Rattle.planner_machine.specs.declared.content.Draft.{Draft}
 use Rattle.planner_machine.specs.declared.job.Job.{Job}
-use Rattle.planner_machine.specs.Content.{Content, Seat, Sets, StandsAt, alone}
+use Rattle.planner_machine.specs.Content.{Content, Seat, Sets, IsOnlyAt, alone}
 use Rattle.planner_machine.specs.Fate.{Fate, IsGenerated}
 use Rattle.planner_machine.specs.Laws.{Follows}
 use Rattle.planner_machine.specs.Pairs.{ArePairs}
@@ -39,7 +39,7 @@ deletion_place row (Deleted reason) deletion is = let x : Deletion = record { ro
 
 pub stands_in_deletions : (s : Sets) → RowsSound s → (serial : ℕ) (deletion : Deletion)
     → s.deletions serial ≡ Some deletion
-    → StandsAt s serial (record { row = deletion.row; place = Deleted deletion.reason })
+    → IsOnlyAt s serial (record { row = deletion.row; place = Deleted deletion.reason })
 stands_in_deletions s sound serial deletion is = elim (cases_issued s.issued serial) [
   | inl within ↦
       let (p, there) = sound.placed serial within.0 within.1 in
@@ -47,10 +47,10 @@ stands_in_deletions s sound serial deletion is = elim (cases_issued s.issued ser
   | inr past ↦ let none = ap (λ (x : Seat). x.deletions) (sound.unissued serial past) in absurd cc
 ]
 
-pub in_ltp : (s : Sets) (serial : ℕ) (p : PlacedRow) → p.place ≡ LongTerm → StandsAt s serial p → s.ltp serial ≡ Some p.row
+pub in_ltp : (s : Sets) (serial : ℕ) (p : PlacedRow) → p.place ≡ LongTerm → IsOnlyAt s serial p → s.ltp serial ≡ Some p.row
 in_ltp s serial p is there = ap (λ (x : Seat). x.ltp) (there ∙ ap (alone p.row) is)
 
-pub in_deletions : (s : Sets) (serial : ℕ) (p : PlacedRow) → p.place ≡ Deleted Operator → StandsAt s serial p
+pub in_deletions : (s : Sets) (serial : ℕ) (p : PlacedRow) → p.place ≡ Deleted Operator → IsOnlyAt s serial p
     → s.deletions serial ≡ Some (record { row = p.row; reason = Operator })
 in_deletions s serial p is there = ap (λ (x : Seat). x.deletions) (there ∙ ap (alone p.row) is)
 
@@ -60,14 +60,14 @@ pub record Owes (place : Place) (fate : Fate) (drafts : List Draft) (c c' : Cont
   pub rows : RowsSound c'.sets
   pub keeps : FateKeeps fate
   pub opens : IsOpen place
-  pub closes : (serial : ℕ) (p q : PlacedRow) → StandsAt c.sets serial p → fate p q → IsLive q.place
+  pub closes : (serial : ℕ) (p q : PlacedRow) → IsOnlyAt c.sets serial p → fate p q → IsLive q.place
       → (IsOpen q.place → ⊥) → (IsLive p.place × (IsOpen p.place → ⊥)) ⊎ Starts c serial
   pub pairs : ArePairs c.pairs c'.in_force c'.sets c'.pairs
   pub definitions : c'.definitions ≡ c.definitions
   pub jobs : c'.jobs ≡ c.jobs
   pub planned : c'.sets.bounds ≡ None → ⊥
   pub first : (b : Bounds) → c'.sets.bounds ≡ Some b → IsDay b.first_day
-  pub stays_row : (serial : ℕ) (p q : PlacedRow) → StandsAt c.sets serial p → fate p q → IsRow p.row → IsRow q.row
+  pub stays_row : (serial : ℕ) (p q : PlacedRow) → IsOnlyAt c.sets serial p → fate p q → IsRow p.row → IsRow q.row
   pub drafts_in_range : (draft : Draft) → Contains drafts draft → DraftRanges draft
   pub drafts_free : (draft : Draft) → Contains drafts draft → IsGenerated draft.origin
       → (other : ℕ) (deletion : Deletion) → c.sets.deletions other ≡ Some deletion → deletion.reason ≡ Operator
@@ -83,11 +83,11 @@ module _ (place : Place) (fate : Fate) (drafts : List Draft) (c c' : Content) (s
   rows : RowsSound c.sets
   rows = rows_sound c sound
 
-  source : (serial : ℕ) (q : PlacedRow) → StandsAt c'.sets serial q
-      → ((p : PlacedRow) × StandsAt c.sets serial p × fate p q) ⊎ IsMadeAt place drafts c.sets serial q
+  source : (serial : ℕ) (q : PlacedRow) → IsOnlyAt c'.sets serial q
+      → ((p : PlacedRow) × IsOnlyAt c.sets serial p × fate p q) ⊎ IsMadeAt place drafts c.sets serial q
   source = came place fate drafts c.sets c'.sets rows owes.rows owes.follows
 
-  row_at : (serial : ℕ) (q : PlacedRow) → StandsAt c'.sets serial q → IsRow q.row
+  row_at : (serial : ℕ) (q : PlacedRow) → IsOnlyAt c'.sets serial q → IsRow q.row
   row_at serial q there = elim (source serial q there) [
     | inl (p, was, goes) ↦ owes.stays_row serial p q was goes (sound.ranges.rows serial p was)
     | inr new ↦ subst (λ (x : PlacedRow). IsRow x.row) (sym new.is)
@@ -102,7 +102,7 @@ module _ (place : Place) (fate : Fate) (drafts : List Draft) (c c' : Content) (s
       (first, (omega arith, omega arith), is_moment b.plan_end (omega arith) (omega arith))
 
   -- a generated row of the long-term plan, and one that an operator deleted
-  not_both : (serial other : ℕ) (p q : PlacedRow) → StandsAt c'.sets serial p → StandsAt c'.sets other q
+  not_both : (serial other : ℕ) (p q : PlacedRow) → IsOnlyAt c'.sets serial p → IsOnlyAt c'.sets other q
       → p.place ≡ LongTerm → q.place ≡ Deleted Operator → IsGenerated p.row.origin → q.row.key ≡ p.row.key → ⊥
   not_both serial other p q at_p at_q ltp deleted generated same = elim (source other q at_q) [
     | inr new ↦ not_open q deleted (subst (λ (x : PlacedRow). IsOpen x.place) (sym new.is) owes.opens)
@@ -123,7 +123,7 @@ module _ (place : Place) (fate : Fate) (drafts : List Draft) (c c' : Content) (s
             let one = sound.keys other serial o o' was was' (live_there o now.0)
             (live_there o' (owes.keeps.ltp o' p goes' ltp)) (sym (owes.keeps.key o q goes) ∙ same
             ∙ owes.keeps.key o' p goes') in
-            apart p q ltp deleted (one_place c'.sets serial p q at_p (subst (λ n. StandsAt c'.sets n q) one at_q))
+            apart p q ltp deleted (one_place c'.sets serial p q at_p (subst (λ n. IsOnlyAt c'.sets n q) one at_q))
         | inr new ↦ none_listed new.draft (subst (λ l. Contains l new.draft) now.1 new.listed)
       ]
     ]
@@ -143,7 +143,7 @@ module _ (place : Place) (fate : Fate) (drafts : List Draft) (c c' : Content) (s
       none_listed x (k, lt, at) = omega (arith, lt)
 
   placed_in_bounds : (o : Option Bounds) → c'.sets.bounds ≡ o → (b : Bounds) → o ≡ Some b
-      → (serial : ℕ) (p : PlacedRow) → StandsAt c'.sets serial p → ArrivesIn b p.row.key.ia p.place
+      → (serial : ℕ) (p : PlacedRow) → IsOnlyAt c'.sets serial p → ArrivesIn b p.row.key.ia p.place
   placed_in_bounds o is b same serial p there =
       let P : Option Bounds → Type 0 = λ x. IsPlacedIn x p in subst P (is ∙ same) (owes.rows.arrivals serial p there)
 

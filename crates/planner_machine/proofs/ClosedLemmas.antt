@@ -14,7 +14,7 @@ use Rattle.external_dependencies.specs.declared.live.Arrival.{Arrival}
 use Rattle.external_dependencies.specs.declared.rows.PlacedRow.{PlacedRow}
 use Rattle.planner_machine.specs.declared.content.Draft.{Draft}
 use Rattle.external_dependencies.proofs.NearestLemmas.{nearest_unlimited, unlimited}
-use Rattle.planner_machine.specs.Content.{Content, Sets, StandsAt}
+use Rattle.planner_machine.specs.Content.{Content, Sets, IsOnlyAt}
 use Rattle.planner_machine.specs.Fate.{Fate}
 use Rattle.planner_machine.specs.Laws.{Follows}
 use Rattle.planner_machine.specs.Pairs.{ArePairs, IsClosedAt, IsClosedPair, IsCompleteAt, IsOpenPair, LiveAt, pair_of}
@@ -69,14 +69,14 @@ module _ {V : Type 0} (E : V → V → Type 0) (ring : List V) (is : IsRing E ri
 -- an occurrence that starts: it was waiting, and its predecessors were complete
 pub record Starts (c : Content) (serial : ℕ) : Type 0 where
   pub placed : PlacedRow
-  pub stood : StandsAt c.sets serial placed
+  pub stood : IsOnlyAt c.sets serial placed
   pub waited : IsOpen placed.place
   pub predecessors : (n : ℕ) → Contains c.pairs (pair_of serial n) → IsCompleteAt c.sets n
 
 module _ (place : Place) (fate : Fate) (drafts : List Draft) (c c' : Content) (sound : IsSound c)
     (sound' : RowsSound c'.sets) (keeps : FateKeeps fate) (f : Follows place fate drafts c.sets c'.sets)
     (pairs : ArePairs c.pairs c'.in_force c'.sets c'.pairs) (born : IsOpen place)
-    (closes : (serial : ℕ) (p q : PlacedRow) → StandsAt c.sets serial p → fate p q → IsLive q.place
+    (closes : (serial : ℕ) (p q : PlacedRow) → IsOnlyAt c.sets serial p → fate p q → IsLive q.place
     → (IsOpen q.place → ⊥) → (IsLive p.place × (IsOpen p.place → ⊥)) ⊎ Starts c serial) where
   rows : RowsSound c.sets
   rows = rows_sound c sound
@@ -114,7 +114,7 @@ module _ (place : Place) (fate : Fate) (drafts : List Draft) (c c' : Content) (s
   still_complete n (p, there, is) = let (q, goes, at) = f.old n p there in (q, at, keeps.complete p q goes is)
 
   -- what stood before has the same key
-  same_key_at : (n : ℕ) (p q : PlacedRow) → StandsAt c.sets n p → StandsAt c'.sets n q → q.row.key ≡ p.row.key
+  same_key_at : (n : ℕ) (p q : PlacedRow) → IsOnlyAt c.sets n p → IsOnlyAt c'.sets n q → q.row.key ≡ p.row.key
   same_key_at n p q was now = let (o, goes, at) = f.old n p was in
       ap (λ (x : PlacedRow). x.row.key) (one_place c'.sets n q o now at) ∙ keeps.key p o goes
 
@@ -130,14 +130,14 @@ module _ (place : Place) (fate : Fate) (drafts : List Draft) (c c' : Content) (s
 
   -- and that predecessor arrives as the nearest does
   near_is : (successor n : ℕ) (q : PlacedRow) (o : IsOpenPair c.in_force c.sets (pair_of successor n))
-      → StandsAt c.sets n q → arrival_of q.row ≡ o.near
+      → IsOnlyAt c.sets n q → arrival_of q.row ≡ o.near
   near_is successor n q o there =
       let (m, p, stands, live, is) = o.nearest.live in
       let number : p.row.serial ≡ n = ap (λ (x : Arrival). x.serial) is ∙ o.predecessor in
       let own = rows.numbered m p stands in
       let same : m ≡ n = sym own ∙ number in
       ap (λ (x : PlacedRow). arrival_of x.row)
-      (one_place c.sets n q p there (subst (λ k. StandsAt c.sets k p) same stands)) ∙ is
+      (one_place c.sets n q p there (subst (λ k. IsOnlyAt c.sets k p) same stands)) ∙ is
 
   -- two nearest predecessors in one application are one, whatever their limits
   one_near : (key : Key) (app : List ℕ) (within within' : Option ℕ) (x y : Arrival)
@@ -151,7 +151,7 @@ module _ (place : Place) (fate : Fate) (drafts : List Draft) (c c' : Content) (s
       omega arith
 
   one_open : (successor m n : ℕ) (p q : PlacedRow) → Starts c successor → Contains c.pairs (pair_of successor m)
-      → Contains c.pairs (pair_of successor n) → StandsAt c.sets m p → StandsAt c.sets n q
+      → Contains c.pairs (pair_of successor n) → IsOnlyAt c.sets m p → IsOnlyAt c.sets n q
       → p.row.key.app ≡ q.row.key.app → m ≡ n
   one_open successor m n p q starts at_m at_n there there' apps =
       let o = open_pair successor m at_m starts in let o' = open_pair successor n at_n starts in
@@ -167,7 +167,7 @@ module _ (place : Place) (fate : Fate) (drafts : List Draft) (c c' : Content) (s
       ∙ one_near o.placed.row.key o.app o.within o'.within o.near o'.near o.nearest moved ∙ o'.predecessor
 
   in_time_open : (successor n : ℕ) (p q : PlacedRow) → Starts c successor → Contains c.pairs (pair_of successor n)
-      → StandsAt c.sets successor p → StandsAt c.sets n q → IsCandidate p.row.key q.row.key.app None (arrival_of q.row)
+      → IsOnlyAt c.sets successor p → IsOnlyAt c.sets n q → IsCandidate p.row.key q.row.key.app None (arrival_of q.row)
   in_time_open successor n p q starts at there there' =
       let o = open_pair successor n at starts in
       let near = near_is successor n q o there' in
@@ -214,7 +214,7 @@ module _ (place : Place) (fate : Fate) (drafts : List Draft) (c c' : Content) (s
         ];
     in_time = λ pair p q there closed at_p at_q.
         let (o, was, done) = were_complete pair.successor pair.predecessor there closed in
-        let arrives : (x : PlacedRow) → StandsAt c.sets pair.successor x
+        let arrives : (x : PlacedRow) → IsOnlyAt c.sets pair.successor x
         → IsCandidate x.row.key o.row.key.app None (arrival_of o.row) =
         λ x at_x. elim (was_closed pair.successor closed) [
           | inl before ↦ sound.pairs.in_time pair x o
@@ -230,12 +230,12 @@ module _ (place : Place) (fate : Fate) (drafts : List Draft) (c c' : Content) (s
     no_loop = λ serial on. let (ring, is, at) = on in sound.pairs.no_loop serial (ring, before_ring ring is, at);
   }
     where
-      closed_not_new : (n : ℕ) (p : PlacedRow) → StandsAt c'.sets n p → IsMadeAt place drafts c.sets n p
+      closed_not_new : (n : ℕ) (p : PlacedRow) → IsOnlyAt c'.sets n p → IsMadeAt place drafts c.sets n p
           → IsClosedAt c'.sets n → ⊥
       closed_not_new n p at_p new (q, stands, live, closed) =
           closed (subst (λ (x : PlacedRow). IsOpen x.place) (sym new.is ∙ one_place c'.sets n p q at_p stands) born)
 
-      same_serial : (n : ℕ) (p q : PlacedRow) → StandsAt c.sets n p → StandsAt c'.sets n q → q.row.serial ≡ p.row.serial
+      same_serial : (n : ℕ) (p q : PlacedRow) → IsOnlyAt c.sets n p → IsOnlyAt c'.sets n q → q.row.serial ≡ p.row.serial
       same_serial n p q was now = let (o, goes, at) = f.old n p was in
           ap (λ (x : PlacedRow). x.row.serial) (one_place c'.sets n q o now at) ∙ keeps.serial p o goes
 

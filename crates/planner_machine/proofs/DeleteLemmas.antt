@@ -12,7 +12,7 @@ use Rattle.occurrences.specs.declared.reply.Reply.TheVariants.{Numbered}
 use Rattle.occurrences.specs.declared.row.Row.{Row}
 use Rattle.external_dependencies.specs.declared.rows.PlacedRow.{PlacedRow}
 use Rattle.planner_machine.specs.declared.content.Bounds.{Bounds}
-use Rattle.planner_machine.specs.Content.{Seat, Sets, StandsAt, alone}
+use Rattle.planner_machine.specs.Content.{Seat, Sets, IsOnlyAt, alone}
 use Rattle.planner_machine.specs.Delete.{Deletes, delete_move}
 use Rattle.planner_machine.specs.Fate.{DeletionFate, place_after_deletion}
 use Rattle.planner_machine.specs.Laws.{Follows}
@@ -70,7 +70,7 @@ ltp_place row History planned is = cc
 ltp_place row (Deleted reason) planned is = cc
 
 pub stands_in_ltp : (c : Sets) → RowsSound c → (serial : ℕ) (row : Row) → c.ltp serial ≡ Some row
-    → StandsAt c serial (record { row = row; place = LongTerm })
+    → IsOnlyAt c serial (record { row = row; place = LongTerm })
 stands_in_ltp c sound serial row is = elim (cases_issued c.issued serial) [
   | inl within ↦
       let (p, there) = sound.placed serial within.0 within.1 in

@@ -13,14 +13,14 @@ use Rattle.app_definition_records.specs.CycleRecords.{AreRunCyclesOf, FitsRunCyc
 use Rattle.app_definition_records.specs.Periods.{FitsPeriod, IsPeriodOf}
 use Rattle.app_definition_records.specs.Predecessors.{ArePredecessorsOf, FitsPredecessors}
 use Rattle.external_dependencies.specs.declared.rows.PlacedRow.{PlacedRow}
-use Rattle.planner_machine.specs.Content.{StandsAt, nothing_known}
+use Rattle.planner_machine.specs.Content.{IsOnlyAt, nothing_known}
 use Rattle.planner_machine.specs.Sound.{AreDefinable, IsSound}
 use Rattle.planner_machine.proofs.SeatLemmas.{not_empty}
 use Rattle.app_definition_records.specs.Records.{Record, Records}
 use Rattle.app_definition_records.specs.FieldCounts.{HasApplicationFields, HasCalendarFields, HasCycleFields}
 use Rattle.app_definition_records.specs.FieldCounts.{HasPeriodFields, HasPredecessorFields}
 
-nowhere : (serial : ℕ) (p : PlacedRow) → StandsAt nothing_known.sets serial p → ⊥
+nowhere : (serial : ℕ) (p : PlacedRow) → IsOnlyAt nothing_known.sets serial p → ⊥
 nowhere serial p there = not_empty nothing_known.sets serial p there refl
 
 none_in : {X : Type 0} (x : X) → Contains [] x → ⊥

@@ -17,7 +17,7 @@ use Rattle.occurrences.specs.declared.status.Status.TheVariants.{W, S, E, C, D}
 use Rattle.external_dependencies.specs.declared.rows.PlacedRow.{PlacedRow}
 use Rattle.planner_machine.specs.declared.content.Draft.{Draft}
 use Rattle.planner_machine.specs.Act.{acted, acted_status}
-use Rattle.planner_machine.specs.Content.{Sets, StandsAt}
+use Rattle.planner_machine.specs.Content.{Sets, IsOnlyAt}
 use Rattle.planner_machine.specs.Drafts.{NamesDraft}
 use Rattle.planner_machine.specs.Fate.{ActionFate, DailyFate, DeletionFate, Fate, IsGenerated, ModifyFate, Stays}
 use Rattle.planner_machine.specs.Fate.{place_after_action, place_after_daily_plan, place_after_deletion}
@@ -39,18 +39,18 @@ pub record IsMadeAt (place : Place) (drafts : List Draft) (s : Sets) (serial : �
 module _ (place : Place) (fate : Fate) (drafts : List Draft) (s s' : Sets) (sound : RowsSound s)
     (sound' : RowsSound s') (f : Follows place fate drafts s s') where
   new_at : (serial k : ℕ) (q : PlacedRow) (draft : Draft) → slice_get drafts k ≡ Some draft → k < length drafts
-      → s.issued + 1 + k ≡ serial → StandsAt s' serial q → IsMadeAt place drafts s serial q
+      → s.issued + 1 + k ≡ serial → IsOnlyAt s' serial q → IsMadeAt place drafts s serial q
   new_at serial k q draft is lt at there = record {
     draft = draft;
     listed = (k, lt, get_or_from_slice_get drafts k draft draft is);
     new = omega arith;
-    is = one_place s' serial q _ there (subst (λ n. StandsAt s' n (record {
+    is = one_place s' serial q _ there (subst (λ n. IsOnlyAt s' n (record {
       row = numbered_row n draft;
       place = place;
     })) at (f.new k draft is));
   }
 
-  pub came : (serial : ℕ) (q : PlacedRow) → StandsAt s' serial q → ((p : PlacedRow) × StandsAt s serial p × fate p q)
+  pub came : (serial : ℕ) (q : PlacedRow) → IsOnlyAt s' serial q → ((p : PlacedRow) × IsOnlyAt s serial p × fate p q)
       ⊎ IsMadeAt place drafts s serial q
   came serial q there = elim (cases_issued s'.issued serial) [
     | inr past ↦ absurd (not_empty s' serial q there (sound'.unissued serial past))

@@ -18,7 +18,7 @@ use Rattle.occurrences.specs.declared.row.Row.{Row}
 use Rattle.external_dependencies.specs.declared.rows.PlacedRow.{PlacedRow}
 use Rattle.planner_machine.specs.declared.content.Bounds.{Bounds}
 use Rattle.planner_machine.specs.declared.content.Draft.{Draft}
-use Rattle.planner_machine.specs.Content.{Content, Sets, StandsAt}
+use Rattle.planner_machine.specs.Content.{Content, Sets, IsOnlyAt}
 use Rattle.planner_machine.specs.Drafts.{NamesDraft}
 use Rattle.planner_machine.specs.Fate.{Fate, IsGenerated}
 use Rattle.planner_machine.specs.Fresh.{IsFresh, IsLeftOut, LeavesOut, NamesInPlan, StandsSo, draft_of_row}
@@ -86,7 +86,7 @@ module _ (P : ℕ → Type 0) (decide : (n : ℕ) → Told (P n)) where
   ]
 
 module _ (s : Sets) (sound : RowsSound s) (Q : PlacedRow → Type 0) (decide : (p : PlacedRow) → Told (Q p)) where
-  at_told : (serial : ℕ) → Told ((p : PlacedRow) × (StandsAt s serial p × Q p))
+  at_told : (serial : ℕ) → Told ((p : PlacedRow) × (IsOnlyAt s serial p × Q p))
   at_told serial = elim (cases_issued s.issued serial) [
     | inr past ↦ inr (λ is. not_empty s serial is.0 is.1.0 (sound.unissued serial past))
     | inl within ↦
@@ -98,9 +98,9 @@ module _ (s : Sets) (sound : RowsSound s) (Q : PlacedRow → Type 0) (decide : (
   ]
 
   -- some row stands so, or none does
-  pub some_stands : ((serial : ℕ) × ((p : PlacedRow) × (StandsAt s serial p × Q p)))
-      ⊎ ((serial : ℕ) (p : PlacedRow) → StandsAt s serial p → Q p → ⊥)
-  some_stands = elim (up_to (λ serial. (p : PlacedRow) × (StandsAt s serial p × Q p)) at_told s.issued) [
+  pub some_stands : ((serial : ℕ) × ((p : PlacedRow) × (IsOnlyAt s serial p × Q p)))
+      ⊎ ((serial : ℕ) (p : PlacedRow) → IsOnlyAt s serial p → Q p → ⊥)
+  some_stands = elim (up_to (λ serial. (p : PlacedRow) × (IsOnlyAt s serial p × Q p)) at_told s.issued) [
     | inl found ↦ inl found
     | inr none ↦ inr (λ serial p there is. elim (cases_issued s.issued serial) [
       | inl within ↦ none serial within.1 (p, (there, is))
@@ -116,7 +116,7 @@ out_cases origin (Current status) out = absurd out
 out_cases origin History out = absurd out
 out_cases origin (Deleted reason) out = inr (ap Deleted out)
 
-pub left_out_operator : (s : Sets) (serial : ℕ) (p : PlacedRow) → StandsAt s serial p → p.place ≡ Deleted Operator
+pub left_out_operator : (s : Sets) (serial : ℕ) (p : PlacedRow) → IsOnlyAt s serial p → p.place ≡ Deleted Operator
     → (key : Key) → p.row.key ≡ key → IsLeftOut s key
 left_out_operator s serial p there is key keyed = record {
   serial = serial;
@@ -126,7 +126,7 @@ left_out_operator s serial p there is key keyed = record {
   out = subst (LeavesOut p.row.origin) (sym is) refl;
 }
 
-pub left_out_added : (s : Sets) (serial : ℕ) (p : PlacedRow) → StandsAt s serial p → p.place ≡ LongTerm
+pub left_out_added : (s : Sets) (serial : ℕ) (p : PlacedRow) → IsOnlyAt s serial p → p.place ≡ LongTerm
     → p.row.origin ≡ Added → (key : Key) → p.row.key ≡ key → IsLeftOut s key
 left_out_added s serial p there is added key keyed = record {
   serial = serial;
@@ -139,14 +139,14 @@ left_out_added s serial p there is added key keyed = record {
 pub at_ltp : (p : PlacedRow) → p.place ≡ LongTerm → p ≡ record { row = p.row; place = LongTerm }
 at_ltp p is = ap (λ (x : Place). record { row = p.row; place = x }) is
 
-live_ltp : (c : Content) → IsSound c → (m n : ℕ) (p q : PlacedRow) → StandsAt c.sets m p → StandsAt c.sets n q
+live_ltp : (c : Content) → IsSound c → (m n : ℕ) (p q : PlacedRow) → IsOnlyAt c.sets m p → IsOnlyAt c.sets n q
     → p.place ≡ LongTerm → q.place ≡ LongTerm → p.row.key ≡ q.row.key → p ≡ q
 live_ltp c sound m n p q at_p at_q ltp_p ltp_q same =
-    let a : StandsAt c.sets m (record { row = p.row; place = LongTerm }) = subst (StandsAt c.sets m) (at_ltp p ltp_p) at_p in
-    let b : StandsAt c.sets n (record { row = q.row; place = LongTerm }) = subst (StandsAt c.sets n) (at_ltp q ltp_q) at_q in
+    let a : IsOnlyAt c.sets m (record { row = p.row; place = LongTerm }) = subst (IsOnlyAt c.sets m) (at_ltp p ltp_p) at_p in
+    let b : IsOnlyAt c.sets n (record { row = q.row; place = LongTerm }) = subst (IsOnlyAt c.sets n) (at_ltp q ltp_q) at_q in
     let serials : m ≡ n = sound.keys m n (record { row = p.row; place = LongTerm })
     (record { row = q.row; place = LongTerm }) a b tt tt same in
-    one_place c.sets n p q (subst (λ k. StandsAt c.sets k p) serials at_p) at_q
+    one_place c.sets n p q (subst (λ k. IsOnlyAt c.sets k p) serials at_p) at_q
 
 -- fresh content, by the drafts of its generated rows
 pub fresh_exact : FreshIsExact
@@ -180,7 +180,7 @@ fresh_exact c sound fresh draft = (forward, backward)
 
 -- what is named and stands in the long-term plan is named in its days
 in_plan : (c : Content) → IsSound c → (b : Bounds) → c.sets.bounds ≡ Some b → (serial : ℕ) (row : Row)
-    → StandsAt c.sets serial (record { row = row; place = LongTerm }) → NamesDraft c.definitions (draft_of_row row)
+    → IsOnlyAt c.sets serial (record { row = row; place = LongTerm }) → NamesDraft c.definitions (draft_of_row row)
     → NamesInPlan c.definitions b (draft_of_row row)
 in_plan c sound b is serial row there names =
     let arrives = sound.arrivals.in_bounds b is serial (record { row = row; place = LongTerm }) there in
@@ -188,7 +188,7 @@ in_plan c sound b is serial row there names =
 
 -- fresh content from what is named, and from what stands
 pub fresh_of : (c : Content) → IsSound c → (b : Bounds) → c.sets.bounds ≡ Some b
-    → ((serial : ℕ) (row : Row) → StandsAt c.sets serial (record { row = row; place = LongTerm })
+    → ((serial : ℕ) (row : Row) → IsOnlyAt c.sets serial (record { row = row; place = LongTerm })
     → IsGenerated row.origin → NamesDraft c.definitions (draft_of_row row))
     → ((draft : Draft) → NamesInPlan c.definitions b draft → StandsSo c.sets draft ⊎ IsLeftOut c.sets draft.key)
     → IsFresh c
@@ -227,13 +227,13 @@ module _ (fate : Fate) (from : ℕ) (leaves : Leaves fate from) (place : Place) 
         | inl added ↦
             let ia : out.placed.row.key.ia ≡ draft.key.ia = ap (λ (k : Key). k.ia) out.keyed in
             elim (leaves.ltp out.placed went.0 went.1 added.0 (omega arith)) [
-              | inl same ↦ left_out_added s' out.serial out.placed (subst (StandsAt s' out.serial) same went.2) added.0
+              | inl same ↦ left_out_added s' out.serial out.placed (subst (IsOnlyAt s' out.serial) same went.2) added.0
                   added.1 draft.key out.keyed
               | inr gone ↦ left_out_operator s' out.serial (record { row = out.placed.row; place = Deleted Operator })
-                  (subst (StandsAt s' out.serial) gone went.2) refl draft.key out.keyed
+                  (subst (IsOnlyAt s' out.serial) gone went.2) refl draft.key out.keyed
             ]
         | inr operator ↦ left_out_operator s' out.serial out.placed
-            (subst (StandsAt s' out.serial) (leaves.deleted out.placed went.0 went.1 operator) went.2) operator
+            (subst (IsOnlyAt s' out.serial) (leaves.deleted out.placed went.0 went.1 operator) went.2) operator
             draft.key out.keyed
       ]
 
@@ -243,20 +243,20 @@ module _ (fate : Fate) (from : ℕ) (leaves : Leaves fate from) (place : Place) 
       let row : PlacedRow = record { row = numbered_row serial draft; place = LongTerm } in
       let went = f.old serial (record { row = numbered_row serial draft; place = LongTerm }) there in
       elim (leaves.ltp (record { row = numbered_row serial draft; place = LongTerm }) went.0 went.1 refl late) [
-        | inl same ↦ inl (serial, subst (StandsAt s' serial) same went.2)
+        | inl same ↦ inl (serial, subst (IsOnlyAt s' serial) same went.2)
         | inr gone ↦ inr (left_out_operator s' serial (record {
           row = numbered_row serial draft;
           place = Deleted Operator;
-        }) (subst (StandsAt s' serial) gone went.2) refl draft.key refl)
+        }) (subst (IsOnlyAt s' serial) gone went.2) refl draft.key refl)
       ]
 
 -- what is named before is named after, where rows stay as they are and what is made is named
 module _ (fate : Fate) (from : ℕ) (leaves : Leaves fate from) (place : Place) (drafts : List Draft) (all : Definitions)
     (s s' : Sets) (sound : RowsSound s) (sound' : RowsSound s') (f : Follows place fate drafts s s')
     (made : (draft : Draft) → Contains drafts draft → place ≡ LongTerm → IsGenerated draft.origin → NamesDraft all draft)
-    (before : (serial : ℕ) (row : Row) → StandsAt s serial (record { row = row; place = LongTerm })
+    (before : (serial : ℕ) (row : Row) → IsOnlyAt s serial (record { row = row; place = LongTerm })
     → IsGenerated row.origin → NamesDraft all (draft_of_row row)) where
-  pub named_after : (serial : ℕ) (row : Row) → StandsAt s' serial (record { row = row; place = LongTerm })
+  pub named_after : (serial : ℕ) (row : Row) → IsOnlyAt s' serial (record { row = row; place = LongTerm })
       → IsGenerated row.origin → NamesDraft all (draft_of_row row)
   named_after serial row there generated =
       elim (came place fate drafts s s' sound sound' f serial (record { row = row; place = LongTerm }) there) [
@@ -264,7 +264,7 @@ module _ (fate : Fate) (from : ℕ) (leaves : Leaves fate from) (place : Place) 
             let same : row ≡ p.row = leaves.row p (record { row = row; place = LongTerm }) goes in
             let ltp : p.place ≡ LongTerm = leaves.keeps.ltp p (record { row = row; place = LongTerm }) goes refl in
             subst (λ (r : Row). NamesDraft all (draft_of_row r)) (sym same)
-            (before serial p.row (subst (StandsAt s serial) (at_ltp p ltp) was)
+            (before serial p.row (subst (IsOnlyAt s serial) (at_ltp p ltp) was)
             (subst (λ (r : Row). IsGenerated r.origin) same generated))
         | inr new ↦
             let rows : row ≡ numbered_row serial new.draft = ap (λ (p : PlacedRow). p.row) new.is in

@@ -11,7 +11,7 @@ use Rattle.occurrences.specs.declared.row.Row.{Row}
 use Rattle.external_dependencies.specs.declared.rows.PlacedRow.{PlacedRow}
 use Rattle.planner_machine.specs.declared.content.Bounds.{Bounds}
 use Rattle.planner_machine.specs.declared.content.Draft.{Draft}
-use Rattle.planner_machine.specs.Content.{Sets, StandsAt}
+use Rattle.planner_machine.specs.Content.{Sets, IsOnlyAt}
 use Rattle.planner_machine.specs.Drafts.{AreDrafts, IsMade, NamesDraft}
 use Rattle.planner_machine.specs.Fate.{IsGenerated, IsLookedAt, ModifyFate}
 use Rattle.planner_machine.specs.Fresh.{IsLeftOut, NamesInPlan, StandsSo, draft_of_row}
@@ -38,7 +38,7 @@ module _ (looks : List ℕ → Bool) (Looks : List ℕ → Type 0) (tests : Test
       (is_b : s.bounds ≡ Some b) (named new : List Draft) (are_named : AreDrafts (NamesAhead Looks all s.bounds) named)
       (are_new : AreDrafts (IsMade (NamesAhead Looks all s.bounds) s) new)
       (f : Follows LongTerm (ModifyFate Looks all) new s s')
-      (rest_named : (serial : ℕ) (row : Row) → StandsAt s serial (record { row = row; place = LongTerm })
+      (rest_named : (serial : ℕ) (row : Row) → IsOnlyAt s serial (record { row = row; place = LongTerm })
       → IsGenerated row.origin → (Looks row.key.app → ⊥) → NamesDraft all (draft_of_row row))
       (rest_stands : (draft : Draft) → NamesInPlan all b draft → (Looks draft.key.app → ⊥)
       → StandsSo s draft ⊎ IsLeftOut s draft.key) where
@@ -58,10 +58,10 @@ module _ (looks : List ℕ → Bool) (Looks : List ℕ → Type 0) (tests : Test
     out_stays key out =
         let went = f.old out.serial out.placed out.stands in
         elim (out_cases out.placed.row.origin out.placed.place out.out) [
-          | inl added ↦ left_out_added s' out.serial out.placed (subst (StandsAt s' out.serial)
+          | inl added ↦ left_out_added s' out.serial out.placed (subst (IsOnlyAt s' out.serial)
               (not_looked out.placed went.0 went.1
               (λ looked. not_generated out.placed.row.origin added.1 looked.1)) went.2) added.0 added.1 key out.keyed
-          | inr operator ↦ left_out_operator s' out.serial out.placed (subst (StandsAt s' out.serial)
+          | inr operator ↦ left_out_operator s' out.serial out.placed (subst (IsOnlyAt s' out.serial)
               (not_looked out.placed went.0 went.1
               (λ looked. let apart : Deleted Operator ≡ LongTerm = sym operator ∙ looked.0 in cc)) went.2) operator
               key out.keyed
@@ -69,12 +69,12 @@ module _ (looks : List ℕ → Bool) (Looks : List ℕ → Type 0) (tests : Test
 
     -- a row that is looked at, under a key that is named, takes what is named
     stamped_so : (draft : Draft) → NamesInPlan all b draft → Looks draft.key.app → (serial : ℕ) (p : PlacedRow)
-        → StandsAt s serial p → p.place ≡ LongTerm → p.row.key ≡ draft.key → IsGenerated p.row.origin
+        → IsOnlyAt s serial p → p.place ≡ LongTerm → p.row.key ≡ draft.key → IsGenerated p.row.origin
         → StandsSo s' draft
     stamped_so draft names look serial p there ltp keyed generated =
         by_fate (f.old serial p there).0 (f.old serial p there).1 (f.old serial p there).2
       where
-        by_fate : (q : PlacedRow) → ModifyFate Looks all p q → StandsAt s' serial q → StandsSo s' draft
+        by_fate : (q : PlacedRow) → ModifyFate Looks all p q → IsOnlyAt s' serial q → StandsSo s' draft
         by_fate q (inr stays) at = absurd (stays.0 (
           ltp,
           generated,
@@ -104,7 +104,7 @@ module _ (looks : List ℕ → Bool) (Looks : List ℕ → Type 0) (tests : Test
               };
               place = LongTerm;
             }) in
-            (serial, subst (StandsAt s' serial) becomes at)
+            (serial, subst (IsOnlyAt s' serial) becomes at)
 
     looked_stands : (draft : Draft) → NamesInPlan all b draft → Looks draft.key.app
         → StandsSo s' draft ⊎ IsLeftOut s' draft.key
@@ -144,14 +144,14 @@ module _ (looks : List ℕ → Bool) (Looks : List ℕ → Type 0) (tests : Test
             let went = f.old stands.0 (record { row = numbered_row stands.0 draft; place = LongTerm }) stands.1 in
             inl (
               stands.0,
-              subst (StandsAt s' stands.0)
+              subst (IsOnlyAt s' stands.0)
                   (not_looked (record { row = numbered_row stands.0 draft; place = LongTerm }) went.0 went.1
                   (λ looked. never looked.2)) went.2,
             )
       ]
     ]
 
-    pub modified_named : (serial : ℕ) (row : Row) → StandsAt s' serial (record { row = row; place = LongTerm })
+    pub modified_named : (serial : ℕ) (row : Row) → IsOnlyAt s' serial (record { row = row; place = LongTerm })
         → IsGenerated row.origin → NamesDraft all (draft_of_row row)
     modified_named serial row there generated =
         elim (came LongTerm (ModifyFate Looks all) new s s' sound sound' f serial
@@ -163,7 +163,7 @@ module _ (looks : List ℕ → Bool) (Looks : List ℕ → Type 0) (tests : Test
           | inl (p, was, goes) ↦ by_fate p was goes
         ]
       where
-        by_fate : (p : PlacedRow) → StandsAt s serial p
+        by_fate : (p : PlacedRow) → IsOnlyAt s serial p
             → ModifyFate Looks all p (record { row = row; place = LongTerm }) → NamesDraft all (draft_of_row row)
         by_fate p was (inl (looked, inr withdrawn)) =
             let apart : LongTerm ≡ Deleted Withdrawn = ap (λ (x : PlacedRow). x.place) withdrawn.goes in absurd cc
@@ -177,8 +177,8 @@ module _ (looks : List ℕ → Bool) (Looks : List ℕ → Type 0) (tests : Test
             }) ∙ ap draft_of_row (sym rows) in
             subst (NamesDraft all) same stays.named
         by_fate p was (inr (never, stays)) =
-            let there_before : StandsAt s serial (record { row = row; place = LongTerm }) =
-            subst (StandsAt s serial) (sym stays) was in
+            let there_before : IsOnlyAt s serial (record { row = row; place = LongTerm }) =
+            subst (IsOnlyAt s serial) (sym stays) was in
             rest_named serial row there_before generated (λ look. never (
               ap (λ (x : PlacedRow). x.place) (sym stays),
               subst (λ (x : PlacedRow). IsGenerated x.row.origin) stays generated,

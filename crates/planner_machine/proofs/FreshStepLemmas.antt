@@ -20,7 +20,7 @@ use Rattle.external_dependencies.specs.declared.rows.PlacedRow.{PlacedRow}
 use Rattle.planner_machine.specs.declared.content.Bounds.{Bounds}
 use Rattle.planner_machine.specs.declared.content.Draft.{Draft}
 use Rattle.planner_machine.specs.declared.job.Job.{Job as KeptJob}
-use Rattle.planner_machine.specs.Content.{Content, Sets, StandsAt, midnight}
+use Rattle.planner_machine.specs.Content.{Content, Sets, IsOnlyAt, midnight}
 use Rattle.planner_machine.specs.DailyPlan.{daily}
 use Rattle.planner_machine.specs.Decision.{Decides, trial}
 use Rattle.planner_machine.specs.Drafts.{NamesDraft, added}
@@ -118,7 +118,7 @@ module _ (fate : Fate) (from : ℕ) (leaves : Leaves fate from) (place : Place) 
     (same : c'.definitions ≡ c.definitions) (fresh : IsFresh c)
     (made : (draft : Draft) → Contains drafts draft → place ≡ LongTerm → IsGenerated draft.origin
     → NamesDraft c.definitions draft) where
-  named_so : (serial : ℕ) (row : Row) → StandsAt c'.sets serial (record { row = row; place = LongTerm })
+  named_so : (serial : ℕ) (row : Row) → IsOnlyAt c'.sets serial (record { row = row; place = LongTerm })
       → IsGenerated row.origin → NamesDraft c'.definitions (draft_of_row row)
   named_so serial row there generated = subst (λ (all : Definitions). NamesDraft all (draft_of_row row)) (sym same)
       (named_after fate from leaves place drafts c.definitions c.sets c'.sets (rows_sound c sound)
@@ -252,7 +252,7 @@ extend_fresh to c reply c' sound sound' d fresh =
     follows = (change_follows (Extend to) c reply c' sound d).2
 
     new_stands : (draft : Draft) → NamesDraft c.definitions draft → midnight (fresh.bounds.last_day + 1) ≤ draft.key.ia
-        → draft.key.ia < midnight (to + 1) → ((serial : ℕ) (p : PlacedRow) → StandsAt c.sets serial p
+        → draft.key.ia < midnight (to + 1) → ((serial : ℕ) (p : PlacedRow) → IsOnlyAt c.sets serial p
         → (p.place ≡ Deleted Operator) × (p.row.key ≡ draft.key) → ⊥) → StandsSo c'.sets draft
     new_stands draft names after until undeleted = made_stands Stays (change_follows (Extend to) c reply c' sound d).0 c.sets c'.sets
         ((change_follows (Extend to) c reply c' sound d).2) draft

@@ -11,7 +11,7 @@ use Rattle.external_dependencies.specs.declared.links.Link.{Link}
 use Rattle.external_dependencies.specs.declared.live.Arrival.{Arrival}
 use Rattle.external_dependencies.specs.declared.rows.PlacedRow.{PlacedRow}
 use Rattle.planner_machine.specs.declared.job.Job.{Job}
-use Rattle.planner_machine.specs.Content.{Content, StandsAt}
+use Rattle.planner_machine.specs.Content.{Content, IsOnlyAt}
 use Rattle.planner_machine.specs.InForce.{PutsLists}
 use Rattle.planner_machine.specs.Jobs.{with_job}
 use Rattle.planner_machine.specs.Moves.{bit, size}
@@ -38,7 +38,7 @@ pub shown_size : {X : Type 0} (c : Content) → IsSound c → (set : ℕ → Opt
 shown_size c sound set = let small = size_small set c.sets.issued in let few = sound.sizes.issued in omega arith
 
 -- what stands somewhere has a serial
-pub is_serial : (c : Content) → IsSound c → (serial : ℕ) (p : PlacedRow) → StandsAt c.sets serial p → IsSerial serial
+pub is_serial : (c : Content) → IsSound c → (serial : ℕ) (p : PlacedRow) → IsOnlyAt c.sets serial p → IsSerial serial
 is_serial c sound serial p there = elim (cases_issued c.sets.issued serial) [
   | inl within ↦ let few = sound.sizes.issued in (within.0, omega (arith, within.1))
   | inr past ↦ absurd (not_empty c.sets serial p there (sound.serials.unissued serial past))

@@ -15,7 +15,7 @@ use Rattle.occurrences.specs.declared.row.Row.{Row}
 use Rattle.external_dependencies.specs.declared.rows.PlacedRow.{PlacedRow}
 use Rattle.planner_machine.specs.declared.content.Bounds.{Bounds}
 use Rattle.planner_machine.specs.declared.content.Draft.{Draft}
-use Rattle.planner_machine.specs.Content.{Seat, Sets, StandsAt, alone, empty_seat, seat}
+use Rattle.planner_machine.specs.Content.{Seat, Sets, IsOnlyAt, alone, empty_seat, seat}
 use Rattle.planner_machine.specs.Sound.{ArrivesIn}
 use Rattle.planner_machine.specs.RowsSound.{IsPlacedIn, RowsSound}
 use Rattle.planner_machine.specs.Fate.{Stays}
@@ -69,10 +69,10 @@ module _ (place : Place) (c : Sets) (sound : RowsSound c) (drafts : List Draft) 
   same_seat serial none = ap (λ m. seat_made place m (seat c serial)) none
 
   new_seat : (serial : ℕ) (draft : Draft) → c.issued < serial → IsDraftAt c.issued drafts serial draft
-      → StandsAt after serial (record { row = numbered_row serial draft; place = place })
+      → IsOnlyAt after serial (record { row = numbered_row serial draft; place = place })
   new_seat serial draft above is = ap (λ m. seat_made place m (seat c serial)) is.2
 
-  old_stands : (serial : ℕ) (p : PlacedRow) → StandsAt c serial p → StandsAt after serial p
+  old_stands : (serial : ℕ) (p : PlacedRow) → IsOnlyAt c serial p → IsOnlyAt after serial p
   old_stands serial p there = elim (cases_issued c.issued serial) [
     | inl within ↦ same_seat serial (made_old c.issued drafts serial within.1) ∙ there
     | inr past ↦ absurd (not_empty c serial p there (sound.unissued serial past))
@@ -87,11 +87,11 @@ module _ (place : Place) (c : Sets) (sound : RowsSound c) (drafts : List Draft) 
   -- what stands after is what stood before, or a draft
   Source : ℕ → PlacedRow → Type 0
   Source serial q =
-      StandsAt c serial q
+      IsOnlyAt c serial q
       ⊎ ((draft : Draft) × (c.issued < serial) × IsDraftAt c.issued drafts serial draft
       × (record { row = numbered_row serial draft; place = place } ≡ q))
 
-  source : (serial : ℕ) (q : PlacedRow) → StandsAt after serial q → Source serial q
+  source : (serial : ℕ) (q : PlacedRow) → IsOnlyAt after serial q → Source serial q
   unfolding Source
   source serial q there = elim (cases_issued (c.issued + length drafts) serial) [
     | inr past ↦ absurd (not_empty after serial q there (empty_after serial past))
@@ -120,7 +120,7 @@ module _ (place : Place) (c : Sets) (sound : RowsSound c) (drafts : List Draft) 
 
   module _ (b : Bounds) (bounded : c.bounds ≡ Some b) (ahead : (draft : Draft) → Contains drafts draft
       → ArrivesIn b draft.key.ia place
-      × ((serial : ℕ) (p : PlacedRow) → StandsAt c serial p → IsLive p.place
+      × ((serial : ℕ) (p : PlacedRow) → IsOnlyAt c serial p → IsLive p.place
       → p.row.key ≢ draft.key)) (rising : AllPairs (λ (x y : Draft). KeyBefore x.key y.key) drafts) where
     contained : (serial : ℕ) (draft : Draft) → IsDraftAt c.issued drafts serial draft → Contains drafts draft
     contained serial draft is = (serial - suc c.issued, is.0, get_or_from_slice_get drafts _ draft draft is.1)
@@ -189,7 +189,7 @@ module _ (place : Place) (c : Sets) (sound : RowsSound c) (drafts : List Draft) 
 -- a key that arrives in the long-term plan's part, and that no row there has, is that of no live row
 pub fresh : (c : Sets) → RowsSound c → (b : Bounds) → c.bounds ≡ Some b → (key : Key) → b.plan_end ≤ key.ia
     → ((serial : ℕ) (row : Row) → c.ltp serial ≡ Some row → row.key ≢ key) → (serial : ℕ) (p : PlacedRow)
-    → StandsAt c serial p → IsLive p.place → p.row.key ≢ key
+    → IsOnlyAt c serial p → IsLive p.place → p.row.key ≢ key
 fresh c sound b bounded key late none serial p stands live same = at p.place refl
   where
     in_bounds : ArrivesIn b p.row.key.ia p.place

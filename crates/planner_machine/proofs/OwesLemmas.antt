@@ -23,7 +23,7 @@ use Rattle.planner_machine.specs.declared.content.Bounds.{Bounds}
 use Rattle.planner_machine.specs.declared.content.Draft.{Draft}
 use Rattle.planner_machine.specs.Act.{ActionRefused, Acts}
 use Rattle.planner_machine.specs.Add.{AddRefused, Adds}
-use Rattle.planner_machine.specs.Content.{Content, Sets, StandsAt, midnight}
+use Rattle.planner_machine.specs.Content.{Content, Sets, IsOnlyAt, midnight}
 use Rattle.planner_machine.specs.Create.{CreateRefused, Creates, first_bounds}
 use Rattle.planner_machine.specs.DailyExtend.{IsBadPlanEnd}
 use Rattle.planner_machine.specs.DailyPlan.{daily}
@@ -342,7 +342,7 @@ action_owes key action c c' reply sound none d =
       no_loop = loops_none c sound c'.in_force d.lists;
     }
   where
-    starting : (serial : ℕ) (p : PlacedRow) → StandsAt c.sets serial p → (IsLive p.place × (IsOpen p.place → ⊥))
+    starting : (serial : ℕ) (p : PlacedRow) → IsOnlyAt c.sets serial p → (IsLive p.place × (IsOpen p.place → ⊥))
         ⊎ (IsOpen p.place × ((n : ℕ) → Contains c.pairs (pair_of serial n) → IsCompleteAt c.sets n))
         → (IsLive p.place × (IsOpen p.place → ⊥)) ⊎ Starts c serial
     starting serial p at (inl closed) = inl closed

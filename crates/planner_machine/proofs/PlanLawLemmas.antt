@@ -2,7 +2,7 @@
 use Rattle.std.proofs.Common.{◌≡◌, ℕ, sym, subst, Option, None, Some}
 use Rattle.planner_machine.specs.declared.content.Bounds.{Bounds}
 use Rattle.planner_machine.specs.declared.counts.Count.{Count}
-use Rattle.planner_machine.specs.Content.{Content, Sets, StandsAt}
+use Rattle.planner_machine.specs.Content.{Content, Sets, IsOnlyAt}
 use Rattle.planner_machine.specs.DailyPlan.{daily, daily_move}
 use Rattle.planner_machine.specs.Fate.{place_after_daily_plan}
 use Rattle.planner_machine.specs.Laws.{DailyIsFates, KeepsItself, KeepsPairs}
@@ -26,7 +26,7 @@ daily_fates t c sound serial q = (
   (λ there. let (p, was, same) = stood_before (daily_move t) (going (place_after_daily_plan t))
       (daily_is_move t) c.sets (rows_sound c sound) c.sets.bounds serial q there in (p, was, sym same)),
   λ from. let (p, was, same) = from in
-      subst (StandsAt (daily t c.sets) serial) (sym same)
+      subst (IsOnlyAt (daily t c.sets) serial) (sym same)
       (stands_after (daily_move t) (going (place_after_daily_plan t)) (daily_is_move t) c.sets
       (rows_sound c sound) c.sets.bounds serial p was),
 )

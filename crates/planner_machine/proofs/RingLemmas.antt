@@ -17,7 +17,7 @@ use Rattle.external_dependencies.specs.Loop.{IsRing}
 use Rattle.external_dependencies.specs.Nearest.{arrival_of}
 use Rattle.external_dependencies.specs.declared.live.Arrival.{Arrival}
 use Rattle.external_dependencies.specs.declared.rows.PlacedRow.{PlacedRow}
-use Rattle.planner_machine.specs.Content.{Content, Sets, StandsAt, seat}
+use Rattle.planner_machine.specs.Content.{Content, Sets, IsOnlyAt, seat}
 use Rattle.planner_machine.specs.Laws.{PairsHaveNoLoop}
 use Rattle.planner_machine.specs.Pairs.{IsClosedAt, IsClosedPair, pair_of}
 use Rattle.planner_machine.specs.Sound.{IsSound}
@@ -28,7 +28,7 @@ use Rattle.planner_machine.proofs.SeatLemmas.{found, found_alone}
 key_at : Sets → ℕ → Key
 key_at s serial = option_map_or (λ (p : PlacedRow). p.row.key) (found (seat s serial)) (record { ia = 0; app = [] })
 
-key_is : (s : Sets) (serial : ℕ) (p : PlacedRow) → StandsAt s serial p → key_at s serial ≡ p.row.key
+key_is : (s : Sets) (serial : ℕ) (p : PlacedRow) → IsOnlyAt s serial p → key_at s serial ≡ p.row.key
 unfolding key_at
 key_is s serial p there =
     ap (λ (o : Option PlacedRow). option_map_or (λ (x : PlacedRow). x.row.key) o (record {
@@ -42,8 +42,8 @@ StoredPair c successor predecessor = Contains c.pairs (pair_of successor predece
 module _ (c : Content) (sound : IsSound c) where
   -- what an edge is: both ends are closed, or it is that of an open occurrence to what is listed for it
   record IsOpenEdge (u v : ℕ) : Type 0 where
-    live : (p : PlacedRow) × StandsAt c.sets u p × IsLive p.place
-    live' : (p : PlacedRow) × StandsAt c.sets v p × IsLive p.place
+    live : (p : PlacedRow) × IsOnlyAt c.sets u p × IsLive p.place
+    live' : (p : PlacedRow) × IsOnlyAt c.sets v p × IsLive p.place
     listed : Lists c.in_force (key_at c.sets u).app (key_at c.sets v).app
     in_time : (key_at c.sets v).ia ≤ (key_at c.sets u).ia
     before_own : (key_at c.sets v).app ≡ (key_at c.sets u).app → (key_at c.sets v).ia < (key_at c.sets u).ia
@@ -64,7 +64,7 @@ module _ (c : Content) (sound : IsSound c) where
         let number : p.row.serial ≡ v = ap (λ (x : Arrival). x.serial) is ∙ o.predecessor in
         let own = sound.serials.numbered m p stands in
         let same : m ≡ v = sym own ∙ number in
-        let stands' : StandsAt c.sets v p = subst (λ n. StandsAt c.sets n p) same stands in
+        let stands' : IsOnlyAt c.sets v p = subst (λ n. IsOnlyAt c.sets n p) same stands in
         let near : arrival_of p.row ≡ o.near = is in
         let app : p.row.key.app ≡ o.app = ap (λ (x : Arrival). x.app) near ∙ o.nearest.candidate.of_app in
         let ia : p.row.key.ia ≡ o.near.ia = ap (λ (x : Arrival). x.ia) near in
@@ -170,7 +170,7 @@ module _ (c : Content) (sound : IsSound c) where
         omega arith
 
     -- each node is live
-    live_node : (k : ℕ) → k < length ring → (p : PlacedRow) × StandsAt c.sets (get_or ring k 0) p × IsLive p.place
+    live_node : (k : ℕ) → k < length ring → (p : PlacedRow) × IsOnlyAt c.sets (get_or ring k 0) p × IsLive p.place
     live_node k lt = elim (cases_lt (k + 1) (length ring)) [
       | inl inside ↦ (open_edge k (k + 1) lt (is.next k 0 inside)).live
       | inr last ↦

@@ -9,7 +9,7 @@ use Rattle.occurrences.specs.declared.place.Place.TheVariants.{LongTerm, Current
 use Rattle.occurrences.specs.declared.row.Row.{Row}
 use Rattle.external_dependencies.specs.declared.rows.PlacedRow.{PlacedRow}
 use Rattle.planner_machine.specs.declared.content.Bounds.{Bounds}
-use Rattle.planner_machine.specs.Content.{Seat, Sets, StandsAt, alone, empty_seat, seat}
+use Rattle.planner_machine.specs.Content.{Seat, Sets, IsOnlyAt, alone, empty_seat, seat}
 use Rattle.planner_machine.specs.Sound.{AreBounds}
 use Rattle.planner_machine.specs.RowsSound.{IsPlacedIn, RowsSound}
 use Rattle.planner_machine.specs.declared.content.Draft.{Draft}
@@ -39,12 +39,12 @@ unfolding found
 found_empty = refl
 
 -- a serial stands in one place
-pub one_place : (c : Sets) (serial : ℕ) (p q : PlacedRow) → StandsAt c serial p → StandsAt c serial q → p ≡ q
+pub one_place : (c : Sets) (serial : ℕ) (p q : PlacedRow) → IsOnlyAt c serial p → IsOnlyAt c serial q → p ≡ q
 one_place c serial p q a b =
     let from = found_alone p.row p.place in let to = found_alone q.row q.place in let same = ap found (sym a ∙ b) in
     let whole : Some p ≡ Some q = sym from ∙ same ∙ to in cc
 
-pub not_empty : (c : Sets) (serial : ℕ) (p : PlacedRow) → StandsAt c serial p → seat c serial ≡ empty_seat → ⊥
+pub not_empty : (c : Sets) (serial : ℕ) (p : PlacedRow) → IsOnlyAt c serial p → seat c serial ≡ empty_seat → ⊥
 not_empty c serial p a b =
     let is : None ≡ Some p = sym found_empty ∙ ap found (sym b ∙ a) ∙ found_alone p.row p.place in cc
 
@@ -74,13 +74,13 @@ module _ (move : Seat → Seat) (go : PlacedRow
   abbrev pub after : Sets
   after = record (each move c) { bounds = bounds }
 
-  pub stands_after : (serial : ℕ) (p : PlacedRow) → StandsAt c serial p → StandsAt after serial (go p)
+  pub stands_after : (serial : ℕ) (p : PlacedRow) → IsOnlyAt c serial p → IsOnlyAt after serial (go p)
   stands_after serial p there = ap move there ∙ is.alone p
 
   empty_after : (serial : ℕ) → (serial ≡ 0) ⊎ (c.issued < serial) → seat after serial ≡ empty_seat
   empty_after serial past = ap move (sound.unissued serial past) ∙ is.empty
 
-  pub stood_before : (serial : ℕ) (q : PlacedRow) → StandsAt after serial q → (p : PlacedRow) × StandsAt c serial p
+  pub stood_before : (serial : ℕ) (q : PlacedRow) → IsOnlyAt after serial q → (p : PlacedRow) × IsOnlyAt c serial p
       × (go p ≡ q)
   stood_before serial q there = elim (cases_issued c.issued serial) [
     | inl within ↦ let (p, was) = sound.placed serial within.0 within.1 in

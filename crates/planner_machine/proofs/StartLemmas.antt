@@ -16,7 +16,7 @@ use Rattle.occurrences.specs.declared.status.Action.TheVariants.{Start, Complete
 use Rattle.occurrences.specs.declared.status.Status.TheVariants.{W, S, E, C, D}
 use Rattle.external_dependencies.specs.declared.rows.PlacedRow.{PlacedRow}
 use Rattle.planner_machine.specs.Act.{ActionRefused, IsCurrent, IsLeastUncompleted, acted_status}
-use Rattle.planner_machine.specs.Content.{Content, Seat, Sets, StandsAt}
+use Rattle.planner_machine.specs.Content.{Content, Seat, Sets, IsOnlyAt}
 use Rattle.planner_machine.specs.Fate.{place_after_action}
 use Rattle.planner_machine.specs.Moves.{has_key}
 use Rattle.planner_machine.specs.Pairs.{IsCompleteAt, pair_of}
@@ -31,7 +31,7 @@ decide_complete c sound n = elim (cases_issued c.issued n) [
   | inr past ↦ inr (λ is. not_empty c n is.0 is.1 (sound.unissued n past))
 ]
   where
-    at : (p : PlacedRow) → StandsAt c n p → (place : Place) → p.place ≡ place → IsCompleteAt c n
+    at : (p : PlacedRow) → IsOnlyAt c n p → (place : Place) → p.place ≡ place → IsCompleteAt c n
         ⊎ (IsCompleteAt c n → ⊥)
     at p there LongTerm is =
         inr (λ (q, here, done). subst IsComplete (ap (λ (x : PlacedRow). x.place) (one_place c n q p here there)
@@ -75,7 +75,7 @@ all_complete s sound serial none n there = below (n + 1) n (omega arith) there
 module _ (key : Key) (s : Content) (sound : RowsSound s.sets) where
   -- what a waiting row becomes, closed and live, it becomes by a start
   waited : (action : Action) → ((q : Refusal) → ActionRefused key action s q → ⊥) → (serial : ℕ) (row : Row)
-      → StandsAt s.sets serial (record { row = row; place = Current W }) → (b : Bool) → has_key key row ≡ b
+      → IsOnlyAt s.sets serial (record { row = row; place = Current W }) → (b : Bool) → has_key key row ≡ b
       → (if b then acted_status action W else W) ≢ D → ((if b then acted_status action W else W) ≡ W → ⊥) → (n : ℕ)
       → Contains s.pairs (pair_of serial n) → IsCompleteAt s.sets n
   waited action none serial row there false is live closed = absurd (closed refl)
@@ -94,7 +94,7 @@ module _ (key : Key) (s : Content) (sound : RowsSound s.sets) where
   waited Delete none serial row there true is live closed = absurd (live refl)
 
   pub action_closes : (action : Action) → ((q : Refusal) → ActionRefused key action s q → ⊥)
-      → (serial : ℕ) (row : Row) (was : Place) → StandsAt s.sets serial (record { row = row; place = was })
+      → (serial : ℕ) (row : Row) (was : Place) → IsOnlyAt s.sets serial (record { row = row; place = was })
       → IsLive (place_after_action key action row was) → (IsOpen (place_after_action key action row was) → ⊥)
       → (IsLive was × (IsOpen was → ⊥))
       ⊎ (IsOpen was × ((n : ℕ) → Contains s.pairs (pair_of serial n) → IsCompleteAt s.sets n))

@@ -22,7 +22,7 @@ use Rattle.external_dependencies.specs.declared.links.Link.{Link}
 use Rattle.external_dependencies.specs.declared.rows.PlacedRow.{PlacedRow}
 use Rattle.planner_machine.specs.declared.content.Bounds.{Bounds}
 use Rattle.planner_machine.specs.declared.content.Draft.{Draft}
-use Rattle.planner_machine.specs.Content.{Content, StandsAt, midnight}
+use Rattle.planner_machine.specs.Content.{Content, IsOnlyAt, midnight}
 use Rattle.planner_machine.specs.Drafts.{NamesWithin, added}
 use Rattle.planner_machine.specs.Fate.{ModifyFate, Stays, place_after_action, place_after_daily_plan}
 use Rattle.planner_machine.specs.Fate.{place_after_deletion}
@@ -195,7 +195,7 @@ days_fit c sound b is =
 
 -- a row that a modify statement stamps keeps its ranges
 pub modified_row : (Looks : List ℕ → Type 0) (c : Content) → IsSound c → (serial : ℕ) (p q : PlacedRow)
-    → StandsAt c.sets serial p → ModifyFate Looks c.definitions p q → IsRow p.row → IsRow q.row
+    → IsOnlyAt c.sets serial p → ModifyFate Looks c.definitions p q → IsRow p.row → IsRow q.row
 modified_row Looks c sound serial p q there (inr (apart, is)) good =
     subst (λ (x : PlacedRow). IsRow x.row) (sym is) good
 modified_row Looks c sound serial p q there (inl (at, inr withdrawn)) good =

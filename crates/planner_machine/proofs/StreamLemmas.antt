@@ -6,7 +6,7 @@ use Rattle.std.proofs.lemmas.Bool.{cases_lt}
 use Rattle.std.proofs.lemmas.List.Elements.{All-head, All-tail}
 use Rattle.std.proofs.lemmas.Option.{slice_get_cases}
 use Rattle.external_dependencies.specs.declared.rows.PlacedRow.{PlacedRow}
-use Rattle.planner_machine.specs.Content.{Content, StandsAt}
+use Rattle.planner_machine.specs.Content.{Content, IsOnlyAt}
 use Rattle.planner_machine.specs.Moves.{numbered_row}
 use Rattle.planner_machine.specs.Sound.{IsSound}
 use Rattle.planner_machine.specs.Statement.{Answer, Statement}
@@ -36,10 +36,10 @@ run_sound (s ∷ stream) (a ∷ az) c c' sound fine (next, d, r) =
 
 -- what stood goes on by its fates
 goes_on : (stream : List Statement) (answers : List Answer) (c c' : Content) → IsSound c → All IsStatement stream
-    → (run : Runs stream c answers c') → (serial : ℕ) (p : PlacedRow) → StandsAt c.sets serial p → (q : PlacedRow)
-    × StandsAt c'.sets serial q × Goes stream answers c c' run p q
+    → (run : Runs stream c answers c') → (serial : ℕ) (p : PlacedRow) → IsOnlyAt c.sets serial p → (q : PlacedRow)
+    × IsOnlyAt c'.sets serial q × Goes stream answers c c' run p q
 goes_on [] [] c c' sound fine r serial p there =
-    (p, subst (λ (x : Content). StandsAt x.sets serial p) (sym r) there, refl)
+    (p, subst (λ (x : Content). IsOnlyAt x.sets serial p) (sym r) there, refl)
 goes_on [] (a ∷ az) c c' sound fine r serial p there = absurd r
 goes_on (s ∷ stream) [] c c' sound fine r serial p there = absurd r
 goes_on (s ∷ stream) (a ∷ az) c c' sound fine (next, d, r) serial p there =
@@ -52,7 +52,7 @@ goes_on (s ∷ stream) (a ∷ az) c c' sound fine (next, d, r) serial p there =
 -- what is made goes on from where it is made
 lives_on : (stream : List Statement) (answers : List Answer) (c c' : Content) → IsSound c → All IsStatement stream
     → (run : Runs stream c answers c') → (serial : ℕ) → c.sets.issued < serial → serial ≤ c'.sets.issued
-    → (q : PlacedRow) × StandsAt c'.sets serial q × Lives stream answers c c' run serial q
+    → (q : PlacedRow) × IsOnlyAt c'.sets serial q × Lives stream answers c c' run serial q
 lives_on [] [] c c' sound fine r serial above below =
     absurd (let same : c'.sets.issued ≡ c.sets.issued = ap (λ (x : Content). x.sets.issued) r in omega arith)
 lives_on [] (a ∷ az) c c' sound fine r serial above below = absurd r
@@ -71,8 +71,8 @@ lives_on (s ∷ stream) (a ∷ az) c c' sound fine (next, d, r) serial above bel
             | inl (draft, lt, is, at) ↦
                 let numbered : serial ≡ c.sets.issued + 1 + (serial - suc c.sets.issued) = omega arith in
                 let o : PlacedRow = record { row = numbered_row serial draft; place = place_at (acting s c a) } in
-                let stands : StandsAt next.sets serial o =
-                subst (λ n. StandsAt next.sets n (record {
+                let stands : IsOnlyAt next.sets serial o =
+                subst (λ n. IsOnlyAt next.sets n (record {
                   row = numbered_row n draft;
                   place = place_at (acting s c a);
                 })) (sym numbered)

@@ -13,7 +13,7 @@ use Rattle.occurrences.specs.declared.reply.Reply.TheVariants.{Numbered}
 use Rattle.occurrences.specs.declared.status.Status.TheVariants.{W}
 use Rattle.external_dependencies.specs.declared.rows.PlacedRow.{PlacedRow}
 use Rattle.planner_machine.specs.declared.content.Bounds.{Bounds}
-use Rattle.planner_machine.specs.Content.{Content, Sets, StandsAt, midnight}
+use Rattle.planner_machine.specs.Content.{Content, Sets, IsOnlyAt, midnight}
 use Rattle.planner_machine.specs.Decision.{Decision}
 use Rattle.planner_machine.specs.Drafts.{added}
 use Rattle.planner_machine.specs.InForce.{PutsNone}
@@ -28,7 +28,7 @@ IsOutside b ia _ = (ia < midnight b.first_day) ⊎ (b.plan_end ≤ ia)
 
 -- a live occurrence has the key
 abbrev pub IsLiveKey : Sets → Key → Type 0
-IsLiveKey s key = (serial : ℕ) × (p : PlacedRow) × StandsAt s serial p × IsLive p.place × (p.row.key ≡ key)
+IsLiveKey s key = (serial : ℕ) × (p : PlacedRow) × IsOnlyAt s serial p × IsLive p.place × (p.row.key ≡ key)
 
 -- whether or not the calendars name the key, and whether or not it is in the deletions
 abbrev pub Adds : Place → Key → Definitions → Sets → Reply → Sets → Type 0

@@ -61,8 +61,8 @@ abbrev pub empty_seat : Seat
 empty_seat = record { ltp = None; cp = None; history = None; deletions = None }
 
 -- the row is there under the serial, and nothing else is anywhere under it
-abbrev pub StandsAt : Sets → ℕ → PlacedRow → Type 0
-StandsAt s serial p = seat s serial ≡ alone p.row p.place
+abbrev pub IsOnlyAt : Sets → ℕ → PlacedRow → Type 0
+IsOnlyAt s serial p = seat s serial ≡ alone p.row p.place
 
 -- the moment at which a day begins
 abbrev pub midnight : ℕ → ℕ

@@ -12,7 +12,7 @@ use Rattle.occurrences.specs.declared.row.Row.{Row}
 use Rattle.external_dependencies.specs.declared.rows.PlacedRow.{PlacedRow}
 use Rattle.planner_machine.specs.declared.content.Bounds.{Bounds}
 use Rattle.planner_machine.specs.declared.content.Draft.{Draft}
-use Rattle.planner_machine.specs.Content.{Content, Sets, StandsAt, midnight}
+use Rattle.planner_machine.specs.Content.{Content, Sets, IsOnlyAt, midnight}
 use Rattle.planner_machine.specs.Decision.{Decides}
 use Rattle.planner_machine.specs.Drafts.{NamesWithin}
 use Rattle.planner_machine.specs.Fate.{IsGenerated}
@@ -36,13 +36,13 @@ LeavesOut origin (Deleted reason) = reason ≡ Operator
 pub record IsLeftOut (s : Sets) (key : Key) : Type 0 where
   pub serial : ℕ
   pub placed : PlacedRow
-  pub stands : StandsAt s serial placed
+  pub stands : IsOnlyAt s serial placed
   pub keyed : placed.row.key ≡ key
   pub out : LeavesOut placed.row.origin placed.place
 
 -- an occurrence of the long-term plan is of the draft
 abbrev pub StandsSo : Sets → Draft → Type 0
-StandsSo s draft = (serial : ℕ) × StandsAt s serial (record { row = numbered_row serial draft; place = LongTerm })
+StandsSo s draft = (serial : ℕ) × IsOnlyAt s serial (record { row = numbered_row serial draft; place = LongTerm })
 
 -- the calendars name the draft, from the plan end to the end of the last day
 abbrev pub NamesInPlan : Definitions → Bounds → Draft → Type 0
@@ -53,7 +53,7 @@ NamesInPlan all b = NamesWithin all b.plan_end (midnight (b.last_day + 1))
 pub record AreFresh (all : Definitions) (s : Sets) : Type 0 where
   pub bounds : Bounds
   pub planned : s.bounds ≡ Some bounds
-  pub named : (serial : ℕ) (row : Row) → StandsAt s serial (record { row = row; place = LongTerm })
+  pub named : (serial : ℕ) (row : Row) → IsOnlyAt s serial (record { row = row; place = LongTerm })
       → IsGenerated row.origin → NamesInPlan all bounds (draft_of_row row)
   pub stands : (draft : Draft) → NamesInPlan all bounds draft → StandsSo s draft ⊎ IsLeftOut s draft.key
 

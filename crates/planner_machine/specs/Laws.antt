@@ -14,7 +14,7 @@ use Rattle.app_definitions.specs.declared.definitions.Definitions.{Definitions}
 use Rattle.planner_machine.specs.declared.content.Bounds.{Bounds}
 use Rattle.planner_machine.specs.declared.content.Draft.{Draft}
 use Rattle.planner_machine.specs.declared.counts.Count.{Count}
-use Rattle.planner_machine.specs.Content.{Content, Sets, StandsAt}
+use Rattle.planner_machine.specs.Content.{Content, Sets, IsOnlyAt}
 use Rattle.planner_machine.specs.Decision.{Decides, DecidesOne, KeepsSound}
 use Rattle.planner_machine.specs.DailyPlan.{daily}
 use Rattle.planner_machine.specs.Fate.{DailyFate, Fate, IsGenerated}
@@ -29,9 +29,9 @@ use Rattle.planner_machine.specs.Statement.{decision_of, fate_of, place_of_made}
 -- the drafts in their order, each with its row in the place where it is made
 pub record Follows (place : Place) (fate : Fate) (drafts : List Draft) (s s' : Sets) : Type 0 where
   pub issues : s'.issued ≡ s.issued + length drafts
-  pub old : (serial : ℕ) (p : PlacedRow) → StandsAt s serial p → (q : PlacedRow) × fate p q × StandsAt s' serial q
+  pub old : (serial : ℕ) (p : PlacedRow) → IsOnlyAt s serial p → (q : PlacedRow) × fate p q × IsOnlyAt s' serial q
   pub new : (k : ℕ) (draft : Draft) → slice_get drafts k ≡ Some draft
-      → StandsAt s' (s.issued + 1 + k) (record { row = numbered_row (s.issued + 1 + k) draft; place = place })
+      → IsOnlyAt s' (s.issued + 1 + k) (record { row = numbered_row (s.issued + 1 + k) draft; place = place })
 
 -- an accepted statement makes what its definition says, and leaves each occurrence where its fate puts it
 abbrev pub FollowsFate : Change → Type 0
@@ -70,7 +70,7 @@ KeepsItself change = (all : Definitions) (bounds : Option Bounds) (p q : PlacedR
 abbrev pub DailyIsFates : Type 0
 DailyIsFates =
     (t : ℕ) (c : Content) → IsSound c → (serial : ℕ) (q : PlacedRow)
-    → StandsAt (daily t c.sets) serial q ↔ ((p : PlacedRow) × StandsAt c.sets serial p × DailyFate t p q)
+    → IsOnlyAt (daily t c.sets) serial q ↔ ((p : PlacedRow) × IsOnlyAt c.sets serial p × DailyFate t p q)
 
 -- a daily plan by days is the daily plan to the new end that they give: it has that reply, and leaves that content
 abbrev pub DailyByIsToEnd : Type 0

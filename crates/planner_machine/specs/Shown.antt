@@ -15,7 +15,7 @@ use Rattle.external_dependencies.specs.Rising.{IsRising}
 use Rattle.external_dependencies.specs.declared.links.Link.{Link}
 use Rattle.external_dependencies.specs.declared.pairs.Pair.{Pair}
 use Rattle.external_dependencies.specs.declared.rows.PlacedRow.{PlacedRow}
-use Rattle.planner_machine.specs.Content.{Content, Sets, StandsAt}
+use Rattle.planner_machine.specs.Content.{Content, Sets, IsOnlyAt}
 use Rattle.planner_machine.specs.Decision.{Decision}
 
 -- of one application, or of any where none is given
@@ -40,7 +40,7 @@ IsPlaceOf InDeletions (Deleted reason) = Unit {0}
 IsPlaceOf listed place = ⊥
 
 abbrev pub IsListed : Listed → Option (List ℕ) → Sets → PlacedRow → Type 0
-IsListed listed app s p = (serial : ℕ) × StandsAt s serial p × IsPlaceOf listed p.place × IsOfApp app p.row.key.app
+IsListed listed app s p = (serial : ℕ) × IsOnlyAt s serial p × IsPlaceOf listed p.place × IsOfApp app p.row.key.app
 
 -- the rows of the set, by input arrival, application and serial; the place of each gives its mark: none in the
 -- long-term plan, the status in the current plan, complete in history, the reason in the deletions
@@ -58,8 +58,8 @@ pub record LinkedRows : Type 0 where
 abbrev pub IsLinked : Option (List ℕ) → Content → LinkedRows → Type 0
 IsLinked app c l =
     (pair : Pair) × Contains c.pairs pair
-    × ((place : Place) × StandsAt c.sets pair.successor (record { row = l.successor; place = place }))
-    × ((place : Place) × StandsAt c.sets pair.predecessor (record { row = l.predecessor; place = place }))
+    × ((place : Place) × IsOnlyAt c.sets pair.successor (record { row = l.successor; place = place }))
+    × ((place : Place) × IsOnlyAt c.sets pair.predecessor (record { row = l.predecessor; place = place }))
     × IsOfApp app l.successor.key.app
 
 -- by the successor's serial, then by the predecessor's
@@ -116,10 +116,10 @@ pub record PlanChange : Type 0 where
 -- a row is made where its serial is new, and withdrawn where it leaves the long-term plan for the deletions
 abbrev pub IsPlanStep : Sets → Sets → ℕ → Row → PlanMark → Type 0
 IsPlanStep s s' serial row WouldBeMade = (s.issued < serial)
-    × StandsAt s' serial (record { row = row; place = LongTerm })
+    × IsOnlyAt s' serial (record { row = row; place = LongTerm })
 IsPlanStep s s' serial row WouldBeWithdrawn =
-    StandsAt s serial (record { row = row; place = LongTerm })
-    × StandsAt s' serial (record { row = row; place = Deleted Withdrawn })
+    IsOnlyAt s serial (record { row = row; place = LongTerm })
+    × IsOnlyAt s' serial (record { row = row; place = Deleted Withdrawn })
 
 abbrev pub IsPlanChange : Sets → Sets → PlanChange → Type 0
 IsPlanChange s s' change = (serial : ℕ) × IsPlanStep s s' serial change.row change.mark
@@ -152,8 +152,8 @@ IsDailyStep WouldBeDeleted status before after = (status ≡ D) × (before ≡ C
 
 abbrev pub IsDailyChange : Sets → Sets → DailyChange → Type 0
 IsDailyChange s s' change =
-    (serial : ℕ) × (before : Place) × (after : Place) × StandsAt s serial (record { row = change.row; place = before })
-    × StandsAt s' serial (record { row = change.row; place = after })
+    (serial : ℕ) × (before : Place) × (after : Place) × IsOnlyAt s serial (record { row = change.row; place = before })
+    × IsOnlyAt s' serial (record { row = change.row; place = after })
     × IsDailyStep change.mark change.status before after
 
 pub record ShowsDaily (s s' : Sets) (shown : List DailyChange) : Type 0 where

@@ -37,7 +37,7 @@ use Rattle.external_dependencies.specs.declared.rows.PlacedRow.{PlacedRow}
 use Rattle.planner_machine.specs.declared.content.Bounds.{Bounds}
 use Rattle.planner_machine.specs.declared.job.Job.{Job}
 use Rattle.planner_machine.specs.declared.limits.TheConstants.{GREATEST_JOB, MOST_PLANNED_ROWS}
-use Rattle.planner_machine.specs.Content.{Content, Sets, StandsAt, empty_seat, midnight, seat}
+use Rattle.planner_machine.specs.Content.{Content, Sets, IsOnlyAt, empty_seat, midnight, seat}
 use Rattle.planner_machine.specs.Fate.{IsGenerated}
 use Rattle.planner_machine.specs.Pairs.{ArePairs, IsClosedAt, IsClosedPair, IsCompleteAt}
 use Rattle.planner_machine.specs.Plans.{planned}
@@ -78,7 +78,7 @@ IsLink link = IsName link.app × IsName link.predecessor × IfSome link.within I
 
 pub record HasRanges (c : Content) : Type 0 where
   pub definitions : AreDefinitions c.definitions
-  pub rows : (serial : ℕ) (p : PlacedRow) → StandsAt c.sets serial p → IsRow p.row
+  pub rows : (serial : ℕ) (p : PlacedRow) → IsOnlyAt c.sets serial p → IsRow p.row
   pub days : (b : Bounds) → c.sets.bounds ≡ Some b → IsDay b.first_day × IsDay b.last_day × IsMoment b.plan_end
   pub links : (link : Link) → Contains c.in_force link → IsLink link
 
@@ -109,15 +109,15 @@ pub record HasBounds (c : Content) : Type 0 where
 -- each serial from 1 to the number issued is in exactly one set, under a row that has it, and no other serial is in
 -- any
 pub record AreNumbered (s : Sets) : Type 0 where
-  pub placed : (serial : ℕ) → 1 ≤ serial → serial ≤ s.issued → (p : PlacedRow) × StandsAt s serial p
+  pub placed : (serial : ℕ) → 1 ≤ serial → serial ≤ s.issued → (p : PlacedRow) × IsOnlyAt s serial p
   pub unissued : (serial : ℕ) → (serial ≡ 0) ⊎ (s.issued < serial) → seat s serial ≡ empty_seat
-  pub numbered : (serial : ℕ) (p : PlacedRow) → StandsAt s serial p → p.row.serial ≡ serial
+  pub numbered : (serial : ℕ) (p : PlacedRow) → IsOnlyAt s serial p → p.row.serial ≡ serial
 
 -- 4. Keys
 
 -- no two live occurrences have one key
 abbrev pub HaveOwnKeys : Sets → Type 0
-HaveOwnKeys s = (m n : ℕ) (p q : PlacedRow) → StandsAt s m p → StandsAt s n q → IsLive p.place → IsLive q.place
+HaveOwnKeys s = (m n : ℕ) (p q : PlacedRow) → IsOnlyAt s m p → IsOnlyAt s n q → IsLive p.place → IsLive q.place
     → p.row.key ≡ q.row.key → m ≡ n
 
 -- 5. Arrivals
@@ -131,7 +131,7 @@ ArrivesIn b ia History = (midnight b.first_day ≤ ia) × (ia < b.plan_end)
 ArrivesIn b ia (Deleted _) = Unit {0}
 
 pub record HaveArrivals (s : Sets) : Type 0 where
-  pub in_bounds : (b : Bounds) → s.bounds ≡ Some b → (serial : ℕ) (p : PlacedRow) → StandsAt s serial p
+  pub in_bounds : (b : Bounds) → s.bounds ≡ Some b → (serial : ℕ) (p : PlacedRow) → IsOnlyAt s serial p
       → ArrivesIn b p.row.key.ia p.place
   -- no generated row of the long-term plan has a key that the deletions have as one that an operator deleted
   pub not_deleted : (serial : ℕ) (row : Row) → s.ltp serial ≡ Some row → IsGenerated row.origin
@@ -157,11 +157,11 @@ pub record HasPairs (c : Content) : Type 0 where
   pub one_each : (successor m n : ℕ) (p q : PlacedRow) → IsClosedAt c.sets successor
       → Contains c.pairs (record { successor = successor; predecessor = m })
       → Contains c.pairs (record { successor = successor; predecessor = n })
-      → StandsAt c.sets m p → StandsAt c.sets n q → p.row.key.app ≡ q.row.key.app → m ≡ n
+      → IsOnlyAt c.sets m p → IsOnlyAt c.sets n q → p.row.key.app ≡ q.row.key.app → m ≡ n
   -- which arrives at or before the successor, or before it where it is of the same application; the limit doesn't
   -- matter
   pub in_time : (pair : Pair) (p q : PlacedRow) → Contains c.pairs pair → IsClosedAt c.sets pair.successor
-      → StandsAt c.sets pair.successor p → StandsAt c.sets pair.predecessor q
+      → IsOnlyAt c.sets pair.successor p → IsOnlyAt c.sets pair.predecessor q
       → IsCandidate p.row.key q.row.key.app None (arrival_of q.row)
   -- pairs among what is no longer open have no loop
   pub no_loop : (serial : ℕ) → OnRing (IsClosedPair c.sets c.pairs) serial → ⊥

@@ -6,7 +6,7 @@ use Rattle.external_dependencies.specs.declared.rows.PlacedRow.{PlacedRow}
 use Rattle.planner_machine.specs.declared.content.Draft.{Draft}
 use Rattle.planner_machine.specs.declared.job.Job.{Job as KeptJob}
 use Rattle.planner_machine.specs.declared.limits.TheConstants.{GREATEST_JOB}
-use Rattle.planner_machine.specs.Content.{Content, StandsAt}
+use Rattle.planner_machine.specs.Content.{Content, IsOnlyAt}
 use Rattle.planner_machine.specs.Fate.{Fate, Stays}
 use Rattle.planner_machine.specs.Laws.{IsWellFormed}
 use Rattle.planner_machine.specs.Moves.{numbered_row}
@@ -14,7 +14,7 @@ use Rattle.planner_machine.specs.Sound.{IsShown, IsSound}
 use Rattle.planner_machine.specs.Statement.{AreRead, Answer, Change, DefineJob, Job, MakesDrafts, Statement, Steps}
 use Rattle.planner_machine.specs.Statement.{fate_of, place_of_made}
 use Rattle.app_definitions.specs.Definitions.{names_given}
-use Rattle.app_definitions.specs.declared.kinds.Block.{Block}
+use Rattle.app_definitions.specs.declared.kinds.DefinitionBlock.{DefinitionBlock}
 
 -- each statement in turn: its reply, and the content after the last
 abbrev pub Runs : List Statement → Content → List Answer → Content → Type 0
@@ -26,7 +26,7 @@ Runs (s ∷ stream) c (a ∷ answers) c' = (next : Content) × Steps s c a next 
 -- the values of a statement are such as a line and a block can give
 abbrev pub IsStatement : Statement → Type 0
 IsStatement (DefineJob number text kind given) = (1 ≤ number) × (number ≤ GREATEST_JOB)
-    × ((block : Block) → AreRead kind given block → IsShown (names_given block))
+    × ((block : DefinitionBlock) → AreRead kind given block → IsShown (names_given block))
 IsStatement (Job number text change) = (1 ≤ number) × (number ≤ GREATEST_JOB) × IsWellFormed change
 IsStatement statement = Unit {0}
 
@@ -97,6 +97,6 @@ abbrev pub RunsByFate : Type 0
 RunsByFate = (stream : List Statement) (answers : List Answer) (c c' : Content) → IsSound c → All IsStatement stream
     → (run : Runs stream c answers c')
     → (serial : ℕ) → 1 ≤ serial → serial ≤ c'.sets.issued
-    → (q : PlacedRow) × StandsAt c'.sets serial q
-    × (((p : PlacedRow) × StandsAt c.sets serial p × Goes stream answers c c' run p q)
+    → (q : PlacedRow) × IsOnlyAt c'.sets serial q
+    × (((p : PlacedRow) × IsOnlyAt c.sets serial p × Goes stream answers c c' run p q)
     ⊎ Lives stream answers c c' run serial q)

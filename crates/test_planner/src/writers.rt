@@ -1,7 +1,7 @@
 //! Runs whose writer fails as no device of a program does: it is interrupted, or fails as it is flushed.
 ghost use Rattle.std.specs.Prelude.{◌≤◌, length};
 
-use planner_cli::{Part, RunFault, Tally, exit_status, run_lists};
+use planner_cli::{FaultSource, RunFault, Tally, exit_status, run_lists};
 use std::alloc::Global;
 use std::io::{self, ErrorKind, Write};
 
@@ -76,7 +76,7 @@ fn refused_before(outcome: &Result<Tally, RunFault>) -> Option<u64> {
     match outcome {
         Err(
             RunFault::Device {
-                part: Part::Writer,
+                part: FaultSource::Writer,
                 tally,
             },
         ) if exit_status(outcome) == 8 => Some(tally.refused),

@@ -4,8 +4,8 @@ ghost use Rattle.std.specs.Prelude.{◌≡◌, false};
 use crate::disks::{MOST_CALLS, Stopping, new_disks};
 use crate::stores::{connect, connect_again, is_after, run_again};
 use crate::streams::{Reached, Stream, Wrong};
-use plan_files::{Begun, Ended, Opening, Unrun, run_over_connection};
-use plan_files_closing::LetGo;
+use plan_files::{Ended, Opening, StartingPlan, Unrun, run_over_connection};
+use plan_files_closing::ClosedFiles;
 use sqlite::{Alter, Connection, FileStore, Files};
 use sqlite_disk::{Crash, Disk};
 use std::alloc::{AllocError, Global};
@@ -32,20 +32,20 @@ struct FirstRun<D: Disk> {
 
 /// Ignores what a run begins with.
 #[derive(Drop)]
-struct Untold;
+struct Silent;
 
-impl Opening for Untold {
+impl Opening for Silent {
     ghost reports = { λ old _ new. new ≡ old };
 
-    fn opened(&mut self, _begun: Begun) {}
+    fn opened(&mut self, _begun: StartingPlan) {}
 }
 
 /// The files as a run left them that came so far, with whether they were closed.
-fn ran_to<D: Disk + Drop>(how_far: Reached, let_go: LetGo<D>) -> FirstRun<D> {
+fn ran_to<D: Disk + Drop>(how_far: Reached, closed: ClosedFiles<D>) -> FirstRun<D> {
     FirstRun {
         how_far,
-        is_closed: let_go.copied.is_ok(),
-        disks: let_go.files,
+        is_closed: closed.copied.is_ok(),
+        disks: closed.files,
     }
 }
 
@@ -59,10 +59,10 @@ fn ran<D: Disk + Drop>(
         Ok(
             Ended {
                 outcome,
-                let_go,
+                closed,
                 ..
             },
-        ) => ran_to(stream.end_of(&outcome, written), let_go),
+        ) => ran_to(stream.end_of(&outcome, written), closed),
         Err((_, left)) => FirstRun {
             how_far: Reached::Nothing,
             is_closed: false,
@@ -81,7 +81,7 @@ fn run_connected<D: Disk + Drop>(
 {
     let mut left = stream.text;
     let mut written = Vec::new(alloc);
-    let ended = run_over_connection(alloc, conn, &mut Untold, &mut left, &mut written);
+    let ended = run_over_connection(alloc, conn, &mut Silent, &mut left, &mut written);
     ran(ended, &written, stream)
 }
 

@@ -1,7 +1,7 @@
 //! A stream that is stopped, and how far a run of it came.
 
 use crate::items::{Placed, statements_of};
-use planner_cli::{Part, RunFault, Tally};
+use planner_cli::{FaultSource, RunFault, Tally};
 use std::alloc::{AllocError, Global};
 
 /// What is not as it should be.
@@ -71,7 +71,7 @@ impl<'a> Stream<'a> {
             Ok(_) if written == self.replies => Reached::End,
             Err(
                 RunFault::Device {
-                    part: Part::Store,
+                    part: FaultSource::Store,
                     ..
                 },
             ) => self.stop_of(written),

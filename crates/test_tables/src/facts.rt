@@ -2,7 +2,7 @@
 ghost use Rattle.std.specs.Prelude.{⊤};
 
 use occurrences::{Origin, Reply, Serial};
-use plan_store::{Item, RowSink, SinkFault};
+use plan_store::{Item, ItemRefused, ItemSink};
 use plan_tables_queries::{
     ListedFault, LookupFault, completed_row, completed_rows, deleted_row, deleted_rows,
     deletions_from, kept_job, last_completed, list_deletions, list_history,
@@ -42,14 +42,14 @@ struct Marks {
     enough: u64,
 }
 
-impl RowSink for Marks {
-    ghost takes = { λ old item new. ⊤ };
+impl ItemSink for Marks {
+    ghost accepts = { λ old item new. ⊤ };
 
     ghost refuses = { λ old item new. ⊤ };
 
-    fn take(&mut self, item: Item<'_>) -> Result<(), SinkFault> {
+    fn accept(&mut self, item: Item<'_>) -> Result<(), ItemRefused> {
         if self.serials >= self.enough {
-            return Err(SinkFault);
+            return Err(ItemRefused);
         }
         match item {
             Item::Marked(row, letter) => {
@@ -59,7 +59,7 @@ impl RowSink for Marks {
                 self.letters = self.letters.wrapping_mul(100).wrapping_add(letter);
                 Ok(())
             }
-            _ => Err(SinkFault),
+            _ => Err(ItemRefused),
         }
     }
 }
@@ -116,7 +116,7 @@ fn listing_may_end(rt: HostRuntime) -> Result<(), Fail> {
     let mut sink = marks_below(51);
     let is_refused = matches!(
         list_history(rt.alloc(), &mut conn, None, &mut sink),
-        Err(ListedFault::Sink(SinkFault))
+        Err(ListedFault::Sink(ItemRefused))
     );
     assert!(rt; is_refused);
     assert_eq!(rt; sink.serials, 51);
@@ -124,7 +124,7 @@ fn listing_may_end(rt: HostRuntime) -> Result<(), Fail> {
     let mut sink = marks_below(u64::MAX);
     let is_untold = matches!(
         list_history(rt.alloc(), &mut conn, None, &mut sink),
-        Err(ListedFault::Untold)
+        Err(ListedFault::Malformed)
     );
     assert!(rt; is_untold);
     assert_eq!(rt; sink.serials, 512);
@@ -135,7 +135,12 @@ fn listing_may_end(rt: HostRuntime) -> Result<(), Fail> {
 fn kept_jobs_are_found(rt: HostRuntime) -> Result<(), Fail> {
     let mut conn = plan(rt.alloc())?;
     assert!(rt; matches!(kept_job(rt.alloc(), &mut conn, 2), Ok(None)));
-    assert!(rt; matches!(kept_job(rt.alloc(), &mut conn, 7), Err(LookupFault::Untold)));
+    assert!(rt;
+        matches!(
+            kept_job(rt.alloc(), &mut conn, 7),
+            Err(LookupFault::Malformed)
+        )
+    );
     let is_found = match kept_job(rt.alloc(), &mut conn, 1)? {
         Some(job) => job.number == 1 && job.reply == Ok(Reply::Undefined),
         None => false,
@@ -175,7 +180,7 @@ fn rows_of_a_serial_are_found(rt: HostRuntime) -> Result<(), Fail> {
     conn.execute_batch("UPDATE history_row SET app = 'a' WHERE serial = 3")?;
     let serial = Serial::new(3).expect(&rt, "a serial");
     let found = completed_row(rt.alloc(), &mut conn, serial);
-    assert!(rt; matches!(found, Err(LookupFault::Untold)));
+    assert!(rt; matches!(found, Err(LookupFault::Malformed)));
     Ok(())
 }
 
@@ -223,6 +228,6 @@ fn all_rows_are_found(rt: HostRuntime) -> Result<(), Fail> {
     assert_eq!(rt; serials, 40);
     conn.execute_batch("UPDATE history_row SET app = 'a' WHERE serial = 5")?;
     let found = completed_rows(rt.alloc(), &mut conn);
-    assert!(rt; matches!(found, Err(LookupFault::Untold)));
+    assert!(rt; matches!(found, Err(LookupFault::Malformed)));
     Ok(())
 }

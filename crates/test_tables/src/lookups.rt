@@ -2,7 +2,7 @@
 ghost use Rattle.std.specs.Prelude.{⊤};
 
 use plan_tables_lookups::{
-    HandFault, Look, SinkFault, ValuesSink, ask, deletion_of_serial, hand, hand_all,
+    EmitFault, Look, RowRefused, ValuesSink, ask, deletion_of_serial, emit, emit_all,
     history_of_serial, job_of_number, last_of, operator_deletions_from,
 };
 use plan_tables_schema::{Table, make_tables};
@@ -66,13 +66,13 @@ struct Digits {
 }
 
 impl ValuesSink for Digits {
-    ghost takes = { λ old row new. ⊤ };
+    ghost accepts = { λ old row new. ⊤ };
 
     ghost refuses = { λ old row new. ⊤ };
 
-    fn take(&mut self, row: &Row) -> Result<(), SinkFault> {
+    fn accept(&mut self, row: &Row) -> Result<(), RowRefused> {
         if self.number >= self.enough {
-            return Err(SinkFault);
+            return Err(RowRefused);
         }
         self.number = with_digit(self.number, first_number(row));
         Ok(())
@@ -86,11 +86,11 @@ struct Places {
 }
 
 impl ValuesSink for Places {
-    ghost takes = { λ old row new. ⊤ };
+    ghost accepts = { λ old row new. ⊤ };
 
     ghost refuses = { λ old row new. ⊤ };
 
-    fn take(&mut self, row: &Row) -> Result<(), SinkFault> {
+    fn accept(&mut self, row: &Row) -> Result<(), RowRefused> {
         self.number = self.number.wrapping_add(place_of(row));
         Ok(())
     }
@@ -166,7 +166,7 @@ fn try_lists(rt: &impl Abort, conn: &mut Connection<MemStore>) {
         };
         let app_value = [ValueRef::Text(app.as_bytes())];
         let asked: &[ValueRef<'_>] = if app.is_empty() { &[] } else { &app_value };
-        let is_whole = hand(conn, look, asked, &mut sink).is_ok();
+        let is_whole = emit(conn, look, asked, &mut sink).is_ok();
         assert!(rt; is_whole && sink.number == wanted, "{look:?}");
     }
 }
@@ -181,7 +181,7 @@ fn rows_are_handed_out(rt: HostRuntime) -> Result<(), Fail> {
 /// The first numbers of all rows of the table that are yielded, each as a digit of its own place.
 fn places_handed(conn: &mut Connection<MemStore>, table: Table) -> u64 {
     let mut places = Places { number: 0 };
-    match hand_all(conn, table, &mut places) {
+    match emit_all(conn, table, &mut places) {
         Ok(()) => places.number,
         Err(_) => u64::MAX,
     }
@@ -210,8 +210,8 @@ fn sink_may_refuse(rt: HostRuntime) -> Result<(), Fail> {
         enough: 51,
     };
     let is_refused = matches!(
-        &hand(&mut conn, Look::HistoryListed, &[], &mut sink),
-        Err(HandFault::Sink)
+        &emit(&mut conn, Look::HistoryListed, &[], &mut sink),
+        Err(EmitFault::Sink)
     );
     assert!(rt; is_refused);
     assert_eq!(rt; sink.number, 51);

@@ -8,7 +8,7 @@ use Rattle.planner_machine.specs.Pairs.{ArePairs}
 use Rattle.planner_machine.specs.Sound.{IsSound}
 use Rattle.planner_machine.proofs.SoundLemmas.{rows_sound}
 use Rattle.plan_store.specs.Changes.{pairs_after}
-use Rattle.plan_store.specs.Asked.{AsksKey}
+use Rattle.plan_store.specs.HistoryReads.{ReadsKey}
 use Rattle.plan_store.specs.Views.{Hidden, Sees, with_hidden}
 use Rattle.plan_store.proofs.PairLemmas.{leads_nowhere}
 use Rattle.daily_planning.specs.Actions.{ArePairsActed, IsActedOn, IsLiveCurrent, LeadsToRowPairs}
@@ -49,7 +49,7 @@ returns-in-Start-clause-leads c h sound sees acted =
 pub returns-in-Reset-clause-pairs : goal.returns-in-Reset-clause-pairs
 returns-in-Reset-clause-pairs c = weaker c.reset_pairs.result
     (λ (change : PairChange). (h : Hidden) → IsSound (with_hidden h c.args.view.now)
-    → Sees (Some c.args.changed.now.row.key) (AsksKey (with_hidden h c.args.view.now) c.args.changed.now.row.key) h
+    → Sees (Some c.args.changed.now.row.key) (ReadsKey (with_hidden h c.args.view.now) c.args.changed.now.row.key) h
     c.args.view.now
     → IsLiveCurrent (with_hidden h c.args.view.now).sets c.args.changed.now.row
     → LeadsToRowPairs (with_hidden h c.args.view.now) c.args.changed.now.row change) _ (λ change leads h sound sees acted.
@@ -62,7 +62,7 @@ returns-in-Reset-clause-pairs c = weaker c.reset_pairs.result
 pub returns-in-Reset-clause-leads : goal.returns-in-Reset-clause-leads
 returns-in-Reset-clause-leads c = weaker c.reset_pairs.result
     (λ (change : PairChange). (h : Hidden) → IsSound (with_hidden h c.args.view.now)
-    → Sees (Some c.args.changed.now.row.key) (AsksKey (with_hidden h c.args.view.now) c.args.changed.now.row.key) h
+    → Sees (Some c.args.changed.now.row.key) (ReadsKey (with_hidden h c.args.view.now) c.args.changed.now.row.key) h
     c.args.view.now
     → IsLiveCurrent (with_hidden h c.args.view.now).sets c.args.changed.now.row
     → LeadsToRowPairs (with_hidden h c.args.view.now) c.args.changed.now.row change) _ (λ change leads h sound sees acted.

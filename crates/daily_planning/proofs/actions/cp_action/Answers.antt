@@ -5,7 +5,7 @@ use Rattle.planner_machine.specs.Act.{cp_action as decided}
 use Rattle.planner_machine.specs.Content.{Content}
 use Rattle.planner_machine.specs.Sound.{IsSound}
 use Rattle.plan_store.specs.Verdicts.{VerdictIs}
-use Rattle.plan_store.specs.Asked.{AsksKey}
+use Rattle.plan_store.specs.HistoryReads.{ReadsKey}
 use Rattle.plan_store.specs.Views.{IsCurrentRow, Sees, hidden_of, shown, with_hidden}
 use Rattle.plan_store.proofs.WindowLemmas.{seen_is, sees_key}
 use Rattle.daily_planning.proofs.ActLemmas.{refused_no_plan, refused_no_row}
@@ -42,7 +42,7 @@ returns c = weaker c.act.result _ _ (λ verdict done content shows sound.
     let P : Content → Type 0 = λ x. IsSound x → VerdictIs (decided c.args.key.now c.args.action) x verdict in
     let h = hidden_of content in
     let view = c.args.view.now in
-    let sees = subst (λ (k : Key). Sees (Some k) (AsksKey (with_hidden h view) k) h view) (sym c.in-Some.ensures.1)
+    let sees = subst (λ (k : Key). Sees (Some k) (ReadsKey (with_hidden h view) k) h view) (sym c.in-Some.ensures.1)
     (sees_key c.args.key.now view content shows) in
     subst P (seen_is view content shows.is) (λ is.
     subst (λ (k : Key). VerdictIs (decided k c.args.action) (with_hidden h c.args.view.now) verdict)

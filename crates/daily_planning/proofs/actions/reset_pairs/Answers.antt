@@ -4,7 +4,7 @@ use Rattle.std.specs.List.{Contains}
 use Rattle.external_dependencies.specs.declared.pairs.Pair.{Pair}
 use Rattle.plan_store.specs.Views.{shown, with_hidden}
 use Rattle.plan_store_pairs.proofs.PartLemmas.{pairs_are}
-use Rattle.daily_planning.proofs.AskedLemmas.{live_asked, live_shows}
+use Rattle.daily_planning.proofs.ReadLemmas.{live_asked, live_shows}
 use Rattle.daily_planning.proofs.actions.reset_pairs.Goals as goal
 
 weaker : {A E : Type 0} (r : Result A E) (P Q : A → Type 0) → ((a : A) → P a → Q a) → IfOk r P → IfOk r Q

@@ -5,7 +5,7 @@ use Rattle.planner_machine.specs.Content.{Content}
 use Rattle.planner_machine.specs.Delete.{ltp_delete}
 use Rattle.planner_machine.specs.Sound.{IsSound}
 use Rattle.plan_store.specs.Verdicts.{VerdictIs}
-use Rattle.plan_store.specs.Asked.{AsksKey}
+use Rattle.plan_store.specs.HistoryReads.{ReadsKey}
 use Rattle.plan_store.specs.Views.{IsPlannedRow, Sees, hidden_of, shown, with_hidden}
 use Rattle.plan_store.proofs.WindowLemmas.{seen_is, sees_key}
 use Rattle.long_term_plan.proofs.DeleteLemmas.{least_no_plan, least_no_row, no_row, verdict_is}
@@ -47,9 +47,9 @@ returns c = weaker c.delete_row.result _ _ (λ verdict done content shows sound.
     λ none. some_is c.bounds.result c.if-is_none.ensures (c.bounds.ensures ∙ none) in
     let P : Content → Type 0 = λ x. IsSound x → VerdictIs (ltp_delete c.args.key.now) x verdict in
     let h = hidden_of content in
-    let sees : Sees (Some c.in-Some.row.key) (AsksKey (with_hidden h c.args.view.now) c.in-Some.row.key) h
+    let sees : Sees (Some c.in-Some.row.key) (ReadsKey (with_hidden h c.args.view.now) c.in-Some.row.key) h
     c.args.view.now =
-    subst (λ (k : Key). Sees (Some k) (AsksKey (with_hidden h c.args.view.now) k) h c.args.view.now)
+    subst (λ (k : Key). Sees (Some k) (ReadsKey (with_hidden h c.args.view.now) k) h c.args.view.now)
     (sym c.in-Some.ensures.1) (sees_key c.args.key.now c.args.view.now content shows) in
     subst P (seen_is c.args.view.now content shows.is) (λ is.
     verdict_is (with_hidden h c.args.view.now) is c.args.key.now c.in-Some.row some c.in-Some.ensures.0

@@ -4,8 +4,8 @@ use Rattle.sqlite.specs.State.{HasCleanDisk}
 use Rattle.sqlite_store.specs.Laws.{settled_at}
 use Rattle.plan_tables_schema.proofs.ResultLemmas.{if_err, if_ok}
 use Rattle.plan_files.specs.Unrun.{IsHindered, IsUnfit}
-use Rattle.plan_files.specs.Begun.{begun_of}
-use Rattle.plan_files.specs.declared.openings.Begun.{Begun}
+use Rattle.plan_files.specs.StartingPlan.{begun_of}
+use Rattle.plan_files.specs.declared.openings.StartingPlan.{StartingPlan}
 use Rattle.plan_files.proofs.BegunLemmas.{begun_on}
 use Rattle.plan_files.proofs.LeftLemmas.{holds_such}
 use Rattle.plan_files.proofs.OlderLemmas.{left_since, spared, still_holds, told_now}
@@ -25,8 +25,8 @@ returns-in-Ok-clause-ran g c =
       },
       record {
         begun = begun_of c.is_first.result c.has_meta.result;
-        reported = subst (λ (b : Begun). g.O.Opening.reports c.args.opening.now b c.run_adopted.new.opening)
-            c.begun_with-begun.ensures h.3;
+        reported = subst (λ (b : StartingPlan). g.O.Opening.reports c.args.opening.now b c.run_adopted.new.opening)
+            c.starting_plan-begun.ensures h.3;
         was = λ honest. begun_on old mid _ c.is_first.result c.has_meta.result h.0
             (c.in-Ok.ensures.found (h.2.honest honest)) c.is_first.ensures c.has_meta.ensures.plan
             c.has_meta.ensures.room (h.2.told honest);

@@ -1,8 +1,8 @@
 use Rattle.std.proofs.Common.{◌+◌, ℕ, List, [], subst, sym}
 use Rattle.external_dependencies.specs.Link.{Lists}
 use Rattle.external_dependencies.specs.declared.links.Link.{Link}
-use Rattle.plan_store.specs.Asked.{AsksKey}
-use Rattle.plan_store.specs.Noted.{AsksEach, IsAsked, Notes}
+use Rattle.plan_store.specs.HistoryReads.{ReadsKey}
+use Rattle.plan_store.specs.Noted.{ReadsEach, IsAsked, Notes}
 use Rattle.plan_store.proofs.NotedLemmas.{has_lasts, in_range, notes_key, notes_then, part_of}
 use Rattle.plan_store.proofs.lasts.key_lasts.Goals as goal
 
@@ -16,7 +16,7 @@ fill-requires-clause-in_range c =
     let own = subst (λ (old : List ℕ). Notes (IsAsked key.app minute) history old first) c.clear.ensures.items
     c.in_ok-note_last.ensures in
     in_range _ history c.requires places (notes_then history (IsAsked key.app minute)
-    (AsksEach (Lists c.args.in_force.now key.app) minute) [] first places own c.in_ok-note_list.ensures)
+    (ReadsEach (Lists c.args.in_force.now key.app) minute) [] first places own c.in_ok-note_list.ensures)
 
 pub returns-clause-part : goal.returns-clause-part
 returns-clause-part c =
@@ -32,8 +32,8 @@ returns-clause-lasts c content in_force_is =
     let own = subst (λ (old : List ℕ). Notes (IsAsked key.app (key.ia + 1)) history old first) c.clear.ensures.items
     noted in
     let listed = rw c.number-minute.ensures.value at c.in_ok-note_list.ensures in
-    let in_content = subst (λ (ls : List Link). Notes (AsksEach (Lists ls key.app) (key.ia + 1)) history first places)
+    let in_content = subst (λ (ls : List Link). Notes (ReadsEach (Lists ls key.app) (key.ia + 1)) history first places)
     (sym in_force_is) listed in
-    has_lasts (AsksKey content key) history c.requires places
+    has_lasts (ReadsKey content key) history c.requires places
     (notes_key content key history [] first places own in_content) c.fill.new.lasts.items
     c.in_ok-fill.ensures.rows c.in_ok-fill.ensures.all

@@ -2,8 +2,8 @@ use Rattle.std.proofs.Common.{◌∙◌, ap, sym, subst, append_assoc, ℕ, List
 use Rattle.std.proofs.lemmas.List.{append-nil}
 use Rattle.app_definition_records.specs.ByName.{AreEntriesOf}
 use Rattle.app_definition_records.specs.declared.predecessors.Predecessor.{Predecessor}
-use Rattle.plan_store.specs.Noted.{AskedByOne, IsAsked, Notes}
-use Rattle.plan_store.proofs.NotedLemmas.{AsksEntry, no_entries, notes_entries, notes_more}
+use Rattle.plan_store.specs.Noted.{ReadByOne, IsAsked, Notes}
+use Rattle.plan_store.proofs.NotedLemmas.{ReadsEntry, no_entries, notes_entries, notes_more}
 use Rattle.plan_store.proofs.lasts.note_all_defined.Goals as goal
 
 pub loop-app-init : goal.loop-app-init
@@ -22,11 +22,11 @@ loop-app-preserved c =
     let listed = c.in-Some.listed.now in
     let entry : List ℕ × List Predecessor = (c.in-Some._app.now, listed) in
     let moved = ap (λ l. done ++ l) c.in-Some.ensures.steps ∙ sym (append_assoc done (entry ∷ []) c.next.new.self) in
-    let step = subst (λ (ps : List Predecessor). Notes (AskedByOne (λ (p : Predecessor). IsAsked p.name minute) ps)
+    let step = subst (λ (ps : List Predecessor). Notes (ReadByOne (λ (p : Predecessor). IsAsked p.name minute) ps)
     history c.loop-app.places.items c.note_named.new.places.items) c.as_slice.ensures.value c.in_ok-note_named.ensures in (
       done ++ entry ∷ [],
       subst (λ l. AreEntriesOf l c.args.definitions.now.predecessors) moved c.loop-app.invariant.1,
-      notes_more history (AsksEntry minute) done entry c.args.places.now.items c.loop-app.places.items
+      notes_more history (ReadsEntry minute) done entry c.args.places.now.items c.loop-app.places.items
           c.note_named.new.places.items c.loop-app.invariant.2 step,
     )
 

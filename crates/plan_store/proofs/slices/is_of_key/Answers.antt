@@ -1,4 +1,4 @@
-use Rattle.plan_store.proofs.AskedLemmas.{keys_test}
+use Rattle.plan_store.proofs.ReadLemmas.{keys_test}
 use Rattle.plan_store.proofs.slices.is_of_key.Goals as goal
 
 pub returns-in-Some : goal.returns-in-Some

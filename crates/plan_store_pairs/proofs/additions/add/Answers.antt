@@ -5,7 +5,7 @@ use Rattle.planner_machine.specs.Add.{add as decided}
 use Rattle.planner_machine.specs.Content.{Content}
 use Rattle.planner_machine.specs.Sound.{IsSound}
 use Rattle.plan_store.specs.Verdicts.{VerdictIs}
-use Rattle.plan_store.specs.Asked.{AsksKey}
+use Rattle.plan_store.specs.HistoryReads.{ReadsKey}
 use Rattle.plan_store.specs.Views.{Sees, hidden_of, with_hidden}
 use Rattle.plan_store.proofs.WindowLemmas.{seen_is, sees_key}
 use Rattle.plan_store_pairs.specs.Additions.{IsNewRow, place_in}
@@ -25,7 +25,7 @@ returns-in-Ok c = weaker c.add_row.result _ _ (λ verdict done content shows sou
     let sees = sees_key c.args.key.now view content shows in
     subst P (seen_is view content shows.is) (λ is.
     let new = c.in-Ok.ensures h is sees in
-    let own = subst (λ (k : Key). Sees (Some k) (AsksKey seen k) h view) (sym new.1) sees in
+    let own = subst (λ (k : Key). Sees (Some k) (ReadsKey seen k) h view) (sym new.1) sees in
     subst (λ (k : Key). VerdictIs (decided (place_in c.args.plan) k) seen verdict) new.1
     (verdict_is seen is c.args.plan c.in-Ok.row new.0 verdict (done h is own new.0))) sound)
     c.add_row.ensures

@@ -7,11 +7,11 @@ use Rattle.app_definitions.specs.declared.definitions.Definitions.{Definitions}
 use Rattle.occurrences.specs.declared.row.Origin.TheVariants.{Added}
 use Rattle.occurrences.specs.declared.row.Row.{Row}
 use Rattle.planner_machine.specs.Plans.{IsPlannedApp}
-use Rattle.plan_store.specs.Asked.{AsksKey}
+use Rattle.plan_store.specs.HistoryReads.{ReadsKey}
 use Rattle.plan_store.specs.Views.{IsLiveRow, with_hidden}
 use Rattle.plan_store.proofs.WindowLemmas.{shows_part}
 use Rattle.plan_store_pairs.specs.Additions.{IsNewRow}
-use Rattle.plan_store_pairs.proofs.AskedLemmas.{shows_own}
+use Rattle.plan_store_pairs.proofs.ReadLemmas.{shows_own}
 use Rattle.plan_store_pairs.proofs.AdditionLemmas.{due_is, new_row, new_too_many}
 use Rattle.plan_store_pairs.proofs.additions.new_row.Goals as goal
 
@@ -28,7 +28,7 @@ pub returns-then-is_some : goal.returns-then-is_some
 returns-then-is_some c h sound sees =
     let content = with_hidden h c.args.view.now in
     let key = c.args.key.now in
-    let live = c.live_row.ensures h sound.serials (shows_part (AsksKey content key) h c.args.view.now sees)
+    let live = c.live_row.ensures h sound.serials (shows_part (ReadsKey content key) h c.args.view.now sees)
     (shows_own h c.args.view.now key sees) in
     search (rules, live)
 
@@ -43,7 +43,7 @@ returns-in_default-new_serial c h sound sees =
     (there_is (IsActive c.definitions.result.now key.app) c.active.result has c.active.ensures.found) in
     let none = none_is c.live_row.result (sym c.is_some.ensures ∙ c.if-is_some.false) in
     let free = subst (IsLiveRow content.sets key) none (c.live_row.ensures h sound.serials
-    (shows_part (AsksKey content key) h c.args.view.now sees) (shows_own h c.args.view.now key sees)) in
+    (shows_part (ReadsKey content key) h c.args.view.now sees) (shows_own h c.args.view.now key sees)) in
     new_too_many content sound c.args.plan key c.in-Some.bounds bounded
     (λ out. false≢true (sym c.if-is_outside.false ∙ c.is_outside.ensures.1 out)) active
     (λ (serial, p, stands, live, keyed). free serial p stands live keyed)
@@ -60,7 +60,7 @@ returns c h sound sees =
     (there_is (IsActive c.definitions.result.now key.app) c.active.result has c.active.ensures.found) in
     let none = none_is c.live_row.result (sym c.is_some.ensures ∙ c.if-is_some.false) in
     let free = subst (IsLiveRow content.sets key) none (c.live_row.ensures h sound.serials
-    (shows_part (AsksKey content key) h c.args.view.now sees) (shows_own h c.args.view.now key sees)) in
+    (shows_part (ReadsKey content key) h c.args.view.now sees) (shows_own h c.args.view.now key sees)) in
     let (room, serial) = c.in-Some-new_serial.ensures h sound.serials in
     let made = new_row content sound c.args.plan key c.in-Some.bounds bounded
     (λ out. false≢true (sym c.if-is_outside.false ∙ c.is_outside.ensures.1 out)) active

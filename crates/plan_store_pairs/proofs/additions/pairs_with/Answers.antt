@@ -4,13 +4,13 @@ use Rattle.external_dependencies.specs.declared.pairs.Pair.{Pair}
 use Rattle.occurrences.specs.declared.refusal.Refusal.TheVariants.{KeyIsLive}
 use Rattle.planner_machine.specs.Drafts.{added as draft_of}
 use Rattle.planner_machine.specs.Moves.{with_made}
-use Rattle.plan_store.specs.Asked.{AsksKey}
+use Rattle.plan_store.specs.HistoryReads.{ReadsKey}
 use Rattle.plan_store.specs.Views.{with_hidden}
 use Rattle.plan_store.proofs.WindowLemmas.{shows_part}
 use Rattle.plan_store_pairs.specs.Additions.{IsLeftPair, IsTurnedPair, place_in}
 use Rattle.plan_store_pairs.specs.Gathering.{AddsEach, AreReached}
 use Rattle.plan_store_pairs.proofs.AdditionLemmas.{addable_more, plan_is_open}
-use Rattle.plan_store_pairs.proofs.AskedLemmas.{free_not_past, shows_list}
+use Rattle.plan_store_pairs.proofs.ReadLemmas.{free_not_past, shows_list}
 use Rattle.plan_store_pairs.proofs.ComesLemmas.{pairs_come, turns_to}
 use Rattle.plan_store_pairs.proofs.additions.pairs_with.Goals as goal
 
@@ -22,7 +22,7 @@ returns c h sound sees able =
     let view = c.args.view.now in
     let s = with_made (place_in plan) (draft_of row.key ∷ []) content.sets in
     let past = free_not_past content sound row.key (λ live. able.unrefused KeyIsLive live) in
-    let part = shows_part (AsksKey content row.key) h view sees in
+    let part = shows_part (ReadsKey content row.key) h view sees in
     let own = c.in_ok-own.own in
     let own_is = c.in_ok-own.ensures h sound.serials part (shows_list h view row sees past) in
     let found = c.in_ok-found.found.items in

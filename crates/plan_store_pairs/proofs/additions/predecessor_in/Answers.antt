@@ -5,7 +5,7 @@ use Rattle.std.proofs.lemmas.List.Elements.{Contains-push_cases}
 use Rattle.external_dependencies.specs.declared.pairs.Pair.{Pair}
 use Rattle.external_dependencies.specs.declared.rows.PlacedRow.{PlacedRow}
 use Rattle.external_dependencies.proofs.NearestLemmas.{names_differ, names_equal}
-use Rattle.planner_machine.specs.Content.{StandsAt}
+use Rattle.planner_machine.specs.Content.{IsOnlyAt}
 use Rattle.planner_machine.specs.Pairs.{pair_of}
 use Rattle.planner_machine.proofs.SeatLemmas.{one_place}
 use Rattle.plan_store.specs.Views.{IsFoundAt, shown, with_hidden}
@@ -33,7 +33,7 @@ returns-then-eq c h numbered has =
     let whole : pair ≡ pair_of c.args.successor placed.row.serial =
     λ i. record { successor = both.1 i; predecessor = sym number i } in (
       subst (Contains (shown c.args.view.now).pairs) whole both.0,
-      subst (λ n. StandsAt s n placed) (sym number) found.0,
+      subst (λ n. IsOnlyAt s n placed) (sym number) found.0,
       names_equal placed.row.key.app c.args.app.now (sym c.eq.ensures ∙ c.if-eq.true),
     )
 
@@ -49,7 +49,7 @@ loop-pair-preserved c h numbered has pair p there stands outside same_app =
     elim (Contains-push_cases (take index list) now pair (subst (λ (ps : List Pair). Contains ps pair) front there)) [
       | inl before ↦ c.loop-pair.invariant h numbered has pair p before stands outside same_app
       | inr same ↦
-          let here : StandsAt s now.predecessor p = subst (λ (q : Pair). StandsAt s q.predecessor p) (sym same) stands in
+          let here : IsOnlyAt s now.predecessor p = subst (λ (q : Pair). IsOnlyAt s q.predecessor p) (sym same) stands in
           elim c.match-predecessor.branch [
             | in-Some+else-eq w ↦
                 let placed = w.in-Some.placed in

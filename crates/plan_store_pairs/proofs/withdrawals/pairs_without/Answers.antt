@@ -2,12 +2,12 @@ use Rattle.std.proofs.Common.{◌≡◌, ◌++◌, ◌∙◌, List, [], ap, subs
 use Rattle.external_dependencies.specs.declared.change.PairChange.{PairChange}
 use Rattle.external_dependencies.specs.declared.pairs.Pair.{Pair}
 use Rattle.external_dependencies.specs.declared.rows.PlacedRow.{PlacedRow}
-use Rattle.plan_store.specs.Asked.{AsksKey}
+use Rattle.plan_store.specs.HistoryReads.{ReadsKey}
 use Rattle.plan_store.specs.Views.{shown, with_hidden}
 use Rattle.plan_store.proofs.WindowLemmas.{shows_part}
 use Rattle.plan_store_pairs.specs.Gathering.{AddsEach, AreReached}
 use Rattle.plan_store_pairs.specs.Withdrawals.{IsBackPair, IsLostPair}
-use Rattle.plan_store_pairs.proofs.AskedLemmas.{live_not_past, shows_earlier}
+use Rattle.plan_store_pairs.proofs.ReadLemmas.{live_not_past, shows_earlier}
 use Rattle.plan_store_pairs.proofs.GoesLemmas.{lost_more, lost_stands, pairs_go, turns_from}
 use Rattle.plan_store_pairs.proofs.withdrawals.pairs_without.Goals as goal
 
@@ -21,7 +21,7 @@ returns c h sound sees s loses =
     let stands = lost_stands content sound s row loses in
     let more = lost_more content sound s row loses in
     let past = live_not_past content sound itself stands loses.lived loses.planned in
-    let part = shows_part (AsksKey content row.key) h view sees in
+    let part = shows_part (ReadsKey content row.key) h view sees in
     let before = c.previous-before.result in
     let last = c.previous-before.ensures h sound.serials part (shows_earlier h view row.key sees past) in
     let found = c.deref.result.now in

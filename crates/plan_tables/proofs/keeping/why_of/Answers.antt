@@ -8,9 +8,9 @@ pub returns-in-Memory : goal.returns-in-Memory
 returns-in-Memory g c = subst (λ (f : LookupFault). IsWhyOf g.S.Store c.args.conn.now c.args.conn.now f Memory)
     (sym c.in-Memory.is) (refl, refl)
 
-pub returns-in-Untold : goal.returns-in-Untold
-returns-in-Untold g c = subst (λ (f : LookupFault). IsWhyOf g.S.Store c.args.conn.now c.args.conn.now f Device)
-    (sym c.in-Untold.is) (refl, refl)
+pub returns-in-Malformed : goal.returns-in-Malformed
+returns-in-Malformed g c = subst (λ (f : LookupFault). IsWhyOf g.S.Store c.args.conn.now c.args.conn.now f Device)
+    (sym c.in-Malformed.is) (refl, refl)
 
 pub returns-in-Store : goal.returns-in-Store
 returns-in-Store g c =

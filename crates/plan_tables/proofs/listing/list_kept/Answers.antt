@@ -17,19 +17,19 @@ use Rattle.plan_tables.proofs.listing.list_kept.Goals as goal
 
 pub returns-in-Err-Memory-clause-part : goal.returns-in-Err-Memory-clause-part
 returns-in-Err-Memory-clause-part g c clean is numbered =
-    handed_short g.K.RowSink.takes g.K.RowSink.refuses (IsListing (what_of c.args.asked) (option_copied c.args.app)
+    handed_short g.K.ItemSink.accepts g.K.ItemSink.refuses (IsListing (what_of c.args.asked) (option_copied c.args.app)
     (kept_in (state g.S.Store c.args.conn.now) (content_of c.args.lists.now))) c.args.sink.now c.list_facts.new.sink
     c.in-Err-Memory.field-0 c.in-Err-Memory.field-0-is (c.in-Err-Memory.ensures.part clean is numbered)
 
-pub returns-in-Err-Untold-clause-part : goal.returns-in-Err-Untold-clause-part
-returns-in-Err-Untold-clause-part g c clean is numbered =
-    handed_untold g.K.RowSink.takes g.K.RowSink.refuses (IsListing (what_of c.args.asked) (option_copied c.args.app)
+pub returns-in-Err-Malformed-clause-part : goal.returns-in-Err-Malformed-clause-part
+returns-in-Err-Malformed-clause-part g c clean is numbered =
+    handed_untold g.K.ItemSink.accepts g.K.ItemSink.refuses (IsListing (what_of c.args.asked) (option_copied c.args.app)
     (kept_in (state g.S.Store c.args.conn.now) (content_of c.args.lists.now))) c.args.sink.now c.list_facts.new.sink
-    c.in-Err-Untold.field-0 c.in-Err-Untold.field-0-is (c.in-Err-Untold.ensures.part clean is numbered)
+    c.in-Err-Malformed.field-0 c.in-Err-Malformed.field-0-is (c.in-Err-Malformed.ensures.part clean is numbered)
 
 pub returns-in-Err-Sink-clause-part : goal.returns-in-Err-Sink-clause-part
 returns-in-Err-Sink-clause-part g c clean is numbered =
-    handed_refused g.K.RowSink.takes g.K.RowSink.refuses (IsListing (what_of c.args.asked) (option_copied c.args.app)
+    handed_refused g.K.ItemSink.accepts g.K.ItemSink.refuses (IsListing (what_of c.args.asked) (option_copied c.args.app)
     (kept_in (state g.S.Store c.args.conn.now) (content_of c.args.lists.now))) c.args.sink.now c.list_facts.new.sink
     c.in-Err-Sink.field-0 c.in-Err-Sink.fault c.in-Err-Sink.field-0-is (c.in-Err-Sink.ensures.part clean is numbered)
 
@@ -39,7 +39,7 @@ returns-in-Err-Store-clause-part g c clean is numbered =
     let mid = state g.S.Store c.list_facts.new.conn in
     let new = state g.S.Store c.cause_of.new.conn in
     let calm : HasCleanDisk mid = omega (arith, c.cause_of.ensures.survives.clean, clean) in
-    handed_unread g.K.RowSink.takes g.K.RowSink.refuses (IsListing (what_of c.args.asked) (option_copied c.args.app)
+    handed_unread g.K.ItemSink.accepts g.K.ItemSink.refuses (IsListing (what_of c.args.asked) (option_copied c.args.app)
     (kept_in old (content_of c.args.lists.now))) c.args.sink.now c.list_facts.new.sink
     c.in-Err-Store.field-0 c.in-Err-Store.error c.cause_of.result c.in-Err-Store.field-0-is
     (c.in-Err-Store.ensures.part calm is numbered)
@@ -65,8 +65,8 @@ returns-in-Err-Memory-clause-stays g c clean kept =
     let mid = state g.S.Store c.list_facts.new.conn in
     put_by old mid (c.list_facts.ensures.leaves clean kept.stored.plan.schema)
 
-pub returns-in-Err-Untold-clause-stays : goal.returns-in-Err-Untold-clause-stays
-returns-in-Err-Untold-clause-stays g c clean kept =
+pub returns-in-Err-Malformed-clause-stays : goal.returns-in-Err-Malformed-clause-stays
+returns-in-Err-Malformed-clause-stays g c clean kept =
     let old = state g.S.Store c.args.conn.now in
     let mid = state g.S.Store c.list_facts.new.conn in
     put_by old mid (c.list_facts.ensures.leaves clean kept.stored.plan.schema)
@@ -101,9 +101,9 @@ returns-in-Err-Store-clause-opens g c clean kept =
     open_so c.cause_of.result (state g.S.Store c.cause_of.new.conn).is_open
     (λ is. (c.cause_of.ensures.open clean is).0.is_open)
 
-pub returns-in-Err-Untold-clause-failed : goal.returns-in-Err-Untold-clause-failed
-returns-in-Err-Untold-clause-failed g c clean kept _ =
-    absurd (c.in-Err-Untold.ensures.told clean ∣ kept ∣₁ c.in-Err-Untold.field-0-is)
+pub returns-in-Err-Malformed-clause-failed : goal.returns-in-Err-Malformed-clause-failed
+returns-in-Err-Malformed-clause-failed g c clean kept _ =
+    absurd (c.in-Err-Malformed.ensures.told clean ∣ kept ∣₁ c.in-Err-Malformed.field-0-is)
 
 pub returns-in-Err-Store-clause-failed : goal.returns-in-Err-Store-clause-failed
 returns-in-Err-Store-clause-failed g c clean kept device =

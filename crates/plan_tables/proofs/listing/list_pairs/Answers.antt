@@ -9,10 +9,10 @@ use Rattle.plan_store.specs.Contents.{content_of}
 use Rattle.plan_store.specs.Parts.{ListsAll}
 use Rattle.plan_store.specs.declared.listings.What.TheVariants as Whats
 use Rattle.plan_tables_schema.specs.Rows.{tables_of}
-use Rattle.plan_tables_windows.specs.Gathering.{told_rest}
+use Rattle.plan_tables_windows.specs.Fetching.{told_rest}
 use Rattle.plan_tables_queries.specs.declared.listing_faults.ListedFault.{ListedFault}
 use Rattle.plan_tables.specs.Listing.{ListsKept}
-use Rattle.plan_tables.specs.declared.listing.Asked.TheVariants as asked
+use Rattle.plan_tables.specs.declared.listing.ListedTable.TheVariants as asked
 use Rattle.plan_tables.proofs.ListLemmas.{pairs_memory, pairs_ok, pairs_refused, unread_kept}
 use Rattle.plan_tables.proofs.listing.list_pairs.Goals as goal
 
@@ -20,17 +20,17 @@ pub returns-in-Err : goal.returns-in-Err
 returns-in-Err g c =
     let lists = content_of c.args.lists.now in
     let app = option_copied c.args.app in
-    subst (λ (f : ListedFault). ListsKept g.S.Store c.args.conn.now c.read_rest.new.conn lists g.K.RowSink.takes
-    g.K.RowSink.refuses c.args.sink.now c.args.sink.now asked.Pairs app (Err f)) (sym c.listed_so.ensures)
-    (unread_kept g.S.Store c.args.conn.now c.read_rest.new.conn lists g.K.RowSink.takes g.K.RowSink.refuses
+    subst (λ (f : ListedFault). ListsKept g.S.Store c.args.conn.now c.read_rest.new.conn lists g.K.ItemSink.accepts
+    g.K.ItemSink.refuses c.args.sink.now c.args.sink.now asked.Pairs app (Err f)) (sym c.listed_so.ensures)
+    (unread_kept g.S.Store c.args.conn.now c.read_rest.new.conn lists g.K.ItemSink.accepts g.K.ItemSink.refuses
     c.args.sink.now c.args.sink.now asked.Pairs app _ c.in-Err.fault c.in-Err.ensures
     (λ numbered. c.has_listings_with.ensures (told_rest (tables_of (state g.S.Store c.args.conn.now).now.trees)) numbered
     Whats.Dependencies app) refl)
 
 pub returns-in-Ok-pairs_to : goal.returns-in-Ok-pairs_to
 returns-in-Ok-pairs_to g c =
-    pairs_ok g.S.Store c.args.conn.now c.read_rest.new.conn (content_of c.args.lists.now) g.K.RowSink.takes
-    g.K.RowSink.refuses c.args.sink.now c.pairs_to.new.sink asked.Pairs (option_copied c.args.app) c.in-Ok.rows
+    pairs_ok g.S.Store c.args.conn.now c.read_rest.new.conn (content_of c.args.lists.now) g.K.ItemSink.accepts
+    g.K.ItemSink.refuses c.args.sink.now c.pairs_to.new.sink asked.Pairs (option_copied c.args.app) c.in-Ok.rows
     (λ (k : Content) found. ListsAll of_row found.0.items k.sets.history
     × ListsAll of_deletion found.1.items k.sets.deletions) c.in-Ok.ensures c.as_slice-completed.result.now
     c.as_slice-deleted.result.now (λ k is. (
@@ -42,8 +42,8 @@ returns-in-Ok-pairs_to g c =
 
 pub returns-in-Err-Memory : goal.returns-in-Err-Memory
 returns-in-Err-Memory g c =
-    pairs_memory g.S.Store c.args.conn.now c.read_rest.new.conn (content_of c.args.lists.now) g.K.RowSink.takes
-    g.K.RowSink.refuses c.args.sink.now c.pairs_to.new.sink asked.Pairs (option_copied c.args.app) c.in-Ok.rows
+    pairs_memory g.S.Store c.args.conn.now c.read_rest.new.conn (content_of c.args.lists.now) g.K.ItemSink.accepts
+    g.K.ItemSink.refuses c.args.sink.now c.pairs_to.new.sink asked.Pairs (option_copied c.args.app) c.in-Ok.rows
     (λ (k : Content) found. ListsAll of_row found.0.items k.sets.history
     × ListsAll of_deletion found.1.items k.sets.deletions) c.in-Ok.ensures c.as_slice-completed.result.now
     c.as_slice-deleted.result.now (λ k is. (
@@ -55,8 +55,8 @@ returns-in-Err-Memory g c =
 
 pub returns-in-Err-Sink : goal.returns-in-Err-Sink
 returns-in-Err-Sink g c =
-    pairs_refused g.S.Store c.args.conn.now c.read_rest.new.conn (content_of c.args.lists.now) g.K.RowSink.takes
-    g.K.RowSink.refuses c.args.sink.now c.pairs_to.new.sink asked.Pairs (option_copied c.args.app) c.in-Ok.rows
+    pairs_refused g.S.Store c.args.conn.now c.read_rest.new.conn (content_of c.args.lists.now) g.K.ItemSink.accepts
+    g.K.ItemSink.refuses c.args.sink.now c.pairs_to.new.sink asked.Pairs (option_copied c.args.app) c.in-Ok.rows
     (λ (k : Content) found. ListsAll of_row found.0.items k.sets.history
     × ListsAll of_deletion found.1.items k.sets.deletions) c.in-Ok.ensures c.as_slice-completed.result.now
     c.as_slice-deleted.result.now (λ k is. (

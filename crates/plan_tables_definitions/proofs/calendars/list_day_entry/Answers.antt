@@ -3,7 +3,7 @@ use Rattle.std.specs.Prelude.{IsTrue}
 use Rattle.std.proofs.lemmas.Result.{IfOk-weaker}
 use Rattle.work_calendars.specs.Calendar.{CalendarEntries}
 use Rattle.plan_tables_content.specs.Facts.{IsCalendarRow}
-use Rattle.plan_tables_definitions.specs.Drafted.{TellsEntry, calendar_values}
+use Rattle.plan_tables_definitions.specs.Drafted.{RepresentsEntry, calendar_values}
 use Rattle.plan_tables_definitions.specs.Gathering.{Joins, Within}
 use Rattle.plan_tables_definitions.proofs.calendars.list_day_entry.Goals as goal
 
@@ -20,6 +20,6 @@ pub returns-in-Some-clause-refused : goal.returns-in-Some-clause-refused
 returns-in-Some-clause-refused c =
     let old = c.args.calendar.now in
     IfOk-weaker c.list_date.result (λ b. (d : CalendarEntries) (name : List ℕ)
-    → TellsEntry d 1 c.in-Some.day c.args.status → Within (IsCalendarRow name old) (IsCalendarRow name d) → IsTrue b) _
+    → RepresentsEntry d 1 c.in-Some.day c.args.status → Within (IsCalendarRow name old) (IsCalendarRow name d) → IsTrue b) _
     (λ b refused d name sound told within. refused d name
-    (subst (λ n. TellsEntry d 1 n c.args.status) (sym c.in-Some.ensures.value) told) within) c.list_date.ensures.refused
+    (subst (λ n. RepresentsEntry d 1 n c.args.status) (sym c.in-Some.ensures.value) told) within) c.list_date.ensures.refused

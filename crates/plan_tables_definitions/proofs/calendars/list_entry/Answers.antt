@@ -3,7 +3,7 @@ use Rattle.std.specs.Prelude.{IsTrue}
 use Rattle.std.proofs.lemmas.Result.{IfOk-weaker}
 use Rattle.work_calendars.specs.Calendar.{CalendarEntries}
 use Rattle.plan_tables_content.specs.Facts.{IsCalendarRow}
-use Rattle.plan_tables_definitions.specs.Drafted.{IsSoundCalendar, TellsEntry, calendar_values}
+use Rattle.plan_tables_definitions.specs.Drafted.{IsSoundCalendar, RepresentsEntry, calendar_values}
 use Rattle.plan_tables_definitions.specs.Gathering.{Joins, Within}
 use Rattle.plan_tables_definitions.proofs.calendars.list_entry.Goals as goal
 
@@ -14,7 +14,7 @@ returns-then-kind-eq0-clause-taken c name is = subst (λ k. Joins (IsCalendarRow
 
 pub returns-then-kind-eq0-clause-refused : goal.returns-then-kind-eq0-clause-refused
 returns-then-kind-eq0-clause-refused c d name sound told within = c.list_week_entry.ensures.refused d name sound
-    (subst (λ k. TellsEntry d k c.args.number c.args.status) c.if-kind-eq0.true told) within
+    (subst (λ k. RepresentsEntry d k c.args.number c.args.status) c.if-kind-eq0.true told) within
 
 pub returns-then-kind-eq1-clause-taken : goal.returns-then-kind-eq1-clause-taken
 returns-then-kind-eq1-clause-taken c =
@@ -29,7 +29,7 @@ pub returns-then-kind-eq1-clause-refused : goal.returns-then-kind-eq1-clause-ref
 returns-then-kind-eq1-clause-refused c =
     let old = c.args.calendar.now in
     IfOk-weaker c.list_day_entry.result (λ b. (d : CalendarEntries) (name : List ℕ) → IsSoundCalendar name d
-    → TellsEntry d 1 c.args.number c.args.status → Within (IsCalendarRow name old) (IsCalendarRow name d) → IsTrue b) _
+    → RepresentsEntry d 1 c.args.number c.args.status → Within (IsCalendarRow name old) (IsCalendarRow name d) → IsTrue b) _
     (λ b refused d name sound told within. refused d name sound
-    (subst (λ k. TellsEntry d k c.args.number c.args.status) c.if-kind-eq1.true told) within)
+    (subst (λ k. RepresentsEntry d k c.args.number c.args.status) c.if-kind-eq1.true told) within)
     c.list_day_entry.ensures.refused

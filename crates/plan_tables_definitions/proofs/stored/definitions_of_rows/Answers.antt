@@ -3,7 +3,7 @@ use Rattle.std.specs.Prelude.{IfSome, IsSome}
 use Rattle.plan_tables_content.specs.Content.{AreEach, HasEntry, IsApplicationRow, IsTold}
 use Rattle.plan_tables_content.specs.Facts.{IsCalendarRow, IsCycleRow, IsOffsetRow, IsPeriodRow, IsPredecessorRow}
 use Rattle.plan_tables_definitions.specs.Storing.{AreRowsOf, HaveRows}
-use Rattle.plan_tables_definitions.specs.Telling.{AreCycles, ArePredecessors}
+use Rattle.plan_tables_definitions.specs.Representable.{AreCycles, ArePredecessors}
 use Rattle.plan_tables_definitions.specs.declared.stored.Days.{Days}
 use Rattle.plan_tables_definitions.specs.declared.stored.Listed.{Listed}
 use Rattle.plan_tables_definitions.proofs.stored.definitions_of_rows.Goals as goal
@@ -41,7 +41,7 @@ returns-clause-made c =
           (λ (listed : Listed). AreRowsOf IsPredecessorRow stored.predecessors.items listed.predecessors))
           c.in-Some-3.is listed.predecessors;
       options = refl;
-      tellable = record {
+      representable = record {
         calendars = subst (λ o. IfSome o (λ (days : Days). AreEach IsTold days.calendars)) c.in-Some.is days.told;
         periods = subst (λ o. IfSome o (λ (days : Days). AreEach HasEntry days.periods)) c.in-Some.is days.entries;
         run_cycles = subst (λ o. IfSome o (AreEach AreCycles)) c.in-Some-2.is cycles.told;

@@ -3,7 +3,7 @@ use Rattle.std.specs.Prelude.{IfSome, IsSome}
 use Rattle.plan_tables_content.specs.Content.{AreEach, IsApplicationRow}
 use Rattle.plan_tables_content.specs.Facts.{IsPredecessorRow}
 use Rattle.plan_tables_definitions.specs.Storing.{AreRowsOf}
-use Rattle.plan_tables_definitions.specs.Telling.{ArePredecessors}
+use Rattle.plan_tables_definitions.specs.Representable.{ArePredecessors}
 use Rattle.plan_tables_definitions.proofs.StoredLemmas.{got_rows}
 use Rattle.plan_tables_definitions.proofs.stored.listed_of_rows.Goals as goal
 

@@ -8,7 +8,7 @@ pub returns-in-Ok-Some-clause-told : goal.returns-in-Ok-Some-clause-told
 returns-in-Ok-Some-clause-told g c clean plan =
     let listed = at_some c.in-Ok-Some.field-0 c.in-Ok-Some.xs _ c.in-Ok-Some.field-0-is
     (c.in-Ok-Some.ensures.listed clean plan) in
-    if_some c.in_order.result _ _ (λ sorted moved. shows_moved g.X.Told.values c.in-Ok-Some.xs.items sorted.items
+    if_some c.in_order.result _ _ (λ sorted moved. shows_moved g.X.Decode.values c.in-Ok-Some.xs.items sorted.items
     (tables_of (state g.S.Store c.args.conn.now).now.trees) c.args.table listed moved) c.in_order.ensures.same
 
 pub returns-in-Ok-Some-clause-rowids : goal.returns-in-Ok-Some-clause-rowids
@@ -16,13 +16,13 @@ returns-in-Ok-Some-clause-rowids g c clean plan =
     let rows = tables_of (state g.S.Store c.args.conn.now).now.trees c.args.table in
     let listed = at_some c.in-Ok-Some.field-0 c.in-Ok-Some.xs _ c.in-Ok-Some.field-0-is
     (c.in-Ok-Some.ensures.listed clean plan) in
-    if_both c.in_order.result _ _ _ (λ sorted moved order leads. rise_rowids c.args.table g.X.Told.values
-    g.X.Numbered.number_of leads rows sorted.items (listed_moved g.X.Told.values c.in-Ok-Some.xs.items sorted.items
+    if_both c.in_order.result _ _ _ (λ sorted moved order leads. rise_rowids c.args.table g.X.Decode.values
+    g.X.Numbered.number_of leads rows sorted.items (listed_moved g.X.Decode.values c.in-Ok-Some.xs.items sorted.items
     c.args.table rows listed moved) order) c.in_order.ensures.same c.in_order.ensures.order
 
 pub returns-in-Ok-Some-clause-refused : goal.returns-in-Ok-Some-clause-refused
 returns-in-Ok-Some-clause-refused g c clean plan none leads shows =
     let listed = at_some c.in-Ok-Some.field-0 c.in-Ok-Some.xs _ c.in-Ok-Some.field-0-is
     (c.in-Ok-Some.ensures.listed clean plan) in
-    c.in_order.ensures.refused none (items_apart c.args.table g.X.Told.values g.X.Numbered.number_of leads
+    c.in_order.ensures.refused none (items_apart c.args.table g.X.Decode.values g.X.Numbered.number_of leads
     (tables_of (state g.S.Store c.args.conn.now).now.trees c.args.table) c.in-Ok-Some.xs.items listed shows.rowids)

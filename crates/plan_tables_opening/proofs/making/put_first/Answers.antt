@@ -13,7 +13,7 @@ returns g c =
       same_reference = search rules;
       ok = λ clean base begun. made_first c.insert.result base old new begun
           (c.insert.ensures.writes.ok clean begun.plan begun.mode first_kinds);
-      fails = λ clean base begun. c.insert.ensures.takes.fails clean (is_sound base old begun)
+      fails = λ clean base begun. c.insert.ensures.accepts.fails clean (is_sound base old begun)
           (takes_first base old begun);
       stays_open = λ clean base begun. c.insert.ensures.stays_open clean begun.mode;
       kept = search rules;

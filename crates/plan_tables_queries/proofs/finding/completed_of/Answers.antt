@@ -8,14 +8,14 @@ use Rattle.plan_tables_queries.proofs.finding.completed_of.Goals as goal
 
 pub returns : goal.returns
 returns g c =
-    let untold = rw c.deref.ensures.value at c.tell_each.ensures.untold in
+    let untold = rw c.deref.ensures.value at c.decode_each.ensures.untold in
     finds_fact g.S.Store c.args.conn.now c.history_of.new.conn c.in-Ok.rows _
-    c.in-Ok.ensures _ c.tell_each.result
-    (λ content is sound same. if_ok c.tell_each.result _ _ (λ found told.
+    c.in-Ok.ensures _ c.decode_each.result
+    (λ content is sound same. if_ok c.decode_each.result _ _ (λ found told.
     are_all_of (tables_of (state g.S.Store c.args.conn.now).now.trees) content is c.args.app.now
     c.in-Ok.rows.items same found.items told)
-    (rw c.deref.ensures.value at c.tell_each.ensures.told))
-    (λ content is sound same. if_err c.tell_each.result _ _
+    (rw c.deref.ensures.value at c.decode_each.ensures.told))
+    (λ content is sound same. if_err c.decode_each.result _ _
     (row_is_told (tables_of (state g.S.Store c.args.conn.now).now.trees) content is c.args.app.now
     c.in-Ok.rows.items same sound) untold)
-    (if_err c.tell_each.result _ _ (is_of_row _ _ c.in-Ok.rows.items) untold)
+    (if_err c.decode_each.result _ _ (is_of_row _ _ c.in-Ok.rows.items) untold)

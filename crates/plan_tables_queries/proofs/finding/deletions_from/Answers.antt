@@ -8,14 +8,14 @@ use Rattle.plan_tables_queries.proofs.finding.deletions_from.Goals as goal
 
 pub returns : goal.returns
 returns g c =
-    let untold = rw c.deref.ensures.value at c.tell_each.ensures.untold in
+    let untold = rw c.deref.ensures.value at c.decode_each.ensures.untold in
     finds_fact g.S.Store c.args.conn.now c.operator_deletions_from.new.conn c.in-Ok.rows _ c.in-Ok.ensures _
-    c.tell_each.result
-    (λ content is sound same. if_ok c.tell_each.result _ _ (λ found told.
+    c.decode_each.result
+    (λ content is sound same. if_ok c.decode_each.result _ _ (λ found told.
     are_gone_from (tables_of (state g.S.Store c.args.conn.now).now.trees) content is c.args.moment
     c.in-Ok.rows.items same found.items told)
-    (rw c.deref.ensures.value at c.tell_each.ensures.told))
-    (λ content is sound same. if_err c.tell_each.result _ _
+    (rw c.deref.ensures.value at c.decode_each.ensures.told))
+    (λ content is sound same. if_err c.decode_each.result _ _
     (deletion_is_told (tables_of (state g.S.Store c.args.conn.now).now.trees) content is c.args.moment
     c.in-Ok.rows.items same sound) untold)
-    (if_err c.tell_each.result _ _ (is_of_row _ _ c.in-Ok.rows.items) untold)
+    (if_err c.decode_each.result _ _ (is_of_row _ _ c.in-Ok.rows.items) untold)

@@ -18,8 +18,8 @@ returns-clause-writes g c = record {
   survives = search rules;
 }
 
-pub returns-clause-takes : goal.returns-clause-takes
-returns-clause-takes g c = record {
+pub returns-clause-accepts : goal.returns-clause-accepts
+returns-clause-accepts g c = record {
   fails = λ clean sound loses. tt;
   sound = λ clean sound loses.
       lose_sound c.args.table (bound c.args.key.now) (state g.S.Store c.args.tx.now.conn.now) (state g.S.Store
@@ -27,8 +27,8 @@ returns-clause-takes g c = record {
       (rw c.delete_text.ensures at (c.in_ok-execute.ensures.runs clean sound.mode));
 }
 
-pub returns-in_err-execute-clause-takes : goal.returns-in_err-execute-clause-takes
-returns-in_err-execute-clause-takes g c = record {
+pub returns-in_err-execute-clause-accepts : goal.returns-in_err-execute-clause-accepts
+returns-in_err-execute-clause-accepts g c = record {
   fails = λ clean sound loses.
       let fails = lose_fails c.args.table (bound c.args.key.now) (state g.S.Store c.args.tx.now.conn.now) (state
       g.S.Store c.execute.new.self.conn.now) c.in_err-execute.field-0.0 sound loses

@@ -18,20 +18,20 @@ returns-clause-writes g c = record {
   survives = search rules;
 }
 
-pub returns-clause-takes : goal.returns-clause-takes
-returns-clause-takes g c = record {
-  fails = λ clean sound takes. tt;
-  sound = λ clean sound takes.
+pub returns-clause-accepts : goal.returns-clause-accepts
+returns-clause-accepts g c = record {
+  fails = λ clean sound accepts. tt;
+  sound = λ clean sound accepts.
       take_sound c.args.table (bound c.args.values.now) (state g.S.Store c.args.tx.now.conn.now) (state g.S.Store
-      c.execute.new.self.conn.now) c.in_ok-execute.field-0 sound takes
+      c.execute.new.self.conn.now) c.in_ok-execute.field-0 sound accepts
       (rw c.insert_text.ensures at (c.in_ok-execute.ensures.runs clean sound.mode));
 }
 
-pub returns-in_err-execute-clause-takes : goal.returns-in_err-execute-clause-takes
-returns-in_err-execute-clause-takes g c = record {
-  fails = λ clean sound takes.
+pub returns-in_err-execute-clause-accepts : goal.returns-in_err-execute-clause-accepts
+returns-in_err-execute-clause-accepts g c = record {
+  fails = λ clean sound accepts.
       let fails = take_fails c.args.table (bound c.args.values.now) (state g.S.Store c.args.tx.now.conn.now) (state
-      g.S.Store c.execute.new.self.conn.now) c.in_err-execute.field-0.0 sound takes
+      g.S.Store c.execute.new.self.conn.now) c.in_err-execute.field-0.0 sound accepts
       (rw c.insert_text.ensures at (c.in_err-execute.ensures.runs clean sound.mode)) in
       if_from c.from_residual.result _ _ (λ e same. subst (MayFail (state g.S.Store c.args.tx.now.conn.now) (state
       g.S.Store c.execute.new.self.conn.now)) (sym same) fails) c.from_residual.ensures.1;

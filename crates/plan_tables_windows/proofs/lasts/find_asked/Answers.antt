@@ -1,9 +1,9 @@
 use Rattle.plan_store.specs.Contents.{content_of}
 use Rattle.plan_store.specs.Views.{Asks}
 use Rattle.plan_tables_windows.specs.Windows.{HasLastsOf}
-use Rattle.plan_tables_windows.specs.Bringing.{IsAnswered}
+use Rattle.plan_tables_windows.specs.Loading.{IsAnswered}
 use Rattle.plan_tables_windows.proofs.EachLemmas.{Each}
-use Rattle.plan_tables_windows.proofs.GatherLemmas.{gathers_refused, gathers_so}
+use Rattle.plan_tables_windows.proofs.FetchLemmas.{gathers_refused, gathers_so}
 use Rattle.plan_tables_windows.proofs.NeedLemmas.{asked_found}
 use Rattle.plan_tables_windows.proofs.lasts.find_asked.Goals as goal
 

@@ -1,14 +1,14 @@
 use Rattle.plan_store.specs.Contents.{content_of}
-use Rattle.plan_tables_windows.specs.Bringing.{IsAnswered}
-use Rattle.plan_tables_windows.proofs.BringLemmas.{gathers_last, gathers_no_last}
-use Rattle.plan_tables_windows.proofs.GatherLemmas.{gathers_failed}
+use Rattle.plan_tables_windows.specs.Loading.{IsAnswered}
+use Rattle.plan_tables_windows.proofs.LoadLemmas.{gathers_last, gathers_no_last}
+use Rattle.plan_tables_windows.proofs.FetchLemmas.{gathers_failed}
 use Rattle.plan_tables_windows.proofs.lasts.find_last.Goals as goal
 
 pub returns-in-Ok-Some : goal.returns-in-Ok-Some
 returns-in-Ok-Some g c =
     gathers_last g.S.Store c.args.conn.now c.last_completed.new.conn c.args.ask.now (content_of c.args.lists.now)
-    c.in-Ok-Some.row (rw c.in-Ok-Some.field-0-is at c.in-Ok-Some.ensures) (content_of c.bring_row.new.lists)
-    c.bring_row.result c.bring_row.ensures
+    c.in-Ok-Some.row (rw c.in-Ok-Some.field-0-is at c.in-Ok-Some.ensures) (content_of c.load_row.new.lists)
+    c.load_row.result c.load_row.ensures
 
 pub returns-in-Ok-None : goal.returns-in-Ok-None
 returns-in-Ok-None g c =

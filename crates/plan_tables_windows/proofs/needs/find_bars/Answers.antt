@@ -2,14 +2,14 @@ use Rattle.std.proofs.Common.{Ok, Option, Some, subst, sym}
 use Rattle.planner_machine.specs.declared.content.Bounds.{Bounds}
 use Rattle.plan_store.specs.Contents.{content_of}
 use Rattle.plan_store.specs.Parts.{HasBars}
-use Rattle.plan_tables_windows.specs.Gathering.{Gathers}
-use Rattle.plan_tables_windows.proofs.GatherLemmas.{gathers_none}
+use Rattle.plan_tables_windows.specs.Fetching.{Fetches}
+use Rattle.plan_tables_windows.proofs.FetchLemmas.{gathers_none}
 use Rattle.plan_tables_windows.proofs.NeedLemmas.{no_bars}
 use Rattle.plan_tables_windows.proofs.needs.find_bars.Goals as goal
 
 pub returns-in-Some : goal.returns-in-Some
 returns-in-Some g c =
-    subst (λ (o : Option Bounds). Gathers g.S.Store c.args.conn.now c.find_bars_from.new.conn (content_of c.args.lists.now)
+    subst (λ (o : Option Bounds). Fetches g.S.Store c.args.conn.now c.find_bars_from.new.conn (content_of c.args.lists.now)
     (content_of c.find_bars_from.new.lists) c.find_bars_from.result (HasBars o)) (sym c.in-Some.is)
     c.find_bars_from.ensures
 

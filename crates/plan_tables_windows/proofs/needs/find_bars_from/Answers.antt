@@ -1,7 +1,7 @@
 use Rattle.std.proofs.Common.{◌∙◌, Ok, Some, sym}
 use Rattle.plan_store.specs.Contents.{content_of}
 use Rattle.plan_store.specs.Parts.{HasBars}
-use Rattle.plan_tables_windows.proofs.GatherLemmas.{gathers_none}
+use Rattle.plan_tables_windows.proofs.FetchLemmas.{gathers_none}
 use Rattle.plan_tables_windows.proofs.NeedLemmas.{bars_by}
 use Rattle.plan_tables_windows.proofs.needs.find_bars_from.Goals as goal
 

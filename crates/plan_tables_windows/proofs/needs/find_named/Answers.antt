@@ -1,7 +1,7 @@
 use Rattle.plan_store.specs.Contents.{content_of}
 use Rattle.plan_store.specs.Parts.{HasBars}
-use Rattle.plan_tables_windows.specs.Bringing.{KnowsAll}
-use Rattle.plan_tables_windows.proofs.GatherLemmas.{gathers_stopped, gathers_then}
+use Rattle.plan_tables_windows.specs.Loading.{KnowsAll}
+use Rattle.plan_tables_windows.proofs.FetchLemmas.{gathers_stopped, gathers_then}
 use Rattle.plan_tables_windows.proofs.NeedLemmas.{bars_still}
 use Rattle.plan_tables_windows.proofs.needs.find_named.Goals as goal
 

@@ -1,8 +1,8 @@
 use Rattle.plan_store.specs.Contents.{content_of}
 use Rattle.plan_store.specs.Parts.{Knows, KnowsDeletion}
-use Rattle.plan_tables_windows.specs.Bringing.{KnowsAll}
+use Rattle.plan_tables_windows.specs.Loading.{KnowsAll}
 use Rattle.plan_tables_windows.proofs.EachLemmas.{Each}
-use Rattle.plan_tables_windows.proofs.GatherLemmas.{gathers_stopped, gathers_then}
+use Rattle.plan_tables_windows.proofs.FetchLemmas.{gathers_stopped, gathers_then}
 use Rattle.plan_tables_windows.proofs.NeedLemmas.{all_known}
 use Rattle.plan_tables_windows.proofs.needs.find_unknown.Goals as goal
 

@@ -11,4 +11,4 @@ returns g c = put_by g.S.Store c.args.tx.now c.insert.new.tx c.insert.result c.a
     ∷ (c.number-7.ensures ∙ ap natural c.number-6.ensures.value) i
     ∷ (c.number-9.ensures ∙ ap natural c.number-8.ensures.value) i ∷ c.number-10.ensures i
     ∷ Text (c.as_bytes.ensures.value i) ∷ (c.number-11.ensures ∙ ap natural c.from.ensures) i ∷ [])
-    c.insert.ensures.writes c.insert.ensures.takes
+    c.insert.ensures.writes c.insert.ensures.accepts

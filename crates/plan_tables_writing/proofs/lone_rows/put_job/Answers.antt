@@ -10,4 +10,4 @@ pub returns : goal.returns
 returns g c = writes_weaker g.S.Store _ _ _ _ _ _ _ _ (λ all _. job_storable c.args.job.now) (λ all t. t)
     (put_by g.S.Store c.args.tx.now c.insert.new.tx c.insert.result JobTable _ _
     (λ i. Int (to_z_pos w64 c.args.job.now.number c.requires.number i) ∷ Blob (c.as_slice.ensures i)
-    ∷ Text (c.requires.line i) ∷ []) c.insert.ensures.writes c.insert.ensures.takes)
+    ∷ Text (c.requires.line i) ∷ []) c.insert.ensures.writes c.insert.ensures.accepts)

@@ -9,4 +9,4 @@ returns g c = put_by g.S.Store c.args.tx.now c.insert.new.tx c.insert.result c.a
     (λ i. c.number.ensures i ∷ c.number-2.ensures i ∷ c.number-3.ensures i
     ∷ c.number-4.ensures i ∷ c.number-5.ensures i ∷ c.number-6.ensures i ∷ c.number-7.ensures i
     ∷ Text (c.as_bytes.ensures.value i) ∷ (c.number-8.ensures ∙ ap natural c.from.ensures) i ∷ [])
-    c.insert.ensures.writes c.insert.ensures.takes
+    c.insert.ensures.writes c.insert.ensures.accepts

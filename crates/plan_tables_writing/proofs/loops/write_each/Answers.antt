@@ -19,7 +19,7 @@ loop-item-preserved g c =
     let i = c.loop-item.item-index in
     let item = c.item-item.result in
     let fits = g.W.ForEach.fits c.args.what.now in
-    let takes = g.W.ForEach.takes c.args.what.now in
+    let accepts = g.W.ForEach.accepts c.args.what.now in
     let makes = g.W.ForEach.makes c.args.what.now in
     record {
       same = search rules;
@@ -37,13 +37,13 @@ loop-item-preserved g c =
                   (tables_of new.now.trees) _ (omega arith) c.item-item.is step.rows_are before.1.1,
             ),
           );
-      takes = λ clean sound take.
-          let was = c.loop-item.invariant.takes (omega (arith, c.write.ensures.survives.clean)) sound take in
-          let next = next_holds takes makes items i item (tables_of mid.now.trees) (omega arith) c.item-item.is was.2 in
-          let step = c.in_ok-write.ensures.takes.sound clean was.0 next.0 in (
+      accepts = λ clean sound take.
+          let was = c.loop-item.invariant.accepts (omega (arith, c.write.ensures.survives.clean)) sound take in
+          let next = next_holds accepts makes items i item (tables_of mid.now.trees) (omega arith) c.item-item.is was.2 in
+          let step = c.in_ok-write.ensures.accepts.sound clean was.0 next.0 in (
             step.0,
             (λ o. step.1 (was.1 o)),
-            subst (HoldsInTurn takes makes (drop (i + 1) items)) (sym step.2) next.1,
+            subst (HoldsInTurn accepts makes (drop (i + 1) items)) (sym step.2) next.1,
             fold_on (λ (now : Tables) x. makes x now) items i item (tables_of mid.now.trees) (tables_of new.now.trees) _
                 (omega arith) c.item-item.is step.2 was.3,
           );
@@ -59,15 +59,15 @@ returns-in_err-write g c =
       ok = search rules;
       kept = search rules;
       survives = search rules;
-      takes = record {
+      accepts = record {
         fails = λ clean sound take.
             let way = c.loop-item.invariant.survives in
-            let was = c.loop-item.invariant.takes (omega (arith, c.write.ensures.survives.clean)) sound take in
-            let next = next_holds (g.W.ForEach.takes c.args.what.now) (g.W.ForEach.makes c.args.what.now)
+            let was = c.loop-item.invariant.accepts (omega (arith, c.write.ensures.survives.clean)) sound take in
+            let next = next_holds (g.W.ForEach.accepts c.args.what.now) (g.W.ForEach.makes c.args.what.now)
             c.args.items.now c.loop-item.item-index c.item-item.result (tables_of mid.now.trees) (omega arith)
             c.item-item.is was.2 in
             if_told c.from_residual.result old new _ c.from_residual.ensures.1 (vain_since old mid new _ way.counts was.1
-            way.limit (c.in_err-write.ensures.takes.fails clean was.0 next.0));
+            way.limit (c.in_err-write.ensures.accepts.fails clean was.0 next.0));
         sound = search rules;
       };
     }
@@ -83,10 +83,10 @@ returns g c =
           (omega arith) way.1);
       kept = c.loop-item.invariant.kept;
       survives = c.loop-item.invariant.survives;
-      takes = record {
+      accepts = record {
         fails = λ clean sound take. tt;
         sound = λ clean sound take.
-            let was = c.loop-item.invariant.takes clean sound take in (
+            let was = c.loop-item.invariant.accepts clean sound take in (
               was.0,
               was.1,
               fold_done (λ (now : Tables) x. makes x now) c.args.items.now c.loop-item.item-index _ _ (omega arith) was.3,

@@ -7,5 +7,5 @@ pub returns : goal.returns
 returns g c =
     let rows = c.args.rows.now in
     writes_weaker g.S.Store _ _ _ _ _ _ _ _ (λ all are. always _ _ rows (λ row has now. are row has) all)
-    (λ all takes. both _ _ _ rows all (always _ _ rows (λ row has now. takes.0 row has) all)
-    (rows_taken c.args.table rows_of rows all takes.1)) c.write_each.ensures
+    (λ all accepts. both _ _ _ rows all (always _ _ rows (λ row has now. accepts.0 row has) all)
+    (rows_taken c.args.table rows_of rows all accepts.1)) c.write_each.ensures

@@ -1,7 +1,7 @@
 use Rattle.std.proofs.Common.{◌≡◌, ◌∙◌, Bool, true, false, ap, refl, subst, sym}
 use Rattle.std.specs.Prelude.{is_some, unwrap_or, MatchBool, if◌then◌else◌, ◌||◌, ⊤}
 use Rattle.planner_machine.specs.Moves.{or_else}
-use Rattle.plan_tables_writing.specs.Taking.{TakesMeta, WritesTaking}
+use Rattle.plan_tables_writing.specs.Accepted.{AcceptsMeta, WritesAccepted}
 use Rattle.plan_tables_writing.specs.Writing.{meta_told}
 use Rattle.plan_tables_writing.proofs.writing.write_new_meta.Goals as goal
 use Rattle.plan_tables_writing.proofs.writing.write_new_meta.Goals.{then-is_some, else-is_some}
@@ -24,7 +24,7 @@ returns-then-is_some-2 g c =
           (sym w.is_some-else-is_some.ensures
           ∙ sym w.value-is ∙ c.if-is_some-2.true)
     ]) in
-    subst (λ b. WritesTaking (λ _. ⊤) (λ all. MatchBool b (TakesMeta (or_else change.bounds old.bounds)
+    subst (λ b. WritesAccepted (λ _. ⊤) (λ all. MatchBool b (AcceptsMeta (or_else change.bounds old.bounds)
     (unwrap_or change.issued old.issued) old.definitions.options all) ⊤) g.S.Store c.args.tx.now c.write_meta.new.tx
     c.write_meta.result (λ all. if b then meta_told (or_else change.bounds old.bounds)
     (unwrap_or change.issued old.issued) old.definitions.options all else all)) (sym told)

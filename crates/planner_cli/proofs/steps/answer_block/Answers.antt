@@ -1,7 +1,7 @@
 use Rattle.std.proofs.Common.{◌≡◌, ap, rules, None}
 use Rattle.planner_cli_stream.specs.Items.{WithBlock}
 use Rattle.planner_cli_stream.specs.Pages.{block_shown}
-use Rattle.planner_cli.specs.Asked.{asked_with}
+use Rattle.planner_cli.specs.Requests.{asked_with}
 use Rattle.planner_cli.proofs.StatementLemmas.{asks_with, item_refused, item_served}
 use Rattle.planner_cli.proofs.steps.answer_block.Goals as goal
 

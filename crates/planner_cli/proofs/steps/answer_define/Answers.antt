@@ -2,7 +2,7 @@ use Rattle.std.proofs.Common.{sym, subst, Err}
 use Rattle.occurrences.specs.declared.refusal.Refusal.TheVariants.{FaultyData}
 use Rattle.planner_cli.specs.Outcomes.{answering}
 use Rattle.planner_cli_stream.specs.Pages.{block_shown}
-use Rattle.planner_cli.specs.Asked.{define_asked}
+use Rattle.planner_cli.specs.Requests.{define_asked}
 use Rattle.planner_cli.specs.Steps.{Serves}
 use Rattle.planner_cli.proofs.ServeLemmas.{serves_no_data}
 use Rattle.planner_cli.proofs.StoreLemmas.{untouched}

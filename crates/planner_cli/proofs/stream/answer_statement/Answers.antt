@@ -1,5 +1,5 @@
 use Rattle.std.proofs.Common.{ap}
-use Rattle.planner_cli.specs.Asked.{asked_alone}
+use Rattle.planner_cli.specs.Requests.{asked_alone}
 use Rattle.planner_cli.proofs.StatementLemmas.{asks_alone, line_served}
 use Rattle.planner_cli.proofs.stream.answer_statement.Goals as goal
 

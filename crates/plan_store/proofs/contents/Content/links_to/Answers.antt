@@ -9,15 +9,15 @@ use Rattle.plan_store.proofs.contents.Content.links_to.Goals as goal
 pub returns-clause-all : goal.returns-clause-all
 returns-clause-all g c rest numbered =
     let links = c.lists_of.result.now in
-    shown_all g.K.RowSink.takes g.K.RowSink.refuses c.args.sink.now c.hand_lists.new.sink in_force_shown links
+    shown_all g.K.ItemSink.accepts g.K.ItemSink.refuses c.args.sink.now c.emit_lists.new.sink in_force_shown links
     (ShowLinks (option_copied c.args.app) (with_rest rest (content_of c.args.self.now)))
     (links, record { rising = c.lists_of.ensures.rising; exactly = c.lists_of.ensures.all }, refl)
-    c.hand_lists.result c.hand_lists.ensures.all
+    c.emit_lists.result c.emit_lists.ensures.all
 
 pub returns-clause-part : goal.returns-clause-part
 returns-clause-part g c rest numbered =
     let links = c.lists_of.result.now in
-    shown_part g.K.RowSink.takes g.K.RowSink.refuses c.args.sink.now c.hand_lists.new.sink in_force_shown links
+    shown_part g.K.ItemSink.accepts g.K.ItemSink.refuses c.args.sink.now c.emit_lists.new.sink in_force_shown links
     (ShowLinks (option_copied c.args.app) (with_rest rest (content_of c.args.self.now)))
     (links, record { rising = c.lists_of.ensures.rising; exactly = c.lists_of.ensures.all }, refl)
-    c.hand_lists.result c.hand_lists.ensures.part
+    c.emit_lists.result c.emit_lists.ensures.part

@@ -12,20 +12,20 @@ returns-in-Ok-clause-all g c rest numbered history deletions =
     let whole = with_rest rest (content_of c.args.self.now) in
     let app = option_copied c.args.app in
     let links = links_at whole.sets app whole.pairs in
-    let h = rw (c.deref.ensures.value, c.as_slice-pairs.ensures.all) at c.hand_links.ensures.all in
-    shown_all g.K.RowSink.takes g.K.RowSink.refuses c.args.sink.now c.hand_links.new.sink link_shown links
+    let h = rw (c.deref.ensures.value, c.as_slice-pairs.ensures.all) at c.emit_links.ensures.all in
+    shown_all g.K.ItemSink.accepts g.K.ItemSink.refuses c.args.sink.now c.emit_links.new.sink link_shown links
     (ShowPairs app whole) (links, lists_links whole app numbered c.as_slice-pairs.ensures.rising, refl)
-    c.hand_links.result (h whole.sets numbered (c.in-Ok.ensures rest numbered history deletions))
+    c.emit_links.result (h whole.sets numbered (c.in-Ok.ensures rest numbered history deletions))
 
 pub returns-in-Ok-clause-part : goal.returns-in-Ok-clause-part
 returns-in-Ok-clause-part g c rest numbered history deletions =
     let whole = with_rest rest (content_of c.args.self.now) in
     let app = option_copied c.args.app in
     let links = links_at whole.sets app whole.pairs in
-    let h = rw (c.deref.ensures.value, c.as_slice-pairs.ensures.all) at c.hand_links.ensures.part in
-    shown_part g.K.RowSink.takes g.K.RowSink.refuses c.args.sink.now c.hand_links.new.sink link_shown links
+    let h = rw (c.deref.ensures.value, c.as_slice-pairs.ensures.all) at c.emit_links.ensures.part in
+    shown_part g.K.ItemSink.accepts g.K.ItemSink.refuses c.args.sink.now c.emit_links.new.sink link_shown links
     (ShowPairs app whole) (links, lists_links whole app numbered c.as_slice-pairs.ensures.rising, refl)
-    c.hand_links.result (h whole.sets numbered (c.in-Ok.ensures rest numbered history deletions))
+    c.emit_links.result (h whole.sets numbered (c.in-Ok.ensures rest numbered history deletions))
 
 pub returns-in-Err-clause-part : goal.returns-in-Err-clause-part
 returns-in-Err-clause-part g c rest numbered history deletions =

@@ -34,43 +34,43 @@ pub returns-in-History-clause-all : goal.returns-in-History-clause-all
 returns-in-History-clause-all g c numbered =
     let kept = c.args.self.now in
     let app = option_copied c.args.app in
-    let h = rw c.deref.ensures.value at c.hand_rows.ensures.all in
-    rw c.in-History.is (whole_all g.K.RowSink.takes g.K.RowSink.refuses c.args.sink.now c.hand_rows.new.sink
+    let h = rw c.deref.ensures.value at c.emit_rows.ensures.all in
+    rw c.in-History.is (whole_all g.K.ItemSink.accepts g.K.ItemSink.refuses c.args.sink.now c.emit_rows.new.sink
     (ShowsSet of_row (λ (_ : Row). status_letter C) false kept.history.items app)
     (ShowRows InHistory app (content_of kept)) (shows_history (content_of kept) numbered kept.history.items
-    kept.history_rows (λ _. refl) app) c.hand_rows.result (h kept.history_rows))
+    kept.history_rows (λ _. refl) app) c.emit_rows.result (h kept.history_rows))
 
 pub returns-in-History-clause-part : goal.returns-in-History-clause-part
 returns-in-History-clause-part g c numbered =
     let kept = c.args.self.now in
     let app = option_copied c.args.app in
-    let h = rw c.deref.ensures.value at c.hand_rows.ensures.part in
-    rw c.in-History.is (whole_part g.K.RowSink.takes g.K.RowSink.refuses c.args.sink.now c.hand_rows.new.sink
+    let h = rw c.deref.ensures.value at c.emit_rows.ensures.part in
+    rw c.in-History.is (whole_part g.K.ItemSink.accepts g.K.ItemSink.refuses c.args.sink.now c.emit_rows.new.sink
     (ShowsSet of_row (λ (_ : Row). status_letter C) false kept.history.items app)
     (ShowRows InHistory app (content_of kept)) (shows_history (content_of kept) numbered kept.history.items
-    kept.history_rows (λ _. refl) app) c.hand_rows.result (h kept.history_rows))
+    kept.history_rows (λ _. refl) app) c.emit_rows.result (h kept.history_rows))
 
 pub returns-in-Deletions-clause-all : goal.returns-in-Deletions-clause-all
 returns-in-Deletions-clause-all g c numbered =
     let kept = c.args.self.now in
     let app = option_copied c.args.app in
-    let h = rw c.deref-in-Deletions.ensures.value at c.hand_rows-in-Deletions.ensures.all in
-    rw c.in-Deletions.is (whole_all g.K.RowSink.takes g.K.RowSink.refuses c.args.sink.now
-    c.hand_rows-in-Deletions.new.sink (ShowsSet of_deletion (λ (x : Deletion). reason_letter x.reason) false
+    let h = rw c.deref-in-Deletions.ensures.value at c.emit_rows-in-Deletions.ensures.all in
+    rw c.in-Deletions.is (whole_all g.K.ItemSink.accepts g.K.ItemSink.refuses c.args.sink.now
+    c.emit_rows-in-Deletions.new.sink (ShowsSet of_deletion (λ (x : Deletion). reason_letter x.reason) false
     kept.deletions.items app) (ShowRows InDeletions app (content_of kept))
     (shows_deletions (content_of kept) numbered kept.deletions.items kept.deletion_rows (λ _. refl) app)
-    c.hand_rows-in-Deletions.result (h kept.deletion_rows))
+    c.emit_rows-in-Deletions.result (h kept.deletion_rows))
 
 pub returns-in-Deletions-clause-part : goal.returns-in-Deletions-clause-part
 returns-in-Deletions-clause-part g c numbered =
     let kept = c.args.self.now in
     let app = option_copied c.args.app in
-    let h = rw c.deref-in-Deletions.ensures.value at c.hand_rows-in-Deletions.ensures.part in
-    rw c.in-Deletions.is (whole_part g.K.RowSink.takes g.K.RowSink.refuses c.args.sink.now
-    c.hand_rows-in-Deletions.new.sink (ShowsSet of_deletion (λ (x : Deletion). reason_letter x.reason) false
+    let h = rw c.deref-in-Deletions.ensures.value at c.emit_rows-in-Deletions.ensures.part in
+    rw c.in-Deletions.is (whole_part g.K.ItemSink.accepts g.K.ItemSink.refuses c.args.sink.now
+    c.emit_rows-in-Deletions.new.sink (ShowsSet of_deletion (λ (x : Deletion). reason_letter x.reason) false
     kept.deletions.items app) (ShowRows InDeletions app (content_of kept))
     (shows_deletions (content_of kept) numbered kept.deletions.items kept.deletion_rows (λ _. refl) app)
-    c.hand_rows-in-Deletions.result (h kept.deletion_rows))
+    c.emit_rows-in-Deletions.result (h kept.deletion_rows))
 
 pub returns-in-Dependencies-clause-all : goal.returns-in-Dependencies-clause-all
 returns-in-Dependencies-clause-all g c numbered = rw c.in-Dependencies.is (c.listed_pairs_to.ensures.all numbered)

@@ -30,7 +30,7 @@ invariant_of-self g c =
           let calm : HasCleanDisk before = omega (arith, c.change_both.ensures.crash.clean, clean) in
           let k = h calm in
           keeps_after before lists c.args.change c.args.prepared.now.moves c.requires.fits c.requires.sound
-          c.requires.moves c.tables_tell_sets.ensures after_it (content_of c.change_both.new.lists) c.in-Ok.ensures.lists
+          c.requires.moves c.tables_represent_sets.ensures after_it (content_of c.change_both.new.lists) c.in-Ok.ensures.lists
           k.part (c.requires.knows (calm, k.stored.is_open)) (c.requires.fits (calm, k.stored.is_open))
           (c.in-Ok.ensures.done clean (own_rest before lists c.args.change c.args.prepared.now.moves c.requires.fits c.requires.sound c.requires.moves) (met_so before lists c.args.change c.args.prepared.now.moves c.requires.fits c.requires.sound c.requires.moves calm k)) (c.requires.sound (calm, k.stored.is_open)));
       told = ∣ leaves_sound before after_it (after c.args.change (kept_in before lists)) _ old.told
@@ -116,7 +116,7 @@ returns-in-Ok-clause-done g c clean =
     let after_it = state g.S.Store c.change_both.new.conn in
     let kept = kept_sure old.in_doubt old.failures c.requires.sure c.requires.whole old.stored in
     let calm : HasCleanDisk before = omega (arith, c.change_both.ensures.crash.clean, clean) in
-    ∥∥₁_elim kept (content_set _ _) (λ h. kept_after c.tables_tell_sets.ensures after_it (own_rest before lists c.args.change c.args.prepared.now.moves c.requires.fits c.requires.sound c.requires.moves) c.args.change lists
+    ∥∥₁_elim kept (content_set _ _) (λ h. kept_after c.tables_represent_sets.ensures after_it (own_rest before lists c.args.change c.args.prepared.now.moves c.requires.fits c.requires.sound c.requires.moves) c.args.change lists
     (content_of c.change_both.new.lists) c.in-Ok.ensures.lists (c.in-Ok.ensures.done clean (own_rest before lists c.args.change c.args.prepared.now.moves c.requires.fits c.requires.sound c.requires.moves) (met_so before lists c.args.change c.args.prepared.now.moves c.requires.fits c.requires.sound c.requires.moves calm (h calm))))
 
 pub returns-in-Ok-clause-opens : goal.returns-in-Ok-clause-opens
@@ -276,7 +276,7 @@ returns-in-Ok-clause-settled g c clean left may =
     ∥∥₁_elim kept (content_set _ _) (λ h. leaves_one g.S.Store g.met.S.Store.settled c.change_both.new.conn left
     (kept_in after_it (content_of c.change_both.new.lists)) c.tables_have_one_content.ensures
     (keeps_after before lists c.args.change c.args.prepared.now.moves c.requires.fits c.requires.sound
-    c.requires.moves c.tables_tell_sets.ensures after_it (content_of c.change_both.new.lists) c.in-Ok.ensures.lists
+    c.requires.moves c.tables_represent_sets.ensures after_it (content_of c.change_both.new.lists) c.in-Ok.ensures.lists
     (h calm).part (c.requires.knows (calm, (h calm).stored.is_open)) (c.requires.fits (calm, (h calm).stored.is_open))
     (c.in-Ok.ensures.done clean (own_rest before lists c.args.change c.args.prepared.now.moves c.requires.fits c.requires.sound c.requires.moves) (met_so before lists c.args.change c.args.prepared.now.moves c.requires.fits c.requires.sound c.requires.moves calm (h calm))) (c.requires.sound (calm, (h calm).stored.is_open))).stored may)
 
@@ -301,9 +301,9 @@ returns-in-Err-Device-clause-taken g c clean room is =
     ∥∥₁_map kept (λ h.
     let k = h calm in
     let can : CanRead before = (calm, k.stored.is_open) in
-    c.in-Err-Device.ensures.blames clean (own_rest before lists c.args.change c.args.prepared.now.moves c.requires.fits c.requires.sound c.requires.moves) (met_so before lists c.args.change c.args.prepared.now.moves c.requires.fits c.requires.sound c.requires.moves calm k) (room_takes c.fitting_changes_are_taken.ensures before
+    c.in-Err-Device.ensures.blames clean (own_rest before lists c.args.change c.args.prepared.now.moves c.requires.fits c.requires.sound c.requires.moves) (met_so before lists c.args.change c.args.prepared.now.moves c.requires.fits c.requires.sound c.requires.moves calm k) (room_takes c.fitting_changes_are_accepted.ensures before
     (kept_in before lists) c.args.change k.stored (c.requires.fits can) (c.requires.sound can)
-    c.change_is_tellable.ensures c.added_rise.ensures room) c.in-Err-Device.field-0-is)
+    c.change_is_representable.ensures c.added_rise.ensures room) c.in-Err-Device.field-0-is)
 
 pub returns-in-Ok-clause-schema : goal.returns-in-Ok-clause-schema
 returns-in-Ok-clause-schema g c clean =

@@ -6,10 +6,10 @@ use Rattle.planner_machine.specs.Content.{Content}
 use Rattle.planner_machine.specs.Sound.{AreNumbered}
 use Rattle.plan_store.specs.Contents.{content_of}
 use Rattle.plan_store.specs.Faults.{MoreFailures}
-use Rattle.plan_store.specs.Listings.{HandsAll, HandsPart, IsListing}
+use Rattle.plan_store.specs.Listings.{EmitsAll, EmitsPart, IsListing}
 use Rattle.plan_store.specs.declared.listings.ListFault.TheVariants.{Device}
 use Rattle.plan_tables_schema.specs.Rows.{tables_of}
-use Rattle.plan_tables_windows.specs.Gathering.{told_rest}
+use Rattle.plan_tables_windows.specs.Fetching.{told_rest}
 use Rattle.plan_tables.specs.Kept.{CanRead, kept_in}
 use Rattle.plan_tables.specs.Listing.{what_of}
 use Rattle.plan_tables.proofs.CauseLemmas.{counts_on, listed_since, shut_so}
@@ -35,12 +35,12 @@ returns-in-Ok g c =
     let clean : HasCleanDisk s2 → HasCleanDisk s1 = did.looks.clean in
     record {
       all = λ honest. subst (λ (k : Content). AreNumbered k.sets → IfOk c.list_asked.result
-          (HandsAll g.K.RowSink.takes (IsListing what app k) c.args.sink.now c.list_asked.new.sink))
+          (EmitsAll g.K.ItemSink.accepts (IsListing what app k) c.args.sink.now c.list_asked.new.sink))
           (met (first honest)) (did.all honest.0);
       part = λ honest either.
           let calm : HasCleanDisk s2 = elim either [ inl is ↦ is.0 | inr is ↦ is ] in
           subst (λ (k : Content). AreNumbered k.sets → IfErr c.list_asked.result
-          (HandsPart g.K.RowSink.takes g.K.RowSink.refuses (IsListing what app k) c.args.sink.now
+          (EmitsPart g.K.ItemSink.accepts g.K.ItemSink.refuses (IsListing what app k) c.args.sink.now
           c.list_asked.new.sink))
           (met (clean calm, c.in-Ok.ensures.still (clean calm) honest.1)) (did.part calm);
       same = λ honest. looks_listed s1 s2 mid.lists now.lists did.looks did.lists honest ∙ met (first honest);

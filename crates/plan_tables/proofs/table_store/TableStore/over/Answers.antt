@@ -18,11 +18,11 @@ invariant_of-result g c =
       jobless = c.keep_part.ensures.jobs;
       stored = merely (λ whole clean doubt.
           let stored = c.requires.opened clean in
-          let kept = kept_part c.tables_tell_sets.ensures s made lists c.keep_part.ensures.same stored in
+          let kept = kept_part c.tables_represent_sets.ensures s made lists c.keep_part.ensures.same stored in
           record {
             stored = subst (IsStored s) (sym kept) stored;
             sound = subst IsSound (sym kept) c.requires.sound;
-            part = subst (λ (rest : Rest). IsPartOf rest lists) (sym (told_kept c.tables_tell_sets.ensures s made stored))
+            part = subst (λ (rest : Rest). IsPartOf rest lists) (sym (told_kept c.tables_represent_sets.ensures s made stored))
                 c.keep_part.ensures.part;
           });
       told = merely (λ clean. stored_sound g.S.Store g.met.S.Store.settled c.args.conn made
@@ -31,11 +31,11 @@ invariant_of-result g c =
 
 pub returns-clause-kept : goal.returns-clause-kept
 returns-clause-kept g c clean =
-    kept_part c.tables_tell_sets.ensures (state g.S.Store c.args.conn) (content_of c.args.lists)
+    kept_part c.tables_represent_sets.ensures (state g.S.Store c.args.conn) (content_of c.args.lists)
     (content_of c.keep_part.new.self) c.keep_part.ensures.same (c.requires.opened clean)
 
 pub returns-clause-part : goal.returns-clause-part
 returns-clause-part g c clean =
     subst (λ (rest : Rest). IsPartOf rest (content_of c.keep_part.new.self))
-    (sym (told_kept c.tables_tell_sets.ensures (state g.S.Store c.args.conn) (content_of c.args.lists)
+    (sym (told_kept c.tables_represent_sets.ensures (state g.S.Store c.args.conn) (content_of c.args.lists)
     (c.requires.opened clean))) c.keep_part.ensures.part

@@ -17,11 +17,11 @@ use Rattle.plan_store.specs.declared.stores.StoreFault.TheVariants.{Device, Memo
 use Rattle.plan_store.specs.declared.contents.Content.{Content as Kept}
 use Rattle.plan_tables_windows.specs.Changes.{KnowsNamed}
 use Rattle.plan_tables_schema.specs.Rows.{tables_of}
-use Rattle.plan_tables_windows.specs.Gathering.{told_rest}
+use Rattle.plan_tables_windows.specs.Fetching.{told_rest}
 use Rattle.plan_tables.specs.Causes.{CountsOn}
 use Rattle.plan_tables.specs.Kept.{CanRead, LooksOn, kept_in}
 use Rattle.plan_tables.specs.Stored.{MayLeave}
-use Rattle.plan_tables.specs.Taken.{KeepsSchema}
+use Rattle.plan_tables.specs.Accepted.{KeepsSchema}
 use Rattle.plan_tables.specs.declared.table_store.TableStore.{TableStore}
 use Rattle.plan_tables.proofs.CauseLemmas.{can_still, caused_since, merely_err, never_told, room_still, steady_since, told_kept}
 use Rattle.plan_tables.proofs.LookLemmas.{looks_read, mild_open, ok_since}

@@ -2,7 +2,7 @@ use Rattle.std.proofs.Common.{[], arith, refl}
 use Rattle.std.specs.Prelude.{option_copied}
 use Rattle.sqlite.specs.Held.{state}
 use Rattle.plan_tables_schema.specs.Rows.{tables_of}
-use Rattle.plan_tables_windows.specs.Gathering.{told_rest}
+use Rattle.plan_tables_windows.specs.Fetching.{told_rest}
 use Rattle.plan_tables.proofs.table_store.TableStorePlanStore.rows_to.Goals as goal
 
 pub returns-then-self-gt0-clause-part : goal.returns-then-self-gt0-clause-part

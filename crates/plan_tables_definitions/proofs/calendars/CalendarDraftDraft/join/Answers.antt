@@ -3,7 +3,7 @@ use Rattle.std.specs.Prelude.{IsTrue}
 use Rattle.std.proofs.lemmas.Result.{IfOk-weaker}
 use Rattle.work_calendars.specs.Calendar.{CalendarEntries}
 use Rattle.plan_tables_content.specs.Facts.{IsCalendarRow}
-use Rattle.plan_tables_definitions.specs.Drafted.{IsSoundCalendar, TellsEntry, calendar_values}
+use Rattle.plan_tables_definitions.specs.Drafted.{IsSoundCalendar, RepresentsEntry, calendar_values}
 use Rattle.plan_tables_definitions.specs.Gathering.{Joins, Within}
 use Rattle.plan_tables_definitions.proofs.DraftLemmas.{entry_told}
 use Rattle.plan_tables_definitions.proofs.calendars.CalendarDraftDraft.join.Goals as goal
@@ -23,7 +23,7 @@ returns-clause-refused c =
     let name = c.args.name.now in
     let old = c.args.self.now.calendar in
     IfOk-weaker c.list_entry.result (λ b. (d : CalendarEntries) (name : List ℕ) → IsSoundCalendar name d
-    → TellsEntry d c.in-Some.kind c.in-Some.day c.in-Some.status → Within (IsCalendarRow name old) (IsCalendarRow name
+    → RepresentsEntry d c.in-Some.kind c.in-Some.day c.in-Some.status → Within (IsCalendarRow name old) (IsCalendarRow name
     d)
     → IsTrue b) _
     (λ b refused d sound is within. refused d name sound (entry_told name d c.in-Some.kind c.in-Some.day

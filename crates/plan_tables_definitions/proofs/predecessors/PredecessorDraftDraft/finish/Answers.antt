@@ -5,7 +5,7 @@ use Rattle.app_definition_records.specs.declared.predecessors.Predecessor.{Prede
 use Rattle.plan_tables_content.specs.Facts.{IsPredecessorRow}
 use Rattle.plan_tables_definitions.specs.Drafted.{IsReadPredecessor, predecessor_of}
 use Rattle.plan_tables_definitions.specs.Gathering.{Alike}
-use Rattle.plan_tables_definitions.specs.Telling.{ArePredecessors}
+use Rattle.plan_tables_definitions.specs.Representable.{ArePredecessors}
 use Rattle.plan_tables_definitions.proofs.PredecessorLemmas.{predecessors_alike, predecessors_rise}
 use Rattle.plan_tables_definitions.proofs.TellLemmas.{predecessors_told}
 use Rattle.plan_tables_definitions.proofs.predecessors.PredecessorDraftDraft.finish.Goals as goal

@@ -11,7 +11,7 @@ use Rattle.sqlite.specs.Order.{Row as Values}
 use Rattle.plan_tables_content.specs.Content.{ByName}
 use Rattle.plan_tables_definitions.specs.CycleParts.{IsPartRow}
 use Rattle.plan_tables_definitions.specs.Storing.{AreRowsOf}
-use Rattle.plan_tables_definitions.specs.Telling.{AreCycles}
+use Rattle.plan_tables_definitions.specs.Representable.{AreCycles}
 use Rattle.plan_tables_definitions.specs.WholeCycles.{ArePartsOf, IsKept}
 use Rattle.plan_tables_definitions.specs.declared.cycle_parts.CyclePart.{CyclePart}
 use Rattle.plan_tables_definitions.proofs.WholeLemmas.{cycles_alike, cycles_told, its_parts, names_short, parts_rows}

@@ -1,5 +1,0 @@
-use Rattle.app_definitions.proofs.TakenBack.{merge_taken_back}
-use Rattle.app_definitions.proofs.laws.merge_is_taken_back.Goals as goal
-
-pub returns : goal.returns
-returns c = merge_taken_back

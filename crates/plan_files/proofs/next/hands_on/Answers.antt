@@ -1,8 +1,0 @@
-use Rattle.plan_files.proofs.NextLemmas.{hands_on, passes_on}
-use Rattle.plan_files.proofs.next.hands_on.Goals as goal
-
-pub returns-clause-runs : goal.returns-clause-runs
-returns-clause-runs g c = hands_on g.D.Disk
-
-pub returns-clause-refused : goal.returns-clause-refused
-returns-clause-refused g c = passes_on g.D.Disk

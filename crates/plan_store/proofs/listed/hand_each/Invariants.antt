@@ -1,9 +1,0 @@
--- the sink took the rows so far
-use Rattle.std.proofs.Common.{take, map}
-use Rattle.plan_store.specs.Listed.{shown_as}
-use Rattle.plan_store.specs.Listings.{TakesAll}
-use Rattle.plan_store.proofs.listed.hand_each.Given as goal
-
-abbrev pub invariant-loop-x : goal.invariant-loop-x
-invariant-loop-x g l = TakesAll g.K.RowSink.takes l.initial.sink
-    (map (λ x. shown_as g.T.PlanRow.row_of g.T.Lettered.letter_of l.is_plain x.now) (take l.x-index l.rows)) l.sink

@@ -1,5 +1,0 @@
-use Rattle.plan_tables_constraints.proofs.ChangeTaken.{fitting_is_taken}
-use Rattle.plan_tables_constraints.proofs.taking.fitting_changes_are_taken.Goals as goal
-
-pub returns : goal.returns
-returns c = fitting_is_taken

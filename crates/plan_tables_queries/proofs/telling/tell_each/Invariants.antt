@@ -1,5 +1,0 @@
-use Rattle.std.proofs.Common.{◌≡◌, map, take}
-use Rattle.plan_tables_queries.proofs.telling.tell_each.Given as goal
-
-abbrev pub invariant-loop-row : goal.invariant-loop-row
-invariant-loop-row g l = map g.X.Told.values l.xs.items ≡ take l.row-index l.rows
