@@ -1,12 +1,16 @@
 //! The records of data blocks, and definitions by name as they give them: applications, calendars, periods, lists of
 //! predecessors and run cycles.
 //!
-//! The records of a block are collected one after the other, up to the first faulty one:
+//! Definitions are found by name, and listed in byte order of their names:
 //!
 //! ```text
-//! let mut calendars: ByName<Calendar> = ByName::new(alloc);
-//! collect_records(alloc, b"C,SAT,FREE\nC,SUN,FREE\nD,2024-12-24,FREE\n", &mut calendars)?;
-//! assert_eq!(rt; calendars.len(), 2);
+//! // PAY waits for a BILL of the 24 hours before it
+//! let listed = vec![in alloc; Predecessor { name: bill, within }]?;
+//! let listed = Predecessors::from_vec(listed).ok_or("not in byte order")?;
+//! let mut lists = ByName::new(alloc);
+//! lists.insert(pay, listed)?;
+//! assert_eq!(rt; lists.names(alloc)?.as_slice(), [pay].as_slice());
+//! assert!(rt; lists.remove(&pay) && lists.get(&pay).is_none());
 //! ```
 #![tactic(auto)]
 

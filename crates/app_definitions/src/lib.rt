@@ -8,7 +8,8 @@
 //! let block = read_block(alloc, Kind::Applications, b"Z,A,HERE\nY,P,\nD,A,DEFAULT\n")?;
 //! assert_eq!(rt; all.merge(block)?, 3);
 //! // Z names a calendar of its own
-//! assert_eq!(rt; all.applications.get(&z).unwrap().calendar, Some(here));
+//! let found = all.applications.get(&z).ok_or("not defined")?;
+//! assert_eq!(rt; found.calendar, Some(here));
 //! ```
 #![tactic(auto)]
 

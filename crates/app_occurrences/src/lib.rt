@@ -5,7 +5,8 @@
 //!
 //! ```text
 //! let mut all = Definitions::new(alloc);
-//! all.merge(read_block(alloc, Kind::Applications, b"Z,A,HERE\nY,A,\nD,A,DEFAULT\n")?)?;
+//! let block = read_block(alloc, Kind::Applications, b"Z,A,HERE\nY,A,\nD,A,DEFAULT\n")?;
+//! all.merge(block)?;
 //! // Z names a calendar that isn't defined; Y and D use the default one
 //! assert_eq!(rt; least_without_calendar(&all), Some(z));
 //! ```

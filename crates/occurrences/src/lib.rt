@@ -5,7 +5,8 @@
 //! plan with a [`Status`], which changes by the table of [`next_status`] alone:
 //!
 //! ```text
-//! assert!(rt; Place::Current(Status::W).is_open());
+//! let waiting = Place::Current(Status::W);
+//! assert!(rt; waiting.is_live() && waiting.is_open() && !waiting.is_complete());
 //! assert_eq!(rt; next_status(Status::W, Action::Start), Some(Status::S));
 //! assert_eq!(rt; next_status(Status::S, Action::Delete), None);
 //! ```

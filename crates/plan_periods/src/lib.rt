@@ -1,12 +1,15 @@
 //! Periods, which give run cycles the intervals that offsets are counted in, and the walk over the intervals that
 //! meet a range of days.
 //!
-//! ```
-//! // seven days from 2024-01-01 on, again and again; all of 2024 meets the first 53 intervals
-//! let week = Period::All { origin: new_year, interval: 7 };
-//! week.check()?;
-//! let mut intervals = Intervals::new(&week, new_year, year_end);
-//! assert_eq!(rt; intervals.next(), Some(Interval { first: new_year, last: Some(sunday) }));
+//! ```text
+//! // seven days from 2024-01-01 on, again and again
+//! let (origin, interval) = (monday, 7);
+//! let weeks = Period::All { origin, interval };
+//! weeks.check()?;
+//! // the first of the intervals that meet 2024
+//! let mut intervals = Intervals::new(&weeks, monday, year_end);
+//! let week = intervals.next().ok_or("no interval")?;
+//! assert_eq!(rt; (week.first, week.last), (monday, Some(sunday)));
 //! ```
 #![tactic(auto)]
 

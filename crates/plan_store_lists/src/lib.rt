@@ -2,10 +2,11 @@
 //! changed in place.
 //!
 //! ```text
-//! let mut rows = Vec::with_capacity(alloc, 2)?;
-//! insert_all(&mut rows, &[third, fourth]);
-//! remove_all(&mut rows, &[third]);
-//! assert!(rt; find(&rows, &fourth.key()) == Ok(0) && !has_key(&rows, &third.key()));
+//! let mut rows = vec![in alloc; fourth, third]?;
+//! sort(&mut rows);
+//! assert_eq!(rt; rows.as_slice(), [third, fourth].as_slice());
+//! assert_eq!(rt; find(&rows, &fourth.key()), Ok(1));
+//! assert!(rt; has_key(&rows, &third.key()) && !has_key(&rows, &fifth.key()));
 //! ```
 #![tactic(auto)]
 

@@ -1,5 +1,18 @@
 //! The planner as a machine: what it knows, what each statement decides, and laws of both, which are contracts of
 //! functions that do nothing.
+//!
+//! ```text
+//! // job 7 was refused, because there is no long-term plan
+//! let job = Job {
+//!     number: 7,
+//!     text: JobText::from_vec(b"dp-replan".to_vec(alloc)?),
+//!     reply: Err(Refusal::NoPlan),
+//! };
+//! assert!(rt; job.number <= GREATEST_JOB);
+//! // if the job is sent again with the same text, it gets the reply that is kept
+//! assert_eq!(rt; job.text.as_slice(), b"dp-replan".as_slice());
+//! assert_eq!(rt; job.reply, Err(Refusal::NoPlan));
+//! ```
 #![tactic(auto)]
 
 mod content;

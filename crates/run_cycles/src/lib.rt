@@ -1,11 +1,19 @@
 //! Run cycles: the days that they name, and the occurrences that an application's run cycles give.
 //!
-//! ```
-//! // a run cycle with offset 6 of weeks from Monday 2024-01-01 on, whose Saturdays are free, by rule 1
-//! let cycles = vec![in alloc; pay(&rt, alloc, Rule::Before, &[6])?]?;
+//! ```text
+//! // day 6 of each week from Monday 2024-01-01 on, a free Saturday: rule 1 gives the work day before it
+//! let cycles = [RunCycle {
+//!     name,
+//!     kind,
+//!     period,
+//!     rule: Rule::Before,
+//!     offsets: Offsets::from_vec(vec![in alloc; 6]?).ok_or("no offsets")?,
+//!     in_effect: monday,
+//!     out_effect: None,
+//!     ia,
+//! }];
 //! let named = generate(alloc, &cycles, &periods, &index, monday, sunday)?;
-//! // the closest work day before the Saturday
-//! assert_eq!(rt; named[0].day, friday);
+//! assert_eq!(rt; named.first().map(|first| first.day), Some(friday));
 //! ```
 #![tactic(auto)]
 

@@ -7,6 +7,8 @@ mod calendars;
 #[cfg(test)]
 mod cycles;
 #[cfg(test)]
+mod examples;
+#[cfg(test)]
 mod occurrence_rows;
 #[cfg(test)]
 mod periods;

@@ -9,11 +9,11 @@ use std::fmt::Write;
 use std::process::Abort;
 use work_calendars::{App, Moment, Within};
 
-fn app(rt: &impl Abort, name: &str) -> App {
+pub(crate) fn app(rt: &impl Abort, name: &str) -> App {
     App::from_text(name).expect(rt, "a name")
 }
 
-fn serial(rt: &impl Abort, number: u32) -> Serial {
+pub(crate) fn serial(rt: &impl Abort, number: u32) -> Serial {
     Serial::new(number).expect(rt, "a serial")
 }
 
@@ -205,7 +205,7 @@ fn row(text: &str) -> Option<PlacedRow> {
 }
 
 // The rows of a text, separated by `;`.
-fn rows(rt: &impl Abort, alloc: Global, text: &str) -> Rows {
+pub(crate) fn rows(rt: &impl Abort, alloc: Global, text: &str) -> Rows {
     let mut rows = Vec::new(alloc);
     for part in text.split(';') {
         rows.push(row(part).expect(rt, "a row"))

@@ -8,6 +8,8 @@ mod blocks;
 #[cfg(test)]
 mod dependencies;
 #[cfg(test)]
+mod examples;
+#[cfg(test)]
 mod names;
 #[cfg(test)]
 mod words;
