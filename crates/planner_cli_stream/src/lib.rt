@@ -1,36 +1,25 @@
-//! The words of a statement: how a line is cut into words, and what `clap` reads of them.
+//! The words of a statement: how a line is cut into words, and what `clap` reads of them. A [`Form`] says which options
+//! a statement has. It accepts the words after the statement's name in any order, and returns their [`Values`], or
+//! `None` where the words are not those of the form.
 //!
-//! A [`Form`] says which options a statement has. It accepts the words after the statement's name in any order, and
-//! returns their [`Values`], or `None` where the words are not those of the form:
-//!
-//! ```text
-//! let form = Form { required: &["app", "from"], optional: &["to"], word: Some("KIND") };
-//! let words = ["--from=a=b", "cron", "--app", "shop"];
-//! if let Some(values) = form.read(alloc, &words)? {
-//!     assert!(rt; values.get("app") == Some("shop") && values.get("from") == Some("a=b"));
-//!     assert!(rt; values.get("to").is_none() && values.get("KIND") == Some("cron"));
-//! }
-//! ```
 //! The items of a job stream: a line that is no statement, a statement's line, or such a line with its data block.
 //! They are read one at a time from a [`std::io::BufRead`], however it cuts its bytes.
 //!
-//! ```text
-//! let mut reader = b"define\nA\n/*\nx\n".as_slice();
-//! let mut page = Page::new(alloc);
-//! page.read_item(&mut reader)?;
-//! // the line `define`, and the bytes `A\n` after it
-//! assert!(rt; matches!(page.item(), Some(Item::WithBlock(_, DataBlock::Whole(b"A\n")))));
-//! page.read_item(&mut reader)?;
-//! assert!(rt; matches!(page.item(), Some(Item::Alone(b"x"))));
-//! ```
 //! The statements of a job stream: which lines are statements, and what each of them says.
 //!
 //! ```text
-//! let line = b"define --job 7 periods";
-//! let want = Statement::Define { kind: KindWord::Periods, job: JobNumber::from_text("7")? };
-//! assert!(rt; read_statement(alloc, line)? == Some(want));
-//! // a line that is no statement
-//! assert!(rt; read_statement(alloc, b"define calendars")?.is_none());
+//! // a line with a data block, which is read as an item, and the statement that the line is
+//! let mut reader = b"define periods --job 7\nW,A,2024-01-01,7\n/*\n".as_slice();
+//! let mut page = Page::new(alloc);
+//! page.read_item(&mut reader)?;
+//! let Some(Item::WithBlock(line, DataBlock::Whole(block))) = page.item() else {
+//!     return Err(Fail::new("another item"));
+//! };
+//! assert_eq!(rt; block, b"W,A,2024-01-01,7\n".as_slice());
+//! let Some(Statement::Define { kind, .. }) = read_statement(alloc, line)? else {
+//!     return Err(Fail::new("another statement"));
+//! };
+//! assert_eq!(rt; kind, KindWord::Periods);
 //! ```
 #![tactic(auto)]
 

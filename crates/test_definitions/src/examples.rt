@@ -4,6 +4,7 @@ use app_definition_records::{ByName, Predecessor, Predecessors};
 use app_definition_soundness::are_definitions;
 use app_definitions::{Definitions, Kind, read_block};
 use external_dependencies::{Link, Links, resolve_all};
+use planner_cli_stream::{DataBlock, Item, KindWord, Page, Statement, read_statement};
 use std::test::Fail;
 use work_calendars::{Calendar, Name, Within};
 
@@ -75,6 +76,26 @@ fn example_of_external_dependencies(rt: HostRuntime) -> Result<(), Fail> {
     // of the second day's A the nearest B is that of the same day
     let found = pairs.of_successor(fourth).first();
     assert_eq!(rt; found.map(|pair| pair.predecessor), Some(third));
+    // end of the example
+    Ok(())
+}
+
+#[test]
+fn example_of_planner_cli_stream(rt: HostRuntime) -> Result<(), Fail> {
+    let alloc = rt.alloc();
+    // example of planner_cli_stream
+    // a line with a data block, which is read as an item, and the statement that the line is
+    let mut reader = b"define periods --job 7\nW,A,2024-01-01,7\n/*\n".as_slice();
+    let mut page = Page::new(alloc);
+    page.read_item(&mut reader)?;
+    let Some(Item::WithBlock(line, DataBlock::Whole(block))) = page.item() else {
+        return Err(Fail::new("another item"));
+    };
+    assert_eq!(rt; block, b"W,A,2024-01-01,7\n".as_slice());
+    let Some(Statement::Define { kind, .. }) = read_statement(alloc, line)? else {
+        return Err(Fail::new("another statement"));
+    };
+    assert_eq!(rt; kind, KindWord::Periods);
     // end of the example
     Ok(())
 }
