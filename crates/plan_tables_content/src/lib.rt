@@ -1,4 +1,12 @@
 //! What the tables of a plan stand for: each row encodes one fact, and no two contents have the same rows.
+//!
+//! ```text
+//! // the replies of two jobs, as the table of jobs has them
+//! let line = answer_line(alloc, &Ok(Reply::Undefined))?;
+//! assert_eq!(rt; line.as_slice(), b"ok undefined".as_slice());
+//! let line = answer_line(alloc, &Err(Refusal::NoPlan))?;
+//! assert_eq!(rt; line.as_slice(), b"refused 20".as_slice());
+//! ```
 #![tactic(auto)]
 
 mod answers;

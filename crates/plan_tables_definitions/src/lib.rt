@@ -1,4 +1,15 @@
 //! Definitions as rows of the tables of a plan, and back.
+//!
+//! ```text
+//! let mut calendar = Calendar::new(alloc);
+//! calendar.set_weekday(Weekday::Saturday, DayStatus::Free);
+//! calendar.set_weekday(Weekday::Sunday, DayStatus::Free);
+//! let mut calendars = ByName::new(alloc);
+//! calendars.insert(name, calendar)?;
+//! // a row for each weekday that the calendar lists
+//! let rows = calendar_rows(alloc, &calendars)?;
+//! assert_eq!(rt; rows.len(), 2);
+//! ```
 #![tactic(auto)]
 
 mod applications;

@@ -1,4 +1,11 @@
 //! What the rows of the tables encode: facts, and the content that has exactly these facts.
+//!
+//! ```text
+//! let lists = read_lists(alloc, &mut conn)?.ok_or("malformed rows")?;
+//! let content = content_of_lists(alloc, Definitions::new(alloc), lists)?;
+//! assert!(rt; content.ltp.is_empty() && content.bounds.is_none());
+//! assert_eq!(rt; content.history.len(), 2);
+//! ```
 #![tactic(auto)]
 
 mod answers;

@@ -1,4 +1,14 @@
 //! The tables of the plan: their schema, and statements that insert rows of values, delete rows and select them.
+//!
+//! ```text
+//! let mut conn = Connection::open_in_memory(alloc)?;
+//! if conn.is_autocommit() {
+//!     make_tables(&mut conn)?;
+//! }
+//! conn.execute_batch("INSERT INTO plan_period VALUES ('DAY', 0, 'A', 19723, 1)")?;
+//! assert_eq!(rt; select(&mut conn, Table::Period)?.len(), 1);
+//! assert_eq!(rt; select(&mut conn, Table::History)?.len(), 0);
+//! ```
 #![tactic(auto)]
 
 mod making;

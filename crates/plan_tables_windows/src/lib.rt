@@ -2,6 +2,15 @@
 //! loaded before a window is lent or a change is made, so that the result is that of the whole.
 //! What lists lack of history and of the deletions is fetched from the tables of a plan and loaded into them: before a
 //! window is lent, and before a change is made.
+//!
+//! ```text
+//! let mut lists = Content::new(alloc);
+//! load_for_need(alloc, &mut conn, &mut lists, &Need::Key(key))?;
+//! // of history the last row of A at the arrival of the key or before it
+//! let row = lists.history.first();
+//! assert_eq!(rt; row.map(|row| row.serial.get()), Some(1));
+//! assert_eq!(rt; lists.history.len(), 1);
+//! ```
 #![tactic(auto)]
 
 mod fetching;

@@ -1,4 +1,18 @@
 //! What a change makes of the tables of a plan, in one transaction.
+//!
+//! ```text
+//! // a row is added to history, and no definition changes
+//! let moves = DefinitionMoves {
+//!     kind: None,
+//!     names: Vec::new(alloc),
+//!     rows: Vec::new(alloc),
+//!     offsets: Vec::new(alloc),
+//! };
+//! let (content, mut change) = (Content::new(alloc), Change::none(alloc));
+//! change.history.put.push(row)?;
+//! commit_change(&mut conn, alloc, &content, &[], &moves, &change, b"")?;
+//! assert_eq!(rt; select(&mut conn, Table::History)?.len(), 1);
+//! ```
 #![tactic(auto)]
 
 mod cells;
