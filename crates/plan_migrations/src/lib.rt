@@ -1,5 +1,11 @@
 //! The version of a plan in a database, and the migration of its tables to the current schema: those of schema 1 are
 //! replaced, with their rows; others are checked.
+//!
+//! ```text
+//! // a plan of the current schema stays as it is
+//! assert_eq!(rt; version(&mut conn)?, Some(2));
+//! assert_eq!(rt; migrate(alloc, &mut conn)?, (2, 2));
+//! ```
 #![tactic(auto)]
 
 mod asking;

@@ -1,4 +1,14 @@
 //! What a planner knows, kept in the tables of a database.
+//!
+//! ```text
+//! // the store of a planner before its first statement, over an empty database
+//! let Ok(mut store) = TableStore::adopt(alloc, conn) else {
+//!     return Err(Fail::new("not adopted"));
+//! };
+//! assert!(rt; store.bounds()?.is_none() && store.job(7)?.is_none());
+//! let view = store.read_window(Need::LongTerm)?;
+//! assert_eq!(rt; view.issued(), 0);
+//! ```
 #![tactic(auto)]
 
 mod answers;

@@ -1,4 +1,11 @@
 //! A database of a plan is opened: it has the tables of the plan, or gets them, and they have a sound content.
+//!
+//! ```text
+//! // an empty database gets the tables of a plan of which nothing is known
+//! assert!(rt; !has_meta(&conn));
+//! let content = open_content(alloc, &mut conn)?;
+//! assert!(rt; content.bounds.is_none() && has_meta(&conn));
+//! ```
 #![tactic(auto)]
 
 mod faults;

@@ -23,7 +23,7 @@ const ROWS: &str =
     INSERT INTO job VALUES (6, x'00', 'ok moved 2 carried 0 completed 0 deleted 0')";
 
 /// A plan with these rows, and what a text makes of it.
-fn plan(alloc: Global, change: &str) -> Result<Connection<MemStore>, Error>
+pub(crate) fn plan(alloc: Global, change: &str) -> Result<Connection<MemStore>, Error>
     ensures { IfOk result (λ conn. conn.in_transaction ≡ false) }
 {
     let mut conn = Connection::open_in_memory(alloc)?;
@@ -36,7 +36,7 @@ fn plan(alloc: Global, change: &str) -> Result<Connection<MemStore>, Error>
 }
 
 /// What a text makes of an empty database.
-fn other(alloc: Global, text: &str) -> Result<Connection<MemStore>, Error>
+pub(crate) fn other(alloc: Global, text: &str) -> Result<Connection<MemStore>, Error>
     ensures { IfOk result (λ conn. conn.in_transaction ≡ false) }
 {
     let mut conn = Connection::open_in_memory(alloc)?;
@@ -45,7 +45,7 @@ fn other(alloc: Global, text: &str) -> Result<Connection<MemStore>, Error>
 }
 
 /// The connection, outside a transaction.
-fn settled<S: Alter + Drop>(conn: Connection<S>) -> Result<Connection<S>, Error>
+pub(crate) fn settled<S: Alter + Drop>(conn: Connection<S>) -> Result<Connection<S>, Error>
     ensures { IfOk result (λ conn. conn.in_transaction ≡ false) }
 {
     if conn.is_autocommit() {
