@@ -3,10 +3,13 @@
 //! window, and changes nothing.
 //!
 //! ```text
+//! // the two rows of the first day move from the long-term plan to the current plan
 //! let view = store.read_window(Need::Daily(to))?;
-//! if let Verdict::Done(change, reply) = extend(alloc, &view, to)? {
-//!     store.apply(alloc, change)?; // reply: how many were moved, carried, completed and deleted
-//! }
+//! let Verdict::Done(change, reply) = extend(alloc, &view, to)? else {
+//!     return Err(Fail::new("refused"));
+//! };
+//! assert!(rt; change.ltp.gone.len() == 2 && change.cp.put.len() == 2);
+//! assert!(rt; matches!(reply, Reply::Moved { moved: 2, .. }));
 //! ```
 #![tactic(auto)]
 

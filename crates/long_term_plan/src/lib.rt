@@ -1,10 +1,14 @@
 //! What the statements on the long-term plan decide. A decision sees the content through a window, and changes nothing.
 //!
 //! ```text
+//! // two applications are named on each of two days
 //! let view = store.read_window(Need::LongTerm)?;
-//! if let Verdict::Done(change, reply) = create(alloc, &view, first, last)? {
-//!     store.apply(alloc, change)?; // reply: how many occurrences were made
-//! }
+//! let Verdict::Done(change, reply) = create(alloc, &view, first, last)? else {
+//!     return Err(Fail::new("refused"));
+//! };
+//! let (made, withdrawn) = (4, 0);
+//! assert_eq!(rt; change.ltp.put.len(), made);
+//! assert_eq!(rt; reply, Reply::Made { made, withdrawn });
 //! ```
 #![tactic(auto)]
 

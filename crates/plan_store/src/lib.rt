@@ -3,9 +3,11 @@
 //!
 //! ```text
 //! let mut store = ListStore::new(alloc);
-//! let view = store.read_window(Need::Key(key))?;
-//! assert!(rt; view.live_row(&key).is_none() && view.bounds().is_none());
-//! store.apply(alloc, Change::none(alloc))?;
+//! assert!(rt; store.job(7)?.is_none());
+//! // what a decision on the long-term plan sees, before there is one
+//! let view = store.read_window(Need::LongTerm)?;
+//! assert!(rt; view.bounds().is_none() && view.ltp().is_empty());
+//! assert_eq!(rt; view.issued(), 0);
 //! ```
 #![tactic(auto)]
 

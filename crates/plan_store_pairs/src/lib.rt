@@ -3,11 +3,13 @@
 //! they had. Each statement finds them anew only where it reaches.
 //!
 //! ```text
-//! // what leads from the pairs before some rows joined the long-term plan to those after it
-//! let touch = touch_of(alloc, &[], &made, view.in_force(), &links)?;
-//! let rows = live_rows_with(alloc, view.ltp(), &made, view.cp(), view.lasts())?;
-//! let pairs = pairs_of_plans(alloc, view)?;
-//! let change = pair_change(alloc, &pairs, &rows, &links, &touch)?;
+//! // B is added at 12.00 of the second day, and follows A of 08.00, which is the third row
+//! let view = store.read_window(Need::Key(key))?;
+//! let Verdict::Done(change, _reply) = add(alloc, &view, Plan::LongTerm, &key)? else {
+//!     return Err(Fail::new("refused"));
+//! };
+//! let pair = change.pairs.added.as_slice().first();
+//! assert_eq!(rt; pair.map(|pair| pair.predecessor), Some(third));
 //! ```
 #![tactic(auto)]
 

@@ -1,4 +1,12 @@
 //! Whether what a planner keeps is sound, where anyone may have written what it was read from.
+//!
+//! ```text
+//! let mut content = Content::new(alloc);
+//! assert!(rt; is_sound(alloc, &content)?);
+//! // a serial is issued, and no row has it
+//! content.issued = 1;
+//! assert!(rt; !is_sound(alloc, &content)?);
+//! ```
 #![tactic(auto)]
 
 mod arrivals;

@@ -1,10 +1,11 @@
 //! The planner's job stream: what each statement changes and what its reply is, and a run over a whole stream.
 //!
 //! ```text
-//! let mut reader = b"list\nhelp\n".as_slice(); // neither line is a statement
+//! // neither line is a statement
+//! let mut reader = b"list\nhelp\n".as_slice();
 //! let mut writer = Vec::new(alloc);
 //! let outcome = run_lists(alloc, &mut reader, &mut writer);
-//! assert_eq!(rt; writer.as_slice(), b"refused 10\nrefused 10\n");
+//! assert_eq!(rt; writer.as_slice(), b"refused 10\nrefused 10\n".as_slice());
 //! assert_eq!(rt; exit_status(&outcome), 4);
 //! ```
 #![tactic(auto)]
