@@ -51,6 +51,25 @@ TRIALS = "# `trials`\n\nTries days.\n\n**What it promises.** Nothing.\n\n## Deci
 PAGE = "# Definitions\n\n## By crate\n\n| Crate | What it defines |\n|---|---|\n| old | row |\n\n## Words\n\nLast.\n"
 DAYS_LINK, TRIALS_LINK = ("[`days`](../../crates/days/README.md)", "[`trials`](../../crates/trials/README.md)")
 
+TEST = """mod more;
+
+#[test]
+fn example_of_days(rt: HostRuntime) {
+    let alloc = rt.alloc();
+    // example of days
+    // a day
+    let day = Day {
+        number: 1,
+    };
+
+    assert_eq!(rt; day.number(), 1);
+    // end of the example
+    Ok(())
+}
+"""
+LINES = ["// a day", "let day = Day {", "    number: 1,", "};", "", "assert_eq!(rt; day.number(), 1);"]
+LIBRARY = "//! Days.\n//!\n//! ```\n//! let day = 2;\n//! ```\n//!\n//! More.\n#![tactic(auto)]\n"
+
 
 class Trees(unittest.TestCase):
     def setUp(self):
@@ -157,6 +176,62 @@ class Reported(Trees):
         with contextlib.redirect_stderr(io.StringIO()) as said:
             self.assertEqual(claims.main(["--writ"], self.top), 2)
         self.assertIn("usage: tools/proof/claims", said.getvalue())
+
+
+class Examples(Trees):
+    def setUp(self):
+        super().setUp()
+        self.write("crates.txt", "days: jiff\ntrials: days # last\ntest_days: days\n")
+        self.write("crates/days/src/lib.rt", LIBRARY)
+        self.write("crates/test_days/src/lib.rt", "mod examples;\n")
+        self.write("crates/test_days/src/examples.rt", TEST)
+        self.write("crates/test_days/README.md", TRIALS.replace("trials", "test_days"))
+        self.run_tool("--write")
+
+    def test_both_files_get_the_example(self):
+        lines = [f"//! {line}".rstrip() for line in LINES]
+        self.assertEqual(self.text("crates/days/src/lib.rt").splitlines(),
+                         ["//! Days.", "//!", "//! ```text", *lines, "//! ```", "//!", "//! More.", "#![tactic(auto)]"])
+        readme = self.text("crates/days/README.md")
+        source = ("The gate runs it. [`test_days/src/examples.rt`](../test_days/src/examples.rt) has the lines "
+                  "before it.")
+        block = "\n".join(["```rust", *LINES, "```"])
+        self.assertIn(f"\n## Example\n\n{source}\n\n{block}\n\n## Claims\n", readme)
+        self.assertEqual(self.run_tool("--check"), (0, "6 passed, 0 failed\n"))
+
+    def test_library_without_a_block(self):
+        self.write("crates/days/src/lib.rt", "//! Days.\n#![tactic(auto)]\n\nmod day;\n")
+        self.fails("days has another example in its src/lib.rt: run tools/proof/claims --write")
+        self.run_tool("--write")
+        self.assertTrue(self.text("crates/days/src/lib.rt").startswith("//! Days.\n//!\n//! ```text\n//! // a day\n"))
+        self.assertTrue(self.text("crates/days/src/lib.rt").endswith("//! ```\n#![tactic(auto)]\n\nmod day;\n"))
+
+    def test_files_that_differ(self):
+        for name in ("src/lib.rt", "README.md"):
+            text = self.text(f"crates/days/{name}")
+            self.write(f"crates/days/{name}", text.replace("number: 1,", "number: 2,"))
+            self.fails(f"days has another example in its {name}: run tools/proof/claims --write")
+            self.write(f"crates/days/{name}", text)
+
+    def test_test_that_changed(self):
+        self.write("crates/test_days/src/examples.rt", TEST.replace("number: 1,", "number: 2,"))
+        status, said = self.run_tool("--check")
+        self.assertEqual((status, said.splitlines()[-1]), (1, "5 passed, 1 failed"))
+        self.run_tool("--write")
+        self.assertIn("//!     number: 2,\n", self.text("crates/days/src/lib.rt"))
+        self.assertIn("\n    number: 2,\n", self.text("crates/days/README.md"))
+
+    def test_library_without_an_example(self):
+        self.write("crates/test_days/src/examples.rt", TEST.replace("// example of days", "// of days"))
+        self.fails("days has no example: // example of days, in a test crate")
+
+    def test_example_of_no_library(self):
+        self.write("crates/test_days/src/examples.rt", TEST + TEST.replace("example of days", "example of trials"))
+        self.fails("trials has an example, and is no library")
+
+    def test_two_examples(self):
+        self.write("crates/test_days/src/examples.rt", TEST + TEST)
+        self.fails("days has two examples")
 
 
 if __name__ == "__main__":
