@@ -61,7 +61,7 @@ fn is_unplanned(content: &Content) -> bool
 
 /// Whether nothing is planned before the long-term plan is created, and the bounds of the plans are such as it has
 /// after it.
-pub fn has_bounds(content: &Content) -> bool
+pub(crate) fn has_bounds(content: &Content) -> bool
     ensures { IsTrue result ↔ HasBounds (content_of content.now) }
 {
     match &content.bounds {

@@ -95,7 +95,7 @@ fn are_jobs(jobs: &[Job]) -> bool
 }
 
 /// Whether the kept jobs have numbers from 1 to the greatest, and replies that some changing statement gives.
-pub fn has_kept_jobs(content: &Content) -> bool
+pub(crate) fn has_kept_jobs(content: &Content) -> bool
     ensures { IsTrue result ↔ ((number : ℕ) (job : JobValue)
         → (content_of content.now).jobs number ≡ Some job
         → IsJob number job) }

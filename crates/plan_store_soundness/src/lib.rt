@@ -25,13 +25,4 @@ mod seats;
 mod sizes;
 mod sound;
 
-pub use bounds::has_bounds;
-pub use jobs::has_kept_jobs;
-pub use links::has_no_loop;
-pub use listing::placed_rows;
-pub use pairs::{has_closed_pairs, has_settled_pairs};
-pub use ranges::has_ranges;
-pub use rows::has_sound_rows;
-pub use rules::{has_arrivals, has_own_keys, is_numbered};
-pub use sizes::has_sizes;
 pub use sound::is_sound;

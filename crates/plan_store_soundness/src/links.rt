@@ -7,7 +7,7 @@ use plan_store::Content;
 use std::alloc::{AllocError, Global};
 
 /// Whether the lists in force have no loop over two or more applications.
-pub fn has_no_loop(alloc: Global, content: &Content) -> Result<bool, AllocError>
+pub(crate) fn has_no_loop(alloc: Global, content: &Content) -> Result<bool, AllocError>
     ensures { IfOk result (λ b. IsTrue b
         ↔ ((app : List ℕ) → OnLoop (content_of content.now).in_force app → ⊥)) }
 {

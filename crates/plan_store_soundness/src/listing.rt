@@ -43,7 +43,7 @@ fn push_deletions(all: &mut Vec<PlacedRow>, rows: &[Deletion]) -> Result<(), All
 }
 
 /// All rows, with their places.
-pub fn placed_rows(alloc: Global, content: &Content) -> Result<Vec<PlacedRow>, AllocError>
+pub(crate) fn placed_rows(alloc: Global, content: &Content) -> Result<Vec<PlacedRow>, AllocError>
     ensures { IfOk result (λ all. all.items ≡ placed_list content.now) }
 {
     let mut all = Vec::new(alloc);

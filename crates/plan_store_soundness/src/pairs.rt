@@ -9,10 +9,10 @@ ghost use Rattle.planner_machine.specs.Pairs.{ArePairs};
 ghost use Rattle.planner_machine.specs.Sound.{AreNumbered};
 ghost use Rattle.plan_store.specs.Contents.{content_of};
 ghost use Rattle.plan_store_soundness.specs.Closed.{AreFitting, is_closed_place};
+ghost use Rattle.plan_store_soundness.specs.Listing.{placed_list};
 ghost use Rattle.plan_store_soundness.specs.Pairs.{AreClosedPairs, FitsRows, HasComplete, IsClosedPlace, at_serial};
 
 use crate::closed::{have_no_ring, have_own_slots};
-use crate::listing::placed_rows;
 use crate::seats::{row_of, table_of};
 use external_dependencies::{Pair, Pairs, PlacedRow, pair_order, rising_is_unique};
 use occurrences::{Place, Row};
@@ -34,7 +34,7 @@ fn same_pairs(pairs: &Pairs, others: &Pairs) -> bool
 /// Whether the pairs are those that follow from the rows and the lists in force, where the rows are sound: of open
 /// occurrences those with their nearest predecessors, and no others but of occurrences that are live and no longer
 /// open.
-pub fn has_settled_pairs(alloc: Global, content: &Content) -> Result<bool, AllocError>
+pub(crate) fn has_settled_pairs(alloc: Global, content: &Content) -> Result<bool, AllocError>
     ensures { RowsSound (content_of content.now).sets → IfOk result (λ b. IsTrue b
         ↔ ArePairs (content_of content.now).pairs (content_of content.now).in_force
         (content_of content.now).sets (content_of content.now).pairs) }
@@ -132,12 +132,16 @@ fn are_fitting(
 
 /// Whether what is live and no longer open has only predecessors that are complete and arrive as they may, one of each
 /// application at most, and the pairs among such occurrences have no loop, where the rows are numbered.
-pub fn has_closed_pairs(alloc: Global, content: &Content) -> Result<bool, AllocError>
+pub(crate) fn has_closed_pairs(
+    alloc: Global,
+    content: &Content,
+    all: &[PlacedRow],
+) -> Result<bool, AllocError>
+    requires { all.now ≡ placed_list content.now }
     ensures { AreNumbered (content_of content.now).sets → IfOk result (λ b. IsTrue b
         ↔ AreClosedPairs (content_of content.now).sets (content_of content.now).pairs) }
 {
-    let all = placed_rows(alloc, content)?;
-    match table_of(alloc, content.issued, &all)? {
+    match table_of(alloc, content.issued, all)? {
         Some(table) => are_fitting(alloc, &table, content.pairs.as_slice()),
         None => Ok(false),
     }

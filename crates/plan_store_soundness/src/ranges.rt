@@ -10,10 +10,10 @@ ghost use Rattle.external_dependencies.specs.declared.links.Link.{Link as LinkVa
 ghost use Rattle.external_dependencies.specs.declared.rows.PlacedRow.{PlacedRow as PlacedValue};
 ghost use Rattle.planner_machine.specs.Sound.{AreNumbered, HasRanges, IsLink, IsOrigin, IsRow};
 ghost use Rattle.plan_store.specs.Contents.{content_of};
+ghost use Rattle.plan_store_soundness.specs.Listing.{placed_list};
 ghost use Rattle.plan_store_soundness.specs.Ranges.{HasBoundsInRange, HaveRanges, IsBoundsValue};
 
 use crate::jobs::is_name;
-use crate::listing::placed_rows;
 use app_definition_soundness::are_definitions;
 use external_dependencies::{Link, PlacedRow};
 use occurrences::{Origin, Row};
@@ -114,17 +114,23 @@ fn has_days(content: &Content) -> bool
 }
 
 // Whether the rows have the ranges and forms of rows, where they are numbered.
-fn have_ranges(alloc: Global, content: &Content) -> Result<bool, AllocError>
-    ensures { AreNumbered (content_of content.now).sets → IfOk result (λ b. IsTrue b
+fn have_ranges(content: &Content, all: &[PlacedRow]) -> bool
+    requires { all.now ≡ placed_list content.now }
+    ensures { AreNumbered (content_of content.now).sets → (IsTrue result
         ↔ HaveRanges (content_of content.now).sets) }
 {
-    let all = placed_rows(alloc, content)?;
-    Ok(are_rows(&all))
+    let _ = content;
+    are_rows(all)
 }
 
 /// Whether every value has its range and every name its form, and the definitions are such as data blocks give, where
 /// the rows are numbered.
-pub fn has_ranges(alloc: Global, content: &Content) -> Result<bool, AllocError>
+pub(crate) fn has_ranges(
+    alloc: Global,
+    content: &Content,
+    all: &[PlacedRow],
+) -> Result<bool, AllocError>
+    requires { all.now ≡ placed_list content.now }
     ensures { AreNumbered (content_of content.now).sets → IfOk result (λ b. IsTrue b
         ↔ HasRanges (content_of content.now)) }
 {
@@ -138,5 +144,5 @@ pub fn has_ranges(alloc: Global, content: &Content) -> Result<bool, AllocError>
     if !are_links(content.in_force.as_slice()) {
         return Ok(false);
     }
-    have_ranges(alloc, content)
+    Ok(have_ranges(content, all))
 }

@@ -17,7 +17,7 @@ fn are_sizes(rows: usize, issued: u32) -> bool
 
 /// Whether the long-term plan and the current plan together have no more rows than they may, and no more serials are
 /// issued than there are.
-pub fn has_sizes(content: &Content) -> bool
+pub(crate) fn has_sizes(content: &Content) -> bool
     ensures { AreNumbered (content_of content.now).sets → IsTrue result
         ↔ HaveSizes (content_of content.now).sets }
 {

@@ -1,12 +1,8 @@
-use Rattle.std.proofs.Common.{◌↔◌, ◌∙◌, List, subst, sym}
-use Rattle.std.specs.Prelude.{IsTrue}
+use Rattle.std.proofs.Common.{◌∙◌, List, subst, sym}
 use Rattle.std.specs.List.{All}
 use Rattle.std.proofs.lemmas.Bool.{false≢true}
-use Rattle.std.proofs.lemmas.Result.{IfOk-weaker}
 use Rattle.external_dependencies.specs.declared.links.Link.{Link}
-use Rattle.plan_store.specs.Contents.{content_of}
 use Rattle.planner_machine.specs.Sound.{IsLink}
-use Rattle.plan_store_soundness.specs.Ranges.{HaveRanges}
 use Rattle.plan_store_soundness.proofs.RangeLemmas.{links_from, links_to}
 use Rattle.plan_store_soundness.proofs.ranges.has_ranges.Goals as goal
 
@@ -33,8 +29,7 @@ returns-then-not-are_links c numbered = (
 pub returns : goal.returns
 returns c numbered =
     let kept = c.args.content.now in
-    IfOk-weaker c.have_ranges.result (λ b. IsTrue b ↔ HaveRanges (content_of kept).sets) _
-    (λ b tells. (
+    let tells = c.have_ranges.ensures numbered in (
       (λ yes. record {
         definitions = c.in_ok-definitions.ensures.0 c.if-not-definitions.false;
         rows = tells.0 yes;
@@ -43,4 +38,4 @@ returns c numbered =
             (c.are_links.ensures.0 c.if-not-are_links.false));
       }),
       λ ranges. tells.1 ranges.rows,
-    )) (c.have_ranges.ensures numbered)
+    )

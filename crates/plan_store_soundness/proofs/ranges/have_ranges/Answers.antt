@@ -1,8 +1,7 @@
-use Rattle.std.proofs.Common.{◌≡◌, ◌∙◌, List, subst, sym}
+use Rattle.std.proofs.Common.{List, subst, sym}
 use Rattle.std.specs.List.{All}
 use Rattle.external_dependencies.specs.declared.rows.PlacedRow.{PlacedRow}
 use Rattle.planner_machine.specs.Sound.{IsRow}
-use Rattle.plan_store_soundness.specs.Listing.{placed_list}
 use Rattle.plan_store_soundness.proofs.NumberedLemmas.{has_rows}
 use Rattle.plan_store_soundness.proofs.RangeLemmas.{ranges_from, ranges_to}
 use Rattle.plan_store_soundness.proofs.ranges.have_ranges.Goals as goal
@@ -10,8 +9,7 @@ use Rattle.plan_store_soundness.proofs.ranges.have_ranges.Goals as goal
 pub returns : goal.returns
 returns c numbered =
     let kept = c.args.content.now in
-    let all : c.deref.result.now ≡ placed_list kept = c.deref.ensures.value ∙ c.in_ok-all.ensures in
     let Are : List PlacedRow → Type 0 = λ l. All (λ (p : PlacedRow). IsRow p.row) l in (
-      λ yes. ranges_from kept (has_rows kept) (subst Are all (c.are_rows.ensures.0 yes)),
-      λ have. c.are_rows.ensures.1 (subst Are (sym all) (ranges_to kept (has_rows kept) numbered have)),
+      λ yes. ranges_from kept (has_rows kept) (subst Are c.requires (c.are_rows.ensures.0 yes)),
+      λ have. c.are_rows.ensures.1 (subst Are (sym c.requires) (ranges_to kept (has_rows kept) numbered have)),
     )

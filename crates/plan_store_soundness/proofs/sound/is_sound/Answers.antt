@@ -7,6 +7,15 @@ use Rattle.plan_store_soundness.specs.Pairs.{AreClosedPairs}
 use Rattle.plan_store_soundness.proofs.RuleLemmas.{closed_of, pairs_of, rows_of, rows_sound_of}
 use Rattle.plan_store_soundness.proofs.sound.is_sound.Goals as goal
 
+pub has_sound_rows-requires : goal.has_sound_rows-requires
+has_sound_rows-requires c = c.deref.ensures.value ∙ c.in_ok-all.ensures
+
+pub has_ranges-requires : goal.has_ranges-requires
+has_ranges-requires c = c.deref-2.ensures.value ∙ c.in_ok-all.ensures
+
+pub has_closed_pairs-requires : goal.has_closed_pairs-requires
+has_closed_pairs-requires c = c.deref-3.ensures.value ∙ c.in_ok-all.ensures
+
 pub returns-then-not-rows : goal.returns-then-not-rows
 returns-then-not-rows c = (
   (λ yes. absurd (false≢true yes)),
