@@ -134,7 +134,7 @@ impl Content {
     ghost use Rattle.plan_store.specs.Contents.{content_of};
     ghost use Rattle.plan_store.specs.Parts.{IsPartOf, followed_alone, is_followed, is_planned, rest_of};
     ghost use Rattle.plan_store.specs.Parts.{with_completed, with_deleted, with_rest};
-    ghost use Rattle.plan_store.specs.Room.{no_jobs};
+    ghost use Rattle.plan_store.specs.Room.{no_jobs, with_job_set};
     ghost use Rattle.plan_store.specs.Views.{bars};
 
     /// Whether the long-term plan or the current plan has an occurrence of the serial.
@@ -251,15 +251,19 @@ impl Content {
     }
 
     /// Drops what is stored elsewhere and that no statement needs at once: the kept jobs, the rows of history that are no
-    /// predecessors of what is planned, and the deletions that keep no key from being made. Where memory is refused the
-    /// rows stay.
-    pub fn keep_part(&mut self, alloc: Global)
+    /// predecessors of what is planned, and the deletions that keep no key from being made. If memory is refused, it
+    /// drops the jobs alone.
+    pub fn keep_part(&mut self, alloc: Global) -> Result<(), AllocError>
         ensures part { IsPartOf (rest_of (content_of self.old)) (content_of self.new) }
         ensures same { with_rest (rest_of (content_of self.old)) (content_of self.new)
             ≡ content_of self.old }
         ensures jobs { (content_of self.new).jobs ≡ no_jobs }
+        ensures ok { OnOk result (content_of self.new
+            ≡ followed_alone (with_job_set no_jobs (content_of self.old))) }
+        ensures err { OnErr result (content_of self.new
+            ≡ with_job_set no_jobs (content_of self.old)) }
     {
         self.jobs = Vec::new(alloc);
-        let _ = self.keep_followed(alloc);
+        self.keep_followed(alloc)
     }
 }
