@@ -81,7 +81,7 @@ module _ (s : Sets) (only : Option (List ℕ)) (named : List Draft) where
 
     pub changed_same : (changed : List Row) → AreChanged f looked changed → AreChanged f rows changed
     changed_same changed is = record {
-      from = λ x there. let (row, at, becomes) = is.from x there in (row, to_rows row at, becomes);
+      from = λ x there. let (row, at, becomes, other) = is.from x there in (row, to_rows row at, becomes, other);
       all = λ row x there becomes. elim (looked_or_so row there) [
         | inl at ↦ is.all row x at becomes
         | inr so ↦ let same : Some row ≡ Some x = sym so ∙ becomes in inr (one row x same)

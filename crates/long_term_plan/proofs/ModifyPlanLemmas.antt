@@ -1,8 +1,7 @@
 -- What a modification names, and what follows for the rows.
 use Rattle.std.proofs.Common.{◌≡◌, ◌↔◌, ℕ, ◌+◌, ◌≤◌, List, length, refl, sym, ap, subst, inl, inr, arith, Option, None}
 use Rattle.std.proofs.Common.{Some}
-use Rattle.std.specs.Prelude.{IsSome, filter, is_none}
-use Rattle.std.specs.List.{filter_map}
+use Rattle.std.specs.Prelude.{IsSome}
 use Rattle.work_calendars.specs.Day.{last_kept_day}
 use Rattle.app_occurrences.specs.Active.{IsActive}
 use Rattle.app_definition_records.specs.ByName.{AreNamesOf}
@@ -27,7 +26,6 @@ use Rattle.long_term_plan.specs.Modifying.{AreAsked, AreParted, AreTooMany, Look
 use Rattle.long_term_plan.specs.Modifying.{modified_sets, outcome}
 use Rattle.long_term_plan.proofs.ChangedLemmas.{looks_tests, planned_then}
 use Rattle.long_term_plan.proofs.DraftingLemmas.{same_drafts}
-use Rattle.long_term_plan.proofs.PartingLemmas.{mapped_all, mapped_has, mapped_once}
 
 -- all names of applications are asked where the statement looks at all
 pub asked_all : (all : Definitions) (apps : List (List ℕ)) → AreNamesOf apps all.applications → AreAsked all None apps
@@ -69,19 +67,6 @@ named_then c sound b planned only all defined names apps asked same last within 
     subst (λ (ds : Definitions). AreDrafts (NamesAhead (Looks only) ds (Some b)) named) defined ahead in
     subst (λ (o : Option Bounds). AreDrafts (NamesAhead (Looks only) c.definitions o) named) (sym planned) ahead'
 
--- the rows that stay, with all that don't, and as changed all that do
-parted : (becomes : Row → Option Row) (rows kept : List Row) → kept ≡ filter_map becomes rows
-    → AreParted becomes rows kept (filter (λ row. is_none (becomes row)) rows) (filter_map becomes rows)
-parted becomes rows kept stay = record {
-  stay = stay;
-  go = refl;
-  change = record {
-    from = λ x there. mapped_has becomes rows x there;
-    all = λ row x there is. inl (mapped_all becomes rows row x there is);
-    once = λ once keeps. mapped_once becomes keeps rows once;
-  };
-}
-
 module _ (c : Content) (sound : IsSound c) (only : Option (List ℕ)) (named new : List Draft) where
   pub stays_sound : (b : Bounds) → c.sets.bounds ≡ Some b → AreDrafts (IsMade (NamesThen c only) c.sets) new
       → RowsSound (modified_sets only named new c.sets)
@@ -91,12 +76,12 @@ module _ (c : Content) (sound : IsSound c) (only : Option (List ℕ)) (named new
       planned
       new are
 
-  pub too_many : (rows : List Row) → ListsSet of_row c.sets.ltp IsAny rows → (kept : List Row)
-      → kept ≡ filter_map (outcome only named) rows → (k n : ℕ) → k ≡ length kept → n ≡ length new
+  pub too_many : (rows : List Row) → ListsSet of_row c.sets.ltp IsAny rows → (kept gone changed : List Row)
+      → AreParted (outcome only named) rows kept gone changed → (k n : ℕ) → k ≡ length kept → n ≡ length new
       → AreTooMany c.sets k n ↔ HoldTooMany (modified_sets only named new c.sets)
-  too_many rows lists kept stay k n many made =
-      let counted = planned_then c.definitions c.sets (rows_sound c sound) rows lists only named kept _ _
-      (parted (outcome only named) rows kept stay) new in (
+  too_many rows lists kept gone changed parts k n many made =
+      let counted = planned_then c.definitions c.sets (rows_sound c sound) rows lists only named kept gone changed
+      parts new in (
         (λ over. elim over [
           | inl past ↦ inl (omega (arith, past, counted, many, made))
           | inr past ↦ inr (omega (arith, past, made))

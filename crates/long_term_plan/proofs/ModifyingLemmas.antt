@@ -138,7 +138,7 @@ module _ (c : Sets) (sound : RowsSound c) (rows : List Row) (lists : ListsSet of
         × (c.ltp serial ≡ Some row) × (f row ≡ Some y)
     changed_is serial y at =
         let (there, same) = look_some serial_of changed serial y at in
-        let (row, in_rows, becomes) = is.change.from y there in
+        let (row, in_rows, becomes, _) = is.change.from y there in
         (row, subst (λ n. c.ltp n ≡ Some row) (sym (self row y becomes) ∙ same) (stands row in_rows), becomes)
 
     -- a set serial by serial
@@ -245,14 +245,14 @@ module _ (c : Sets) (sound : RowsSound c) (rows : List Row) (lists : ListsSet of
       put_once = subst (HasEachOnce of_row) (sym put) (numbered_once c.issued new);
       goes = λ x there. stands x (gone_in x (subst (λ l. Contains l x) gone_is there)).0;
       changes = λ x there.
-          let (row, in_rows, becomes) = is.change.from x (subst (λ l. Contains l x) same_changed there) in
+          let (row, in_rows, becomes, _) = is.change.from x (subst (λ l. Contains l x) same_changed there) in
           let (serial, key) = stays_self only named row x becomes in (
             row,
             subst (λ n. c.ltp n ≡ Some row) (sym serial) (stands row in_rows),
             λ i. record { app = (sym key i).app; ia = (sym key i).ia; serial = sym serial i },
           );
       stays = λ x there.
-          let (row, in_rows, becomes) = is.change.from x (subst (λ l. Contains l x) same_changed there) in
+          let (row, in_rows, becomes, _) = is.change.from x (subst (λ l. Contains l x) same_changed there) in
           let at : c.ltp x.serial ≡ Some row =
           subst (λ n. c.ltp n ≡ Some row) (sym (self row x becomes)) (stands row in_rows) in
           let fails : goes row ≡ false = ap is_none becomes in

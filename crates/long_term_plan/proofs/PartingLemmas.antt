@@ -103,9 +103,9 @@ module _ (f : Row → Option Row) where
         is ∙ sym (append-nil (filter (λ r. is_none (f r)) front)) ∙ sym (gone_more (Some now) at)
 
     module _ (old : List Row) (is : AreChanged f front old) where
-      wider : (x : Row) → (r : Row) × Contains front r × (f r ≡ Some x)
-          → (r : Row) × Contains (front ++ row ∷ []) r × (f r ≡ Some x)
-      wider x (r, there, at) = (r, Contains-append_left front (row ∷ []) r there, at)
+      wider : (x : Row) → (r : Row) × Contains front r × (f r ≡ Some x) × (x ≢ r)
+          → (r : Row) × Contains (front ++ row ∷ []) r × (f r ≡ Some x) × (x ≢ r)
+      wider x (r, there, at, other) = (r, Contains-append_left front (row ∷ []) r there, at, other)
 
       -- one more row that doesn't change
       pub changed_skip : ((x : Row) → f row ≡ Some x → x ≡ row) → AreChanged f (front ++ row ∷ []) old
@@ -119,11 +119,12 @@ module _ (f : Row → Option Row) where
       }
 
       -- and one that does
-      pub changed_more : (now : Row) → f row ≡ Some now → AreChanged f (front ++ row ∷ []) (old ++ now ∷ [])
-      changed_more now at = record {
+      pub changed_more : (now : Row) → f row ≡ Some now → now ≢ row
+          → AreChanged f (front ++ row ∷ []) (old ++ now ∷ [])
+      changed_more now at other = record {
         from = λ x there. elim (Contains-push_cases old now x there) [
           | inl was ↦ wider x (is.from x was)
-          | inr same ↦ (row, Contains-push front row, at ∙ ap Some same)
+          | inr same ↦ (row, Contains-push front row, at ∙ ap Some same, λ so. other (same ∙ so))
         ];
         all = λ r x there becomes. elim (Contains-push_cases front row r there) [
           | inl was ↦ elim (is.all r x was becomes) [
@@ -134,7 +135,7 @@ module _ (f : Row → Option Row) where
         ];
         once = λ once keeps. all_pairs_push Apart old now (is.once (front_pairs Apart front row once) keeps)
             (λ k d lt same.
-            let (r, there, becomes) = is.from (get_or old k d) (Contains-get_or old k d lt) in
+            let (r, there, becomes, _) = is.from (get_or old k d) (Contains-get_or old k d lt) in
             last_pairs Apart front row once r there (sym (keeps r (get_or old k d) becomes) ∙ same ∙ keeps row now at));
       }
         where

@@ -68,9 +68,9 @@ pub record AreMet (rows : List Row) (named : List Draft) (met : List Bool) : Typ
   pub says : (i : ℕ) (draft : Draft) → i < length named → slice_index_or named i draft ≡ draft
       → (slice_index_or met i false ≡ true) ↔ HasKey rows draft.key
 
--- of the rows that stay those that change, and perhaps others that stay
+-- of the rows that stay those that change, and no others
 pub record AreChanged (becomes : Row → Option Row) (rows changed : List Row) : Type 0 where
-  pub from : (x : Row) → Contains changed x → (row : Row) × Contains rows row × (becomes row ≡ Some x)
+  pub from : (x : Row) → Contains changed x → (row : Row) × Contains rows row × (becomes row ≡ Some x) × (x ≢ row)
   pub all : (row x : Row) → Contains rows row → becomes row ≡ Some x → Contains changed x ⊎ (x ≡ row)
   pub once : HasEachOnce of_row rows → ((row x : Row) → becomes row ≡ Some x → x.serial ≡ row.serial)
       → HasEachOnce of_row changed

@@ -18,7 +18,7 @@ use Rattle.plan_store_pairs.specs.LiveRows.{HasLists}
 use Rattle.plan_store_pairs.specs.Turns.{ArePlanned}
 use Rattle.long_term_plan.specs.Drafting.{AreNew, ArePlannedKeys, DraftsRise}
 use Rattle.long_term_plan.specs.Making.{numbered}
-use Rattle.long_term_plan.specs.Modifying.{AreChanged, AreMet, IsModifiedOrTooMany, ModifiesRows, NamesThen}
+use Rattle.long_term_plan.specs.Modifying.{AreChanged, AreMet, AreParted, IsModifiedOrTooMany, ModifiesRows, NamesThen}
 use Rattle.long_term_plan.specs.Modifying.{PartsPlan}
 use Rattle.long_term_plan.specs.Modifying.{modified_sets, outcome}
 use Rattle.long_term_plan.proofs.ChangedLemmas.{lists_then}
@@ -91,7 +91,13 @@ returns-then-are_too_many c h sound sees known planned deleted =
     ap (λ (l : List Row). length kept + length l) (c.deref-4.ensures.value ∙ go) ∙ counts (outcome only named) rows
     ∙ c.ltp-rows.ensures.count h sound.serials in
     let tested = c.are_too_many.ensures.too_many h sound (length kept) counted in
-    let many = too_many content sound only named new rows c.ltp-rows.ensures.rows kept refl (length kept)
+    let change : AreChanged (outcome only named) rows changed =
+    changed_same content.sets only named rows c.ltp-rows.ensures.rows looked c.looked_rows-looked.ensures changed
+    (subst (λ (ds : List Draft). DraftsRise ds → AreChanged (outcome only ds) looked changed) c.deref.ensures.value
+    c.in_ok-parted.ensures.changed are_named.rising) in
+    let split : AreParted (outcome only named) rows kept gone changed =
+    record { stay = refl; go = go; change = change } in
+    let many = too_many content sound only named new rows c.ltp-rows.ensures.rows kept gone changed split (length kept)
     (length c.deref-5.result.now) refl (ap length c.deref-5.ensures.value) in
     record {
       named = named;
@@ -145,17 +151,19 @@ returns c = weaker c.change_rows.result _ _ (λ verdict made h sound sees known 
     ap (λ (l : List Row). length kept + length l) (c.deref-4.ensures.value ∙ go) ∙ counts (outcome only named) rows
     ∙ c.ltp-rows.ensures.count h sound.serials in
     let tested = c.are_too_many.ensures.too_many h sound (length kept) counted in
-    let many = too_many content sound only named new rows c.ltp-rows.ensures.rows kept refl (length kept)
-    (length c.deref-5.result.now) refl (ap length c.deref-5.ensures.value) in
     let change : AreChanged (outcome only named) rows changed =
     changed_same content.sets only named rows c.ltp-rows.ensures.rows looked c.looked_rows-looked.ensures changed
     (subst (λ (ds : List Draft). DraftsRise ds → AreChanged (outcome only ds) looked changed) c.deref.ensures.value
     c.in_ok-parted.ensures.changed are_named.rising) in
+    let split : AreParted (outcome only named) rows kept gone changed =
+    record { stay = refl; go = go; change = change } in
+    let many = too_many content sound only named new rows c.ltp-rows.ensures.rows kept gone changed split (length kept)
+    (length c.deref-5.result.now) refl (ap length c.deref-5.ensures.value) in
     let parts : PartsPlan content.sets only named kept gone changed =
     record {
       rows = rows;
       lists = c.ltp-rows.ensures.rows;
-      parts = record { stay = refl; go = go; change = change };
+      parts = split;
     } in
     let s = modified_sets only named new content.sets in
     let put : c.in_ok-put.put.items ≡ numbered content.sets.issued new =

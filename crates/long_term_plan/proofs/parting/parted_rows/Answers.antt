@@ -1,6 +1,7 @@
 use Rattle.std.proofs.Common.{◌≡◌, ◌+◌, ◌++◌, ◌∷◌, ◌∙◌, [], Option, false, length, replicate, ap}
 use Rattle.std.proofs.Common.{arith, filter, refl, rules, subst, sym, take, None, Some}
 use Rattle.std.specs.Prelude.{is_none}
+use Rattle.std.proofs.lemmas.Bool.{false≢true}
 use Rattle.std.proofs.lemmas.List.{length-replicate, take_all, take_more}
 use Rattle.occurrences.specs.declared.row.Row.{Row}
 use Rattle.planner_machine.specs.declared.content.Draft.{Draft}
@@ -54,9 +55,11 @@ loop-row-preserved c =
     ] in
     let changed : DraftsRise named → AreChanged f (so_far ++ row ∷ []) c.match-outcome_with.changed.items =
     λ order. elim c.match-outcome_with.branch [
-      | in-Some+then-not-is_same+in_ok-push-in-Some w ↦ rw (w.changed-is, w.in_ok-push-in-Some.ensures.items)
+      | in-Some+then-not-is_same+in_ok-push-in-Some w ↦
+          let other : w.is_same.result ≡ false = search rules in
+          rw (w.changed-is, w.in_ok-push-in-Some.ensures.items)
           (changed_more f so_far row c.loop-row.changed.items (c.loop-row.invariant.changed order) w.in-Some.now
-          (becomes order ∙ w.in-Some.is))
+          (becomes order ∙ w.in-Some.is) (λ same. false≢true (sym other ∙ w.is_same.ensures.1 same)))
       | in-Some+else-not-is_same w ↦
           let same : w.in-Some.now ≡ row = w.is_same.ensures.0 (search rules) in
           rw w.changed-is (changed_skip f so_far row c.loop-row.changed.items (c.loop-row.invariant.changed order)
