@@ -34,8 +34,8 @@ use Rattle.long_term_plan.specs.Making.{MakesSets, numbered}
 use Rattle.long_term_plan.specs.Modifying.{AreParted, Looks, looks, modified_sets, outcome}
 use Rattle.long_term_plan.proofs.DeleteLemmas.{serial_is}
 use Rattle.long_term_plan.proofs.MakingLemmas.{cp_stays, deletions_stay, history_stays, ltp_gains}
-use Rattle.long_term_plan.proofs.ModifyingLemmas.{count_planned, fits_parted, gone_in, gone_look, gone_once}
-use Rattle.long_term_plan.proofs.ModifyingLemmas.{look_withdrawn, moved_ltp, once_withdrawn, planned_has}
+use Rattle.long_term_plan.proofs.ModifyingLemmas.{changed_other, count_planned, fits_parted, gone_in, gone_look}
+use Rattle.long_term_plan.proofs.ModifyingLemmas.{gone_once, look_withdrawn, moved_ltp, once_withdrawn, planned_has}
 use Rattle.long_term_plan.proofs.NumberLemmas.{made_listed, numbered_high, numbered_look, numbered_made, planned_after}
 
 -- the test of applications says what the relation says
@@ -238,6 +238,11 @@ module _ (c : Content) (sound : IsSound c) (links : List Link) (rows : List Row)
   modifying_is = record {
     fits = fits;
     sets = sets_are;
+    changed = λ x there. changed_other c.sets own rows lists only named planned gone changed is x
+        (subst (λ l. Contains l x) m.changed there);
+    cp = m.cp;
+    history = m.history;
+    deletions = m.none_changed;
     in_force = m.in_force;
     pairs = m.pairs;
     leads = m.leads;

@@ -28,6 +28,7 @@ use Rattle.plan_store.specs.Changes.{sets_after}
 use Rattle.plan_store.specs.Views.{IsAny, ListsSet}
 use Rattle.plan_store.specs.declared.changes.Change.{Change}
 use Rattle.plan_store.specs.declared.changes.DefinitionChange.TheVariants.{AsBefore}
+use Rattle.plan_store_pairs.proofs.ListLemmas.{none}
 use Rattle.plan_store_pairs.specs.LiveRows.{AreCompleted, HasLists}
 use Rattle.plan_store_pairs.proofs.RowLemmas.{of_set}
 use Rattle.long_term_plan.specs.Drafting.{AreNew, NamesFor}
@@ -186,6 +187,10 @@ module _ (c : Content) (sound : IsSound c) (b : Bounds) (links : List Link) (new
   making_is = record {
     fits = making_fits;
     sets = sets_are;
+    changed = λ x there. absurd (none x (subst (λ l. Contains l x) is.unchanged there));
+    cp = is.cp;
+    history = is.history;
+    deletions = is.deletions.changed;
     in_force = is.in_force;
     pairs = is.pairs;
     leads = is.leads;

@@ -1,6 +1,6 @@
 -- What a modification changes, and what it makes of the sets.
-use Rattle.std.proofs.Common.{◌≡◌, ◌↔◌, ℕ, ◌≤◌, Bool, true, false, List, [], ◌∷◌, length, filter, map, refl, sym, ap}
-use Rattle.std.proofs.Common.{subst, ◌∙◌, inl, inr, Option, None, Some, cond}
+use Rattle.std.proofs.Common.{◌≡◌, ◌≢◌, ◌↔◌, ℕ, ◌≤◌, Bool, true, false, List, [], ◌∷◌, length, filter, map, refl, sym}
+use Rattle.std.proofs.Common.{ap, subst, ◌∙◌, inl, inr, Option, None, Some, cond}
 use Rattle.std.specs.Prelude.{is_none, is_some, nat_eq, option_map, if◌then◌else◌}
 use Rattle.std.specs.List.{Contains}
 use Rattle.std.specs.Option.{option_and_then}
@@ -140,6 +140,14 @@ module _ (c : Sets) (sound : RowsSound c) (rows : List Row) (lists : ListsSet of
         let (there, same) = look_some serial_of changed serial y at in
         let (row, in_rows, becomes, _) = is.change.from y there in
         (row, subst (λ n. c.ltp n ≡ Some row) (sym (self row y becomes) ∙ same) (stands row in_rows), becomes)
+
+    -- and isn't there as it is
+    pub changed_other : (x : Row) → Contains changed x → c.ltp x.serial ≢ Some x
+    changed_other x there at =
+        let (row, in_rows, becomes, other) = is.change.from x there in
+        let both : Some row ≡ Some x =
+        sym (stands row in_rows) ∙ subst (λ n. c.ltp n ≡ Some x) (self row x becomes) at in
+        let one : row ≡ x = cc in other (sym one)
 
     -- a set serial by serial
     pub moved_ltp : (serial : ℕ) (o : Option Row) → c.ltp serial ≡ o → (p : Option Row)

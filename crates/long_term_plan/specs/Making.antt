@@ -1,5 +1,5 @@
 -- What statements that make rows of the long-term plan change.
-use Rattle.std.specs.Prelude.{◌≡◌, ℕ, suc, ◌+◌, List, [], ◌∷◌, length, Option, None, Some}
+use Rattle.std.specs.Prelude.{◌≡◌, ◌≢◌, ℕ, suc, ◌+◌, List, [], ◌∷◌, Contains, length, Option, None, Some}
 use Rattle.app_occurrences.specs.Active.{HasNoCalendar, HasNoPeriod, IsLeastName}
 use Rattle.app_definitions.specs.declared.definitions.Definitions.{Definitions}
 use Rattle.occurrences.specs.declared.place.Place.TheVariants.{LongTerm}
@@ -16,7 +16,7 @@ use Rattle.planner_machine.specs.Moves.{numbered_row, with_bounds, with_made}
 use Rattle.planner_machine.specs.Pairs.{ArePairs}
 use Rattle.planner_machine.specs.Plans.{HoldTooMany}
 use Rattle.planner_machine.specs.RowsSound.{RowsSound}
-use Rattle.plan_store.specs.Changes.{Fits, LeadsOn, pairs_after, sets_after}
+use Rattle.plan_store.specs.Changes.{Fits, LeadsOn, MovesNothing, pairs_after, sets_after}
 use Rattle.plan_store.specs.declared.changes.Change.{Change}
 use Rattle.plan_store.specs.declared.changes.DefinitionChange.TheVariants.{AsBefore}
 use Rattle.plan_store.specs.declared.changes.Verdict.{Verdict}
@@ -48,10 +48,14 @@ abbrev pub planned_sets : Bounds → List Draft → Sets → Sets
 planned_sets b new s = with_made LongTerm new (with_bounds b s)
 
 -- the content admits the change, which makes these sets, puts the lists into force and lets the pairs follow; all else
--- stays
+-- stays, and no row is written that doesn't change
 pub record MakesSets (c : Content) (s : Sets) (links : List Link) (change : Change) : Type 0 where
   pub fits : Fits change c
   pub sets : sets_after change c.sets ≡ s
+  pub changed : (x : Row) → Contains change.ltp.changed.items x → c.sets.ltp x.serial ≢ Some x
+  pub cp : MovesNothing change.cp
+  pub history : MovesNothing change.history
+  pub deletions : change.deletions.changed.items ≡ []
   pub in_force : change.in_force ≡ Some links
   pub pairs : ArePairs c.pairs links s (pairs_after change.pairs c.pairs)
   pub leads : LeadsOn c.pairs change.pairs
