@@ -32,7 +32,7 @@ GROUPS = {
     "Job streams, before they are run and after:": ("lint", "check", "what-if", "run", "send", "explain", "next-job"),
     "Definitions of a plan, as job streams:": ("init", "dump", "edit", "import"),
     "One plan for many callers:": ("desk", "log", "journal", "agent"),
-    "A plan that goes on by itself:": ("roll", "watch"),
+    "An unattended plan:": ("roll", "watch"),
     "Copies of a plan:": ("backup", "restore"),
 }
 SUBCOMMANDS = [name for names in GROUPS.values() for name in names]
