@@ -1,11 +1,10 @@
 -- Numbers and words of a line.
-use Rattle.std.proofs.Common.{◌≡◌, ◌∙◌, ℕ, ◌+◌, ◌<◌, ◌^◌, ◌%◌, List, [], ◌∷◌, ◌++◌, refl, sym, ap, arith, eqb, false, suc}
-use Rattle.std.proofs.Common.{Bool, true, Option, Some, Result, Ok, Err, subst, cond, take, drop, append_assoc, ◌≤◌}
+use Rattle.std.proofs.Common.{◌≡◌, ◌∙◌, ℕ, ◌+◌, ◌<◌, ◌^◌, ◌%◌, List, [], ◌∷◌, ◌++◌, refl, ap, arith, eqb, false, suc}
+use Rattle.std.proofs.Common.{Bool, true, Result, Ok, Err, subst, cond, take, drop, append_assoc}
 use Rattle.std.specs.Str.{IsAscii, IsUtf8}
 use Rattle.std.proofs.lemmas.Str.Ascii.{IsAscii-cons, IsAscii-nil}
 use Rattle.std.proofs.lemmas.Fmt.{IsAscii-decimal}
 use Rattle.std.proofs.lemmas.Str.{IsUtf8-append, IsUtf8-from_ascii, IsUtf8-nil}
-use Rattle.work_calendars.specs.Name.{IsName}
 use Rattle.work_calendars.proofs.NameFacts.{IsUtf8-name}
 use Rattle.occurrences.specs.Status.{status_letter}
 use Rattle.occurrences.specs.declared.refusal.Refusal.{Refusal}
@@ -22,7 +21,7 @@ use Rattle.std.specs.Fmt.{decimal}
 use Rattle.std.specs.List.{AllByRecursion, position_or_len}
 use Rattle.std.proofs.lemmas.Bool.Decides.{nat_tests}
 use Rattle.std.proofs.lemmas.Fmt.{decimal_by_steps}
-use Rattle.plan_tables_loading.specs.Lines.{IsDetailed, back, changed_text, front, made_text, moved_text}
+use Rattle.plan_tables_loading.specs.Lines.{back, behind_two, front}
 
 abbrev IsSolid : List ℕ → Type 0
 IsSolid ds = AllByRecursion (λ b. eqb b 32 ≡ false) ds
@@ -75,89 +74,20 @@ number_first text n rest small is = ap front is ∙ front_solid (decimal n) rest
 pub number_alone : (text : List ℕ) (n : ℕ) → n < 2 ^ 64 → text ≡ decimal n → front text ≡ decimal n
 number_alone text n small is = ap front is ∙ front_whole (decimal n) (solid n small)
 
-pub behind_number : (text : List ℕ) (n : ℕ) (rest : List ℕ) → n < 2 ^ 64 → text ≡ decimal n ++ 32 ∷ rest
+behind_number : (text : List ℕ) (n : ℕ) (rest : List ℕ) → n < 2 ^ 64 → text ≡ decimal n ++ 32 ∷ rest
     → back text ≡ rest
 behind_number text n rest small is = ap back is ∙ back_solid (decimal n) rest (solid n small)
 
 pub behind_alone : (text : List ℕ) (n : ℕ) → n < 2 ^ 64 → text ≡ decimal n → back text ≡ []
 behind_alone text n small is = ap back is ∙ back_whole (decimal n) (solid n small)
 
+-- what stands behind a number and a word
+pub behind_word : (text : List ℕ) (n : ℕ) (rest : List ℕ) → n < 2 ^ 64 → text ≡ decimal n ++ 32 ∷ rest
+    → behind_two text ≡ back rest
+behind_word text n rest small is = ap (λ l. back l) (behind_number text n rest small is)
+
 pub shown_small : (n : ℕ) → IsShown n → n < 2 ^ 64
 shown_small n is = omega (arith, is)
-
--- no reply has a line that is none of those that were made of it
-pub no_reply : (line text : List ℕ) (names : ℕ) (made moved : Reply) (occurred : Option Reply)
-    → text ≡ back (back line)
-    → ((n : ℕ) → n < 2 ^ 64 → front text ≡ decimal n → names ≡ n)
-    → ((m w : ℕ) → m < 2 ^ 64 → w < 2 ^ 64 → text ≡ made_text m w → made ≡ reply.Made m w)
-    → ((m a k d : ℕ) → m < 2 ^ 64 → a < 2 ^ 64 → k < 2 ^ 64 → d < 2 ^ 64 → text ≡ moved_text m a k d
-    → moved ≡ reply.Moved m a k d)
-    → ((n : ℕ) → IsShown n → text ≡ decimal n → occurred ≡ Some (reply.Numbered n))
-    → ((n : ℕ) (s : Status) → IsShown n → text ≡ changed_text n s → occurred ≡ Some (reply.Changed n s))
-    → (reply_text (reply.Defined names) ≡ line → ⊥) → (reply_text reply.Undefined ≡ line → ⊥)
-    → (reply_text made ≡ line → ⊥) → (reply_text moved ≡ line → ⊥)
-    → ((r : Reply) → occurred ≡ Some r → reply_text r ≡ line → ⊥)
-    → (r : Reply) → IsKeptReply (Ok r) → reply_text r ≡ line → ⊥
-no_reply line text names made moved occurred at count making moving number change a b c d e (reply.Defined n) kept is =
-    let behind : text ≡ decimal n = at ∙ ap (λ l. back (back l)) (sym is) in
-    a (ap (λ k. reply_text (reply.Defined k)) (count n (shown_small n kept) (number_alone text n (shown_small n kept)
-    behind)) ∙ is)
-no_reply line text names made moved occurred at count making moving number change a b c d e reply.Undefined kept is =
-    b is
-no_reply line text names made moved occurred at count making moving number change a b c d e (reply.Made m w) kept is =
-    let behind : text ≡ made_text m w = at ∙ ap (λ l. back (back l)) (sym is) in
-    c (ap reply_text (making m w (shown_small m kept.0) (shown_small w kept.1) behind) ∙ is)
-no_reply line text names made moved occurred at count making moving number change a b c d e (reply.Numbered n) kept is =
-    let behind : text ≡ decimal n = at ∙ ap (λ l. back (back l)) (sym is) in
-    e (reply.Numbered n) (number n kept behind) is
-no_reply line text names made moved occurred at count making moving number change a b c d e (reply.Changed n s) kept is =
-    let behind : text ≡ changed_text n s = at ∙ ap (λ l. back (back l)) (sym is)
-    ∙ append_assoc (decimal n) (codes " status ") (status_letter s ∷ []) in
-    e (reply.Changed n s) (change n s kept behind) is
-no_reply line text names made moved occurred at count making moving number change a b c d e (reply.Moved m f k g) kept is =
-    let one = counted (codes " carried") f in
-    let two = counted (codes " completed") k in
-    let three = counted (codes " deleted") g in
-    let behind : text ≡ moved_text m f k g = at ∙ ap (λ l. back (back l)) (sym is)
-    ∙ append_assoc (decimal m ++ one) two three ∙ append_assoc (decimal m) one (two ++ three) in
-    d (ap reply_text (moving m f k g (shown_small m kept.0) (shown_small f kept.1) (shown_small k kept.2)
-    (shown_small g kept.3) behind) ∙ is)
-no_reply line text names made moved occurred at count making moving number change a b c d e (reply.Rows n) kept is =
-    absurd kept
-
--- the detail of a refusal
-pub behind_refused : (line : List ℕ) (k : ℕ) (rest : List ℕ) → k < 2 ^ 64
-    → counted (codes "refused") k ++ 32 ∷ rest ≡ line → back (back line) ≡ rest
-behind_refused line k rest small is =
-    ap (λ l. back (back l)) (sym is) ∙ back_solid (decimal k) rest (solid k small)
-
--- the same of refusals with a detail
-pub no_detail : (line detail : List ℕ) → detail ≡ back (back line)
-    → ((n : ℕ) → IsShown n → refusal_text (refusal.PredecessorUncompleted n) ≡ line → ⊥)
-    → ((app : List ℕ) → IsName app → detail ≡ app → refusal_text (refusal.CalendarUndefined app) ≡ line → ⊥)
-    → ((app : List ℕ) → IsName app → detail ≡ app → refusal_text (refusal.PeriodUndefined app) ≡ line → ⊥)
-    → ((app : List ℕ) → IsName app → detail ≡ app → refusal_text (refusal.Loop app) ≡ line → ⊥)
-    → (r : Refusal) → IsKeptReply (Err r) → IsDetailed r → refusal_text r ≡ line → ⊥
-no_detail line detail at s c p l (refusal.CalendarUndefined app) kept is_d is =
-    c app kept (at ∙ behind_refused line 22 app (omega arith) is) is
-no_detail line detail at s c p l (refusal.PeriodUndefined app) kept is_d is =
-    p app kept (at ∙ behind_refused line 23 app (omega arith) is) is
-no_detail line detail at s c p l (refusal.Loop app) kept is_d is =
-    l app kept (at ∙ behind_refused line 25 app (omega arith) is) is
-no_detail line detail at s c p l (refusal.PredecessorUncompleted n) kept is_d is = s n kept is
-no_detail line detail at s c p l refusal.NotAStatement kept is_d is = absurd is_d
-no_detail line detail at s c p l (refusal.FaultyData n) kept is_d is = absurd is_d
-no_detail line detail at s c p l refusal.JobWithAnotherText kept is_d is = absurd is_d
-no_detail line detail at s c p l refusal.NotDefined kept is_d is = absurd is_d
-no_detail line detail at s c p l refusal.NoPlan kept is_d is = absurd is_d
-no_detail line detail at s c p l refusal.PlanExists kept is_d is = absurd is_d
-no_detail line detail at s c p l refusal.DatesOutOfRange kept is_d is = absurd is_d
-no_detail line detail at s c p l refusal.NoActiveApplication kept is_d is = absurd is_d
-no_detail line detail at s c p l refusal.KeyIsLive kept is_d is = absurd is_d
-no_detail line detail at s c p l refusal.NoSuchOccurrence kept is_d is = absurd is_d
-no_detail line detail at s c p l refusal.StatusForbids kept is_d is = absurd is_d
-no_detail line detail at s c p l refusal.TooManyRows kept is_d is = absurd is_d
-no_detail line detail at s c p l refusal.PlanEndOutOfRange kept is_d is = absurd is_d
 
 -- ---- lines are text
 

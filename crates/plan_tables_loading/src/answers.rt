@@ -1,19 +1,14 @@
 // The reply lines of jobs.
 
-ghost use Rattle.std.specs.Prelude.{◌≡◌, ◌↔◌, ◌<◌, ◌^◌, ◌∷◌, [], ℕ, None, Some, Result, Ok, Err, IfOk, IfSome, IsTrue};
+ghost use Rattle.std.specs.Prelude.{◌≡◌, ◌↔◌, ◌<◌, ◌^◌, ◌∷◌, [], ℕ, None, Some, Result, Ok, IfOk, IfSome, IsTrue};
 ghost use Rattle.std.specs.Fmt.{decimal};
-ghost use Rattle.std.specs.List.{All};
 ghost use Rattle.occurrences.specs.Status.{status_letter};
 ghost use Rattle.occurrences.specs.declared.refusal.Refusal.{Refusal as RefusalValue};
-ghost use Rattle.occurrences.specs.declared.refusal.Refusal.TheVariants.{CalendarUndefined, PeriodUndefined, Loop};
-ghost use Rattle.occurrences.specs.declared.refusal.Refusal.TheVariants.{PredecessorUncompleted};
 ghost use Rattle.occurrences.specs.declared.reply.Reply.{Reply as ReplyValue};
-ghost use Rattle.occurrences.specs.declared.reply.Reply.TheVariants.{Made, Moved, Numbered, Changed};
 ghost use Rattle.occurrences.specs.declared.status.Status.{Status as StatusValue};
-ghost use Rattle.plan_listings.specs.Reply.{refusal_text, reply_text};
 ghost use Rattle.planner_machine.specs.Sound.{IsKeptReply, IsShown};
 ghost use Rattle.plan_tables_content.specs.Content.{answer_text};
-ghost use Rattle.plan_tables_loading.specs.Lines.{IsDetailed, back, bare_refusals, changed_text, front, made_text, moved_text};
+ghost use Rattle.plan_tables_loading.specs.Lines.{IsChosen, IsMade, IsMoved, IsOccurrence, back, behind_two, front};
 
 use occurrences::{Refusal, Reply, Status};
 use plan_tables_content::answer_line;
@@ -34,7 +29,7 @@ fn split(text: &str) -> (&str, &str)
 
 // What follows the first two words.
 fn behind_two(text: &str) -> &str
-    ensures { result.now ≡ back (back text.now) }
+    ensures { result.now ≡ behind_two text.now }
 {
     let (_, text) = split(text);
     let (_, text) = split(text);
@@ -68,42 +63,38 @@ fn status_in(text: &str) -> Option<Status>
 }
 
 // The numbers of occurrences made and withdrawn.
-fn made_in(text: &str) -> Reply
-    ensures { (m w : ℕ) → m < 2 ^ 64 → w < 2 ^ 64 → text.now ≡ made_text m w → result ≡ Made m w }
+fn made_in(text: &str) -> Option<Answer>
+    ensures { IsMade text.now result }
 {
-    Reply::Made {
+    Some(Ok(Reply::Made {
         made: count_in(text),
         withdrawn: count_in(behind_two(text)),
-    }
+    }))
 }
 
 // The numbers of occurrences moved, carried, completed and deleted.
-fn moved_in(text: &str) -> Reply
-    ensures { (m a k d : ℕ) → m < 2 ^ 64 → a < 2 ^ 64 → k < 2 ^ 64 → d < 2 ^ 64
-        → text.now ≡ moved_text m a k d
-        → result ≡ Moved m a k d }
+fn moved_in(text: &str) -> Option<Answer>
+    ensures { IsMoved text.now result }
 {
     let carried = behind_two(text);
     let completed = behind_two(carried);
     let deleted = behind_two(completed);
-    Reply::Moved {
+    Some(Ok(Reply::Moved {
         moved: count_in(text),
         carried: count_in(carried),
         completed: count_in(completed),
         deleted: count_in(deleted),
-    }
+    }))
 }
 
 // The serial of an occurrence, and the status that may follow it.
-fn occurrence_in(text: &str) -> Option<Reply>
-    ensures numbered { (n : ℕ) → IsShown n → text.now ≡ decimal n → result ≡ Some (Numbered n) }
-    ensures changed { (n : ℕ) (s : StatusValue) → IsShown n → text.now ≡ changed_text n s
-        → result ≡ Some (Changed n s) }
+fn occurrence_in(text: &str) -> Option<Answer>
+    ensures { IsOccurrence text.now result }
 {
     let serial = serial_in(text)?;
     match status_in(behind_two(text)) {
-        Some(status) => Some(Reply::Changed { serial, status }),
-        None => Some(Reply::Numbered { serial }),
+        Some(status) => Some(Ok(Reply::Changed { serial, status })),
+        None => Some(Ok(Reply::Numbered { serial })),
     }
 }
 
@@ -127,103 +118,41 @@ fn if_line(alloc: Global, answer: Answer, line: &str) -> Result<Option<Answer>, 
     }
 }
 
-// The reply whose line this is.
-fn decode_reply(alloc: Global, line: &str) -> Result<Option<Answer>, AllocError>
-    ensures value { IfOk result (λ found. IfSome found (λ answer. answer_text answer ≡ line.now)) }
-    ensures none { IfOk result (λ found. found ≡ None → (reply : ReplyValue)
-        → IsKeptReply (Ok reply)
-        → reply_text reply ≡ line.now → ⊥) }
+// The answer whose line has this second word, and this text after it, if a kept job can have it.
+fn answer_in(word: &str, text: &str) -> Option<Answer>
+    ensures { IsChosen word.now text.now result }
 {
-    let text = behind_two(line);
-    let names = count_in(text);
-    if let Some(found) = if_line(alloc, Ok(Reply::Defined { names }), line)? {
-        return Ok(Some(found));
-    }
-    if let Some(found) = if_line(alloc, Ok(Reply::Undefined), line)? {
-        return Ok(Some(found));
-    }
-    if let Some(found) = if_line(alloc, Ok(made_in(text)), line)? {
-        return Ok(Some(found));
-    }
-    if let Some(found) = if_line(alloc, Ok(moved_in(text)), line)? {
-        return Ok(Some(found));
-    }
-    match occurrence_in(text) {
-        Some(reply) => if_line(alloc, Ok(reply), line),
-        None => Ok(None),
-    }
-}
-
-// The refusal of an application whose line this is.
-fn decode_app(alloc: Global, app: App, line: &str) -> Result<Option<Answer>, AllocError>
-    ensures value { IfOk result (λ found. IfSome found (λ answer. answer_text answer ≡ line.now)) }
-    ensures calendar { IfOk result (λ found. found ≡ None
-        → refusal_text (CalendarUndefined app) ≡ line.now → ⊥) }
-    ensures period { IfOk result (λ found. found ≡ None
-        → refusal_text (PeriodUndefined app) ≡ line.now → ⊥) }
-    ensures loops { IfOk result (λ found. found ≡ None → refusal_text (Loop app) ≡ line.now → ⊥) }
-{
-    if let Some(found) = if_line(alloc, Err(Refusal::CalendarUndefined { app }), line)? {
-        return Ok(Some(found));
-    }
-    if let Some(found) = if_line(alloc, Err(Refusal::PeriodUndefined { app }), line)? {
-        return Ok(Some(found));
-    }
-    if_line(alloc, Err(Refusal::Loop { app }), line)
-}
-
-// The refusal without a detail whose line this is.
-fn decode_bare(alloc: Global, line: &str) -> Result<Option<Answer>, AllocError>
-    ensures value { IfOk result (λ found. IfSome found (λ answer. answer_text answer ≡ line.now)) }
-    ensures none { IfOk result (λ found. found ≡ None
-        → All (λ (refusal : RefusalValue). refusal_text refusal ≡ line.now
-        → ⊥) bare_refusals) }
-{
-    let bare = [
-        Refusal::NotDefined,
-        Refusal::NoPlan,
-        Refusal::PlanExists,
-        Refusal::DatesOutOfRange,
-        Refusal::NoActiveApplication,
-        Refusal::KeyIsLive,
-        Refusal::NoSuchOccurrence,
-        Refusal::StatusForbids,
-        Refusal::TooManyRows,
-        Refusal::PlanEndOutOfRange,
-    ];
-    for refusal in &bare {
-        if let Some(found) = if_line(alloc, Err(*refusal), line)? {
-            return Ok(Some(found));
-        }
-    }
-    Ok(None)
-}
-
-// The refusal of a serial whose line this is.
-fn decode_serial(alloc: Global, line: &str) -> Result<Option<Answer>, AllocError>
-    ensures value { IfOk result (λ found. IfSome found (λ answer. answer_text answer ≡ line.now)) }
-    ensures none { IfOk result (λ found. found ≡ None → (n : ℕ) → IsShown n
-        → refusal_text (PredecessorUncompleted n) ≡ line.now → ⊥) }
-{
-    match serial_in(behind_two(line)) {
-        Some(serial) => if_line(alloc, Err(Refusal::PredecessorUncompleted { serial }), line),
-        None => Ok(None),
-    }
-}
-
-// The refusal with a detail whose line this is.
-fn decode_detailed(alloc: Global, line: &str) -> Result<Option<Answer>, AllocError>
-    ensures value { IfOk result (λ found. IfSome found (λ answer. answer_text answer ≡ line.now)) }
-    ensures none { IfOk result (λ found. found ≡ None → (refusal : RefusalValue)
-        → IsKeptReply (Err refusal)
-        → IsDetailed refusal → refusal_text refusal ≡ line.now → ⊥) }
-{
-    if let Some(found) = decode_serial(alloc, line)? {
-        return Ok(Some(found));
-    }
-    match App::from_text(behind_two(line)) {
-        Some(app) => decode_app(alloc, app, line),
-        None => Ok(None),
+    match word {
+        "defined" => Some(Ok(Reply::Defined {
+            names: count_in(text),
+        })),
+        "undefined" => Some(Ok(Reply::Undefined)),
+        "made" => made_in(text),
+        "serial" => occurrence_in(text),
+        "moved" => moved_in(text),
+        "13" => Some(Err(Refusal::NotDefined)),
+        "20" => Some(Err(Refusal::NoPlan)),
+        "21" => Some(Err(Refusal::PlanExists)),
+        "22" => Some(Err(Refusal::CalendarUndefined {
+            app: App::from_text(text)?,
+        })),
+        "23" => Some(Err(Refusal::PeriodUndefined {
+            app: App::from_text(text)?,
+        })),
+        "24" => Some(Err(Refusal::DatesOutOfRange)),
+        "25" => Some(Err(Refusal::Loop {
+            app: App::from_text(text)?,
+        })),
+        "26" => Some(Err(Refusal::NoActiveApplication)),
+        "27" => Some(Err(Refusal::KeyIsLive)),
+        "28" => Some(Err(Refusal::NoSuchOccurrence)),
+        "29" => Some(Err(Refusal::StatusForbids)),
+        "30" => Some(Err(Refusal::PredecessorUncompleted {
+            serial: serial_in(text)?,
+        })),
+        "31" => Some(Err(Refusal::TooManyRows)),
+        "32" => Some(Err(Refusal::PlanEndOutOfRange)),
+        _ => None,
     }
 }
 
@@ -234,11 +163,10 @@ pub(crate) fn decode_answer(alloc: Global, line: &str) -> Result<Option<Answer>,
         → IsKeptReply answer
         → answer_text answer ≡ line.now → ⊥) }
 {
-    if let Some(found) = decode_reply(alloc, line)? {
-        return Ok(Some(found));
+    let (_, words) = split(line);
+    let (word, text) = split(words);
+    match answer_in(word, text) {
+        Some(answer) => if_line(alloc, answer, line),
+        None => Ok(None),
     }
-    if let Some(found) = decode_bare(alloc, line)? {
-        return Ok(Some(found));
-    }
-    decode_detailed(alloc, line)
 }

@@ -1,8 +1,23 @@
+use Rattle.std.proofs.Common.{◌≡◌, ◌∙◌, ap}
+use Rattle.plan_tables_content.specs.Content.{answer_text}
 use Rattle.plan_tables_schema.proofs.ResultLemmas.{if_ok}
-use Rattle.plan_tables_loading.proofs.AnswerLemmas.{no_answer}
+use Rattle.plan_tables_loading.specs.Lines.{back, front}
+use Rattle.plan_tables_loading.proofs.AnswerLemmas.{chosen}
 use Rattle.plan_tables_loading.proofs.answers.decode_answer.Goals as goal
 
-pub returns-clause-none : goal.returns-clause-none
-returns-clause-none c = if_ok c.decode_detailed.result _ _ (λ found detailed none. no_answer c.args.line.now
-    (c.in_ok-found-2.ensures.none c.in_default-2.is) (detailed none) (c.in_ok-found.ensures.none c.in_default.is))
-    c.decode_detailed.ensures.none
+pub returns-in-None-clause-none : goal.returns-in-None-clause-none
+returns-in-None-clause-none c none a kept is =
+    let word = c.split-2.ensures.front ∙ ap (λ l. front l) c.split.ensures.back in
+    let text = c.split-2.ensures.back ∙ ap (λ l. back l) c.split.ensures.back in
+    let one = chosen c.args.line.now _ _ c.answer_in.result word text c.answer_in.ensures a kept is in
+    let no = c.in-None.is in
+    absurd (cc)
+
+pub returns-in-Some-clause-none : goal.returns-in-Some-clause-none
+returns-in-Some-clause-none c = if_ok c.if_line.result _ _ (λ found not none a kept is.
+    let word = c.split-2.ensures.front ∙ ap (λ l. front l) c.split.ensures.back in
+    let text = c.split-2.ensures.back ∙ ap (λ l. back l) c.split.ensures.back in
+    let one = chosen c.args.line.now _ _ c.answer_in.result word text c.answer_in.ensures a kept is in
+    let here = c.in-Some.is in
+    let same : c.in-Some.answer ≡ a = cc in
+    not none (ap answer_text same ∙ is)) c.if_line.ensures.none
