@@ -6,14 +6,15 @@ pub mod EndLemmas
 pub mod FitLemmas
 mod FittingLemmas
 mod JobLemmas
+mod LastLemmas
 mod ListedLemmas
 mod ListingLemmas
 mod MoveLemmas
-mod NotedLemmas
 mod OrderLemmas
 pub mod PairLemmas
 mod PartLemmas
 pub mod PlaceLemmas
+mod QueryLemmas
 mod SeatedLemmas
 mod SerialLemmas
 mod ShownLemmas

@@ -130,15 +130,6 @@ pub on_ok : {T E : Type 0} (r : Result T E) {A B : Type 0} → (A → B) → OnO
 on_ok (Ok t) f a = f a
 on_ok (Err e) f a = tt
 
--- what was filled in where memory was not refused
-pub has_asked : {T E : Type 0} (need : Need) (kept : Kept) (r : Result T E) → kept.buffer.key ≡ key_of need
-    → OnOk r (AreRows of_row kept.buffer.lasts.items)
-    → OnOk r ((row : Row) → Contains kept.buffer.lasts.items row → Contains kept.history.items row)
-    → OnOk r (HasLasts (Asks need (content_of kept)) (content_of kept).sets.history
-    (look_up row_serial kept.buffer.lasts.items)) → OnOk r (IsPrepared need kept)
-has_asked need kept (Ok t) key rows part lasts = record { key = key; rows = rows; part = part; lasts = lasts }
-has_asked need kept (Err e) key rows part lasts = tt
-
 -- where the live row of a key stands in history, it is the last of its application then
 module _ (c : Content) (numbered : AreNumbered c.sets) (own : HaveOwnKeys c.sets) (key : KeyValue)
     (shown : ℕ → Option Row) (lasts : HasLasts (ReadsKey c key) c.sets.history shown) where

@@ -9,7 +9,7 @@ pub mod Jobs
 pub mod Listed
 pub mod Listings
 pub mod Lists
-pub mod Noted
+pub mod Queries
 pub mod Redefining
 pub mod Room
 pub mod Parts

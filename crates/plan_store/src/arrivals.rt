@@ -9,7 +9,7 @@ use external_dependencies::Arrival;
 use occurrences::{CurrentRow, Row, Status};
 
 // The arrival of a row.
-fn arrival(row: &Row) -> Arrival
+pub(crate) fn arrival(row: &Row) -> Arrival
     ensures { result ≡ arrival_of row.now }
 {
     Arrival {

@@ -9,9 +9,8 @@ use std::alloc::Global;
 pub(crate) struct Buffer {
     // the rows of the long-term plan that the latest daily window shows
     pub(crate) early: Vec<Row>,
-    // the rows of history that the latest window on a key or of the long-term plan shows, and their places
+    // the rows of history that the latest window on a key or of the long-term plan shows
     pub(crate) lasts: Vec<Row>,
-    pub(crate) places: Vec<usize>,
     // its key, if it is on one
     pub(crate) key: Option<Key>,
     // the pairs of a window that shows none
@@ -25,7 +24,6 @@ impl Buffer {
         Buffer {
             early: Vec::new(alloc),
             lasts: Vec::new(alloc),
-            places: Vec::new(alloc),
             key: None,
             no_pairs: Pairs::new(alloc),
         }

@@ -3,16 +3,17 @@ ghost use Rattle.std.specs.Prelude.{◌≡◌, [], Contains, OnOk, OnErr, IfOk, 
 use crate::buffers::Buffer;
 use crate::changes::{Change, DefinitionChange};
 use crate::jobs::{find_job, keep_job};
-use crate::lasts::{key_lasts, plan_lasts};
+use crate::lasts::{fill_lasts, key_of};
 use crate::moving::move_rows;
 use crate::pairs::change_pairs;
+use crate::queries::last_queries_of;
 use crate::room::{Room, grow};
 use crate::slices::arriving_before;
 use crate::stores::Need;
 use crate::views::View;
 use app_definitions::Definitions;
 use external_dependencies::{Links, Pairs};
-use occurrences::{CurrentRow, Deletion, Key, Row};
+use occurrences::{CurrentRow, Deletion, Row};
 use plan_store_lists::{Seat, note_rows};
 use planner_machine::{Bounds, Job};
 use std::alloc::{AllocError, Global};
@@ -110,42 +111,20 @@ impl Content {
     {
         match need {
             Need::Daily(moment) => arriving_before(&mut self.buffer.early, &self.ltp, *moment),
-            Need::Key(key) => self.fill_for_key(key),
-            Need::LongTerm => self.fill_for_plan(),
+            Need::Key(_) => self.fill_for(need),
+            Need::LongTerm => self.fill_for(need),
             Need::Definitions => Ok(()),
         }
     }
 
-    // Fills the buffer with the rows of history that a statement on the key reads.
-    fn fill_for_key(&mut self, key: &Key) -> Result<(), AllocError>
+    // Fills the buffer with the rows of history that a statement with the need reads.
+    fn fill_for(&mut self, need: &Need) -> Result<(), AllocError>
         ensures same { content_of self.new ≡ content_of self.old }
-        ensures filled { OnOk result (IsPrepared (Need.Key key.now) self.new) }
+        ensures filled { OnOk result (IsPrepared need.now self.new) }
     {
-        self.buffer.key = Some(*key);
-        key_lasts(
-            &mut self.buffer.lasts,
-            &mut self.buffer.places,
-            &self.history,
-            &self.in_force,
-            key,
-        )
-    }
-
-    // Fills the buffer with the rows of history that a statement on the long-term plan reads.
-    fn fill_for_plan(&mut self) -> Result<(), AllocError>
-        ensures same { content_of self.new ≡ content_of self.old }
-        ensures filled { OnOk result (IsPrepared Need.LongTerm self.new) }
-    {
-        self.buffer.key = None;
-        plan_lasts(
-            &mut self.buffer.lasts,
-            &mut self.buffer.places,
-            &self.history,
-            &self.cp,
-            self.bounds,
-            &self.in_force,
-            &self.definitions,
-        )
+        self.buffer.key = key_of(need);
+        let queries = last_queries_of(*self.buffer.lasts.allocator(), self, need)?;
+        fill_lasts(&mut self.buffer.lasts, &self.history, &queries)
     }
 
     /// Lends a window that shows what the need names, which `fill_window` prepared. It has the sizes of the plans even

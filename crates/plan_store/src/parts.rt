@@ -29,7 +29,7 @@ fn has_serial<T: PlanRow>(list: &[T], seats: &[Seat], serial: Serial) -> bool
 }
 
 // Puts a row into the list, which has none of its serial; if memory is refused, doesn't.
-fn put_row<T: PlanRow>(list: &mut Vec<T>, row: &T) -> Result<(), AllocError>
+pub(crate) fn put_row<T: PlanRow>(list: &mut Vec<T>, row: &T) -> Result<(), AllocError>
     requires size { FitsInMemory T.row }
     requires rows { AreRows T.row_of list.old.items }
     requires new { look_up (λ x. (T.row_of x).serial) list.old.items (T.row_of row.now).serial

@@ -1,4 +1,3 @@
-mod AskLemmas
 pub mod ChangeLemmas
 pub mod PartLemmas
 mod PartSetLemmas

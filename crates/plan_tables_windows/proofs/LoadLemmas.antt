@@ -14,7 +14,7 @@ use Rattle.plan_store_lists.proofs.LookLemmas.{look_some}
 use Rattle.plan_store.specs.HistoryReads.{HasLast, IsNoLater}
 use Rattle.plan_store.specs.Parts.{IsPartOf, Knows, KnowsDeletion, Rest, with_completed, with_deleted}
 use Rattle.plan_tables_windows.specs.Unknown.{HasMore}
-use Rattle.plan_tables_windows.specs.declared.queries.LastQuery.{LastQuery}
+use Rattle.plan_store.specs.declared.queries.LastQuery.{LastQuery}
 use Rattle.plan_tables_windows.proofs.PartLemmas.{completed_has, completed_known, completed_part, deleted_has, deleted_part}
 use Rattle.plan_tables_windows.proofs.PartLemmas.{lacking_deletion_known, lacking_known, stood_still}
 use Rattle.plan_tables_schema.specs.Rows.{Tables, shown, tables_of}

@@ -12,10 +12,10 @@ use Rattle.plan_store.specs.Parts.{HasBars, IsPartOf, Knows, KnowsDeletion, Rest
 use Rattle.plan_store.specs.Views.{Asks, bars, bars_from, is_by_operator}
 use Rattle.plan_store.specs.declared.stores.Need.{Need}
 use Rattle.plan_store.specs.declared.stores.Need.TheVariants as need
-use Rattle.plan_tables_windows.specs.Queries.{IsQueriedIn}
+use Rattle.plan_store.specs.Queries.{IsQueriedIn}
 use Rattle.plan_tables_windows.specs.Unknown.{HasMore}
 use Rattle.plan_tables_windows.specs.Windows.{HasLastsOf, IsReadyFor, KnowsLive}
-use Rattle.plan_tables_windows.specs.declared.queries.LastQuery.{LastQuery}
+use Rattle.plan_store.specs.declared.queries.LastQuery.{LastQuery}
 use Rattle.plan_tables_windows.specs.Loading.{IsAnswered, KnowsAll, ends_by}
 use Rattle.plan_tables_windows.proofs.BarLemmas.{bars_so}
 use Rattle.plan_tables_windows.proofs.LoadLemmas.{last_still}

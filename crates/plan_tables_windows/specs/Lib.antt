@@ -1,4 +1,3 @@
-pub mod Queries
 pub mod Changes
 pub mod Unknown
 pub mod Windows

@@ -7,7 +7,7 @@ use Rattle.planner_machine.specs.declared.content.Bounds.{Bounds}
 use Rattle.plan_store.specs.HistoryReads.{HasLast}
 use Rattle.plan_store.specs.Parts.{IsPartOf, Knows, KnowsDeletion, Rest}
 use Rattle.plan_store.specs.Views.{bars_from}
-use Rattle.plan_tables_windows.specs.declared.queries.LastQuery.{LastQuery}
+use Rattle.plan_store.specs.declared.queries.LastQuery.{LastQuery}
 use Rattle.plan_tables_queries.specs.declared.faults.LookupFault.{LookupFault}
 use Rattle.plan_tables_queries.specs.declared.faults.LookupFault.TheVariants.{Memory}
 use Rattle.plan_tables_windows.specs.Fetching.{Grows}

@@ -1,7 +1,7 @@
 // The rows of history that are read by an application and a moment are loaded into lists.
 
 ghost use Rattle.std.specs.Prelude.{Contains};
-ghost use Rattle.plan_tables_windows.specs.declared.queries.LastQuery.{LastQuery as LastQueryValue};
+ghost use Rattle.plan_store.specs.declared.queries.LastQuery.{LastQuery as LastQueryValue};
 ghost use Rattle.plan_store.specs.Contents.{content_of};
 ghost use Rattle.plan_store.specs.Views.{Asks};
 ghost use Rattle.plan_tables_windows.specs.Windows.{HasLastsOf};
@@ -9,8 +9,7 @@ ghost use Rattle.plan_tables_windows.specs.Loading.{IsAnswered};
 ghost use Rattle.plan_tables_windows.specs.Fetching.{Fetches};
 
 use crate::loading::load_row;
-use crate::{LastQuery, queries_of};
-use plan_store::{Content, Need};
+use plan_store::{Content, LastQuery, Need, last_queries_of};
 use plan_tables_queries::{LookupFault, last_completed};
 use sqlite::{Alter, Connection};
 use std::alloc::{AllocError, Global};
@@ -20,12 +19,12 @@ fn find_last<S: Alter>(
     alloc: Global,
     conn: &mut Connection<S>,
     lists: &mut Content,
-    ask: &LastQuery,
+    query: &LastQuery,
 ) -> Result<(), LookupFault>
     ensures { Fetches S.Store conn.old conn.new (content_of lists.old) (content_of lists.new)
-        result (IsAnswered ask.now) }
+        result (IsAnswered query.now) }
 {
-    match last_completed(alloc, conn, &ask.app, ask.moment) {
+    match last_completed(alloc, conn, &query.app, query.moment.number()) {
         Ok(Some(row)) => load_row(alloc, lists, row),
         Ok(None) => Ok(()),
         Err(fault) => Err(fault),
@@ -37,14 +36,14 @@ fn find_lasts<S: Alter>(
     alloc: Global,
     conn: &mut Connection<S>,
     lists: &mut Content,
-    asks: &[LastQuery],
+    queries: &[LastQuery],
 ) -> Result<(), LookupFault>
     ensures { Fetches S.Store conn.old conn.new (content_of lists.old) (content_of lists.new)
-        result (λ rest now. (ask : LastQueryValue) → Contains asks.now ask
-        → IsAnswered ask rest now) }
+        result (λ rest now. (query : LastQueryValue) → Contains queries.now query
+        → IsAnswered query rest now) }
 {
-    for ask in asks {
-        match find_last(alloc, conn, lists, ask) {
+    for query in queries {
+        match find_last(alloc, conn, lists, query) {
             Ok(()) => {}
             Err(fault) => return Err(fault),
         }
@@ -62,8 +61,8 @@ pub(crate) fn find_asked<S: Alter>(
     ensures { Fetches S.Store conn.old conn.new (content_of lists.old) (content_of lists.new)
         result (λ rest now. HasLastsOf (Asks need.now now) rest now) }
 {
-    match queries_of(alloc, lists, need) {
-        Ok(asks) => find_lasts(alloc, conn, lists, &asks),
+    match last_queries_of(alloc, lists, need) {
+        Ok(queries) => find_lasts(alloc, conn, lists, &queries),
         Err(AllocError) => Err(LookupFault::Memory),
     }
 }

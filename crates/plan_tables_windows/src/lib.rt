@@ -17,9 +17,7 @@ mod fetching;
 mod lasts;
 mod loading;
 mod needs;
-mod queries;
 mod unknown;
 
 pub use needs::{load_for_change, load_for_need};
-pub use queries::{LastQuery, queries_of};
 pub use unknown::{Unknown, unknown_for_key, unknown_of};

@@ -11,10 +11,11 @@ pub returns-in-Ok : goal.returns-in-Ok
 returns-in-Ok g c =
     let was = content_of c.args.lists.now in
     let now = content_of c.find_lasts.new.lists in
-    let asks = c.in-Ok.asks.items in
-    gathers_so g.S.Store c.args.conn.now c.find_lasts.new.conn was now c.find_lasts.result (Each IsAnswered asks)
+    let queries = c.in-Ok.queries.items in
+    gathers_so g.S.Store c.args.conn.now c.find_lasts.new.conn was now c.find_lasts.result (Each IsAnswered queries)
     (λ rest c'. HasLastsOf (Asks c.args.need.now c') rest c')
-    (λ rest part sound more answered. asked_found c.args.need.now rest was now asks c.in-Ok.ensures.found more answered)
+    (λ rest part sound more answered. asked_found c.args.need.now rest was now queries c.in-Ok.ensures.found more
+    answered)
     (rw c.deref.ensures.value at c.find_lasts.ensures)
 
 pub returns-in-Err : goal.returns-in-Err

@@ -1,0 +1,212 @@
+// What a window reads of history: for some applications, the last row at a moment or before it.
+
+ghost use Rattle.std.specs.Prelude.{[], ◌↔◌, ◌+◌, ℕ, Contains, IfOk, List, OnOk};
+ghost use Rattle.std.specs.FinMap.{IsAntisymmetric};
+ghost use Rattle.app_definition_records.specs.declared.predecessors.Predecessor.{Predecessor as PredecessorValue};
+ghost use Rattle.external_dependencies.specs.Link.{Lists};
+ghost use Rattle.external_dependencies.specs.declared.links.Link.{Link as LinkValue};
+ghost use Rattle.plan_store.specs.Queries.{AddsQueries, AreDistinct, IsQueriedIn};
+ghost use Rattle.plan_store.specs.declared.queries.LastQuery.{LastQuery as LastQueryValue};
+ghost use Rattle.plan_store.specs.HistoryReads.{ReadsKey, ReadsPlan, ListsDefined};
+ghost use Rattle.plan_store.specs.Contents.{content_of};
+ghost use Rattle.plan_store.specs.Queries.{ReadByOne, ReadsEach, ReadsEnd, ReadsRow, IsAsked, IsDefined};
+ghost use Rattle.plan_store.specs.Views.{Asks};
+
+use crate::contents::Content;
+use crate::stores::Need;
+use app_definitions::{Definitions, Predecessor};
+use external_dependencies::{Link, Links};
+use occurrences::{CurrentRow, Key, Status};
+use planner_machine::Bounds;
+use std::alloc::{AllocError, Global};
+use work_calendars::{App, Moment};
+
+/// The last row of an application in history, at a moment or before it.
+#[derive(Clone, Copy, Debug, PartialEq, Eq, PartialOrd, Ord)]
+pub struct LastQuery {
+    /// The application.
+    pub app: App,
+    /// The moment.
+    pub moment: Moment,
+}
+
+/// What a window for the need reads of history, each once.
+pub fn last_queries_of(
+    alloc: Global,
+    lists: &Content,
+    need: &Need,
+) -> Result<Vec<LastQuery>, AllocError>
+    ensures found { IfOk result (λ queries. (app : List ℕ) (minute : ℕ)
+        → Asks need.now (content_of lists.now) app minute → IsQueriedIn queries.items app minute) }
+    ensures only { IfOk result (λ queries. (query : LastQueryValue) → Contains queries.items query
+        → Asks need.now (content_of lists.now) query.app (query.moment + 1)) }
+    ensures apart { IfOk result (λ queries. AreDistinct queries.items) }
+{
+    match need {
+        Need::Key(key) => key_queries(alloc, lists, key),
+        Need::LongTerm => plan_queries(alloc, lists),
+        Need::Definitions | Need::Daily(_) => Ok(Vec::new(alloc)),
+    }
+}
+
+// What a statement on the key reads.
+fn key_queries(alloc: Global, lists: &Content, key: &Key) -> Result<Vec<LastQuery>, AllocError>
+    ensures adds { IfOk result (λ queries.
+        AddsQueries (ReadsKey (content_of lists.now) key.now) [] queries.items) }
+    ensures apart { IfOk result (λ queries. AreDistinct queries.items) }
+{
+    let mut queries = Vec::new(alloc);
+    add_query(&mut queries, &key.app, key.ia)?;
+    add_list(&mut queries, &lists.in_force, &key.app, key.ia)?;
+    put_in_order(&mut queries);
+    Ok(queries)
+}
+
+// What a statement on the long-term plan reads.
+fn plan_queries(alloc: Global, lists: &Content) -> Result<Vec<LastQuery>, AllocError>
+    ensures adds { IfOk result (λ queries. AddsQueries (ReadsPlan (content_of lists.now)) [] queries.items) }
+    ensures apart { IfOk result (λ queries. AreDistinct queries.items) }
+{
+    let mut queries = Vec::new(alloc);
+    add_waiting(&mut queries, &lists.in_force, &lists.definitions, &lists.cp)?;
+    add_plan_end(
+        &mut queries,
+        &lists.in_force,
+        &lists.definitions,
+        lists.bounds,
+    )?;
+    put_in_order(&mut queries);
+    Ok(queries)
+}
+
+// Adds the last row of the application at the moment or before it.
+fn add_query(queries: &mut Vec<LastQuery>, app: &App, moment: Moment) -> Result<(), AllocError>
+    ensures { OnOk result (AddsQueries (IsAsked app.now (moment + 1)) queries.old.items queries.new.items) }
+{
+    queries.push(LastQuery { app: *app, moment })?;
+    Ok(())
+}
+
+// Adds the last row of each predecessor of the links.
+fn add_links(queries: &mut Vec<LastQuery>, links: &[Link], moment: Moment) -> Result<(), AllocError>
+    ensures { OnOk result (AddsQueries
+        (ReadByOne (λ (link : LinkValue). IsAsked link.predecessor (moment + 1)) links.now)
+        queries.old.items queries.new.items) }
+{
+    for link in links {
+        add_query(queries, &link.predecessor, moment)?;
+    }
+    Ok(())
+}
+
+// Adds the last row of each application in the list of the application that is in force.
+fn add_list(
+    queries: &mut Vec<LastQuery>,
+    in_force: &Links,
+    app: &App,
+    moment: Moment,
+) -> Result<(), AllocError>
+    ensures { OnOk result (AddsQueries (ReadsEach (Lists in_force.now app.now) (moment + 1))
+        queries.old.items queries.new.items) }
+{
+    add_links(queries, in_force.list(app), moment)
+}
+
+// Adds the last row of each of the predecessors.
+fn add_named(
+    queries: &mut Vec<LastQuery>,
+    listed: &[Predecessor],
+    moment: Moment,
+) -> Result<(), AllocError>
+    ensures { OnOk result (AddsQueries
+        (ReadByOne (λ (p : PredecessorValue). IsAsked p.name (moment + 1)) listed.now)
+        queries.old.items queries.new.items) }
+{
+    for predecessor in listed {
+        add_query(queries, &predecessor.name, moment)?;
+    }
+    Ok(())
+}
+
+// Adds the last row of each application in the list that is defined for the application.
+fn add_defined(
+    queries: &mut Vec<LastQuery>,
+    definitions: &Definitions,
+    app: &App,
+    moment: Moment,
+) -> Result<(), AllocError>
+    ensures { OnOk result (AddsQueries (ReadsEach (ListsDefined definitions.now app.now) (moment + 1))
+        queries.old.items queries.new.items) }
+{
+    match definitions.predecessors.get(app) {
+        Some(listed) => add_named(queries, listed.as_slice(), moment),
+        None => Ok(()),
+    }
+}
+
+// Adds the last row of each application in a list that is defined.
+fn add_all_defined(
+    queries: &mut Vec<LastQuery>,
+    definitions: &Definitions,
+    moment: Moment,
+) -> Result<(), AllocError>
+    ensures { OnOk result (AddsQueries (ReadsEach (IsDefined definitions.now) (moment + 1))
+        queries.old.items queries.new.items) }
+{
+    for (_app, listed) in definitions.predecessors.iter() {
+        add_named(queries, listed.as_slice(), moment)?;
+    }
+    Ok(())
+}
+
+// Adds, for each of the rows that waits, the last row at its arrival of each application in its lists, in force and
+// defined.
+fn add_waiting(
+    queries: &mut Vec<LastQuery>,
+    in_force: &Links,
+    definitions: &Definitions,
+    rows: &[CurrentRow],
+) -> Result<(), AllocError>
+    ensures { OnOk result (AddsQueries
+        (ReadByOne (ReadsRow in_force.now definitions.now) rows.now)
+        queries.old.items queries.new.items) }
+{
+    for current in rows {
+        if current.status == Status::W {
+            let key = current.row.key;
+            let moment = key.ia;
+            add_list(queries, in_force, &key.app, moment)?;
+            add_defined(queries, definitions, &key.app, moment)?;
+        }
+    }
+    Ok(())
+}
+
+// Adds, if there is a plan, the last row at the plan end of each application that a list names, in force or defined.
+fn add_plan_end(
+    queries: &mut Vec<LastQuery>,
+    in_force: &Links,
+    definitions: &Definitions,
+    bounds: Option<Bounds>,
+) -> Result<(), AllocError>
+    ensures { OnOk result (AddsQueries (ReadsEnd in_force.now definitions.now bounds)
+        queries.old.items queries.new.items) }
+{
+    let Some(bounds) = bounds else {
+        return Ok(());
+    };
+    let moment = bounds.plan_end;
+    add_links(queries, in_force.as_slice(), moment)?;
+    add_all_defined(queries, definitions, moment)?;
+    Ok(())
+}
+
+// Puts the items in order, each once.
+fn put_in_order<T: Ord + Copy>(items: &mut Vec<T>)
+    requires { IsAntisymmetric T.cmp }
+    ensures same { (x : T) → Contains items.new.items x ↔ Contains items.old.items x }
+    ensures apart { AreDistinct items.new.items }
+{
+    items.sort_unstable();
+    items.dedup();
+}

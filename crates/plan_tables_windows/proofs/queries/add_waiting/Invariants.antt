@@ -1,9 +1,0 @@
-use Rattle.std.proofs.Common.{take}
-use Rattle.plan_store.specs.Noted.{ReadByOne, ReadsRow}
-use Rattle.plan_tables_windows.specs.Queries.{AddsQueries}
-use Rattle.plan_tables_windows.proofs.queries.add_waiting.Given as goal
-
--- those of the rows so far
-abbrev pub invariant-loop-current : goal.invariant-loop-current
-invariant-loop-current l = AddsQueries (ReadByOne (ReadsRow l.in_force l.definitions) (take l.current-index l.rows))
-    l.initial.asks.items l.asks.items
