@@ -59,44 +59,6 @@ module _ (rows : List Row) (are : AreBySerials rows) (serial : ℕ) where
       (point (searchable_from_sorted nat_cmp_total row_serial rows serial are.rising)) in
       sym (look_lacks row_serial rows serial lacks)
 
--- in which set a row is
-module _ (a : Option Row) (b : Option CurrentRow) (h o : Option Row) (d : Option Deletion) where
-  pub in_ltp : (row : Row) → Some row ≡ a → Some row ≡ row_in a b (or_else h o) d
-  in_ltp row is = subst (λ x. Some row ≡ row_in x b (or_else h o) d) is refl
-
-  module _ (past_ltp : None ≡ a) where
-    pub in_cp : (current : CurrentRow) → Some current ≡ b → Some current.row ≡ row_in a b (or_else h o) d
-    in_cp current is = subst (λ x. Some current.row ≡ row_in x b (or_else h o) d) past_ltp
-        (subst (λ x. Some current.row ≡ row_in None x (or_else h o) d) is refl)
-
-    module _ (past_cp : None ≡ b) where
-      pub past_plans : (r : Option Row) → r ≡ row_in None None (or_else h o) d → r ≡ row_in a b (or_else h o) d
-      past_plans r is = subst (λ x. r ≡ row_in x b (or_else h o) d) past_ltp
-          (subst (λ x. r ≡ row_in None x (or_else h o) d) past_cp is)
-
-      pub in_history : (row : Row) → Some row ≡ h → Some row ≡ row_in a b (or_else h o) d
-      in_history row is = past_plans (Some row)
-          (subst (λ x. Some row ≡ row_in None None (or_else x o) d) is refl)
-
-      module _ (past_history : None ≡ h) where
-        pub in_others : (row : Row) → Some row ≡ o → Some row ≡ row_in a b (or_else h o) d
-        in_others row is = past_plans (Some row)
-            (subst (λ x. Some row ≡ row_in None None (or_else x o) d) past_history
-            (subst (λ x. Some row ≡ row_in None None x d) is refl))
-
-        module _ (past_others : None ≡ o) where
-          past_all : (r : Option Row) → r ≡ row_in None None None d → r ≡ row_in a b (or_else h o) d
-          past_all r is = past_plans r (subst (λ x. r ≡ row_in None None (or_else x o) d) past_history
-              (subst (λ x. r ≡ row_in None None x d) past_others is))
-
-          pub in_deletions : (deletion : Deletion) → Some deletion ≡ d
-              → Some deletion.row ≡ row_in a b (or_else h o) d
-          in_deletions deletion is = past_all (Some deletion.row)
-              (subst (λ x. Some deletion.row ≡ row_in None None None x) is refl)
-
-          pub in_none : None ≡ d → None ≡ row_in a b (or_else h o) d
-          in_none is = past_all None (subst (λ x. None ≡ row_in None None None x) is refl)
-
 -- ---- pairs that are added
 
 pub apps_apart : (a b : List ℕ) → pointwise nat_eq a b ≡ false → a ≡ b → ⊥

@@ -19,7 +19,7 @@ use Rattle.planner_machine.specs.Sound.{AreNumbered, IsSound}
 use Rattle.planner_machine.proofs.SeatLemmas.{one_place}
 use Rattle.plan_store_lists.specs.Rows.{OneEach, look_up}
 use Rattle.plan_store_lists.proofs.LookLemmas.{look_at, look_lacks, look_none, look_some}
-use Rattle.plan_store.specs.AppPairs.{HasEnds, LacksNone, with_others}
+use Rattle.plan_store.specs.AppPairs.{AreUnknownEnds, HasEnds, with_others}
 use Rattle.plan_store.specs.Ends.{HasFound}
 use Rattle.plan_store.specs.Listed.{row_at, row_in}
 use Rattle.plan_store.specs.Parts.{IsPartOf, Rest, with_rest}
@@ -182,7 +182,7 @@ module _ (app : List ℕ) (rest : Rest) (lists : Content) (found : List Row)
 module _ (app : List ℕ) (lists : Content) (history : ℕ → Option Row)
     (own : (n : ℕ) (row : Row) → history n ≡ Some row → row.serial ≡ n) (first second : List Row) (serials : List ℕ)
     (of_app : (row : Row) → Contains first row ↔ ((history row.serial ≡ Some row) × (row.key.app ≡ app)))
-    (lacks : LacksNone app first lists serials)
+    (lacks : AreUnknownEnds app first lists serials)
     (stay : (row : Row) → Contains first row → Contains second row)
     (come : (row : Row) → Contains second row → history row.serial ≡ Some row)
     (found : (n : ℕ) (row : Row) → Contains serials n → history n ≡ Some row → Contains second row) where
@@ -253,8 +253,15 @@ module _ (app : List ℕ) (lists : Content) (history : ℕ → Option Row)
   has_found = record {
     only = come;
     of_app = λ row is of. stay row ((of_app row).1 (is, of));
-    ends = λ pair row there is of none. by_history pair (lacks pair row there (was_seen pair.successor row is of) of
-        (was_none pair.predecessor none)) none (history pair.predecessor) refl;
+    ends = λ pair row there is of none. by_history pair ((lacks pair.predecessor).1 (record {
+      pair = pair;
+      among = there;
+      predecessor = refl;
+      successor = row;
+      stands = was_seen pair.successor row is of;
+      of_app = of;
+      lacks = was_none pair.predecessor none;
+    })) none (history pair.predecessor) refl;
   }
     where
       by_history : (pair : Pair) → Contains serials pair.predecessor

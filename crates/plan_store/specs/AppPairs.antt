@@ -1,5 +1,5 @@
 -- The pairs of one application, found from its rows.
-use Rattle.std.specs.Prelude.{◌≡◌, ◌⊎◌, ℕ, List, Contains, None, Some}
+use Rattle.std.specs.Prelude.{◌≡◌, ◌↔◌, ◌⊎◌, ℕ, Bool, false, List, Contains, None, Option, Some}
 use Rattle.std.specs.List.Sorted.{IsSortedByKey}
 use Rattle.std.specs.Ordering.{nat_cmp}
 use Rattle.occurrences.specs.declared.row.Row.{Row}
@@ -7,7 +7,7 @@ use Rattle.external_dependencies.specs.declared.pairs.Pair.{Pair}
 use Rattle.planner_machine.specs.Content.{Content, Sets}
 use Rattle.planner_machine.specs.Moves.{or_else}
 use Rattle.plan_store_lists.specs.Rows.{OneEach, look_up}
-use Rattle.plan_store.specs.Listed.{row_at}
+use Rattle.plan_store.specs.Listed.{is_of_app, row_at}
 use Rattle.plan_store.specs.Parts.{Rest, with_rest}
 use Rattle.plan_store.specs.Views.{row_serial}
 
@@ -54,8 +54,26 @@ pub record HasEnds (app : List ℕ) (rest : Rest) (others : List Row) (c : Conte
       → row_at (with_rest rest c).sets pair.successor ≡ Some row → row.key.app ≡ app
       → row_at (with_others others c.sets) pair.predecessor ≡ row_at (with_rest rest c).sets pair.predecessor
 
--- among the serials is each predecessor of a row of the application that the lists and the other rows don't have
-abbrev pub LacksNone : List ℕ → List Row → Content → List ℕ → Type 0
-LacksNone app others c serials = (pair : Pair) (row : Row) → Contains c.pairs pair
-    → row_at (with_others others c.sets) pair.successor ≡ Some row → row.key.app ≡ app
-    → row_at (with_others others c.sets) pair.predecessor ≡ None → Contains serials pair.predecessor
+-- whether the successor is of the application and the predecessor is lacking
+abbrev pub lacks_end : List ℕ → Option Row → Option Row → Bool
+lacks_end app (Some successor) None = is_of_app (Some app) successor
+lacks_end app (Some successor) (Some predecessor) = false
+lacks_end app None predecessor = false
+
+-- the serial is the predecessor of a row of the application by one of the pairs, and nothing is under it in these sets
+pub record IsLacking (app : List ℕ) (s : Sets) (pairs : List Pair) (serial : ℕ) : Type 0 where
+  pub pair : Pair
+  pub among : Contains pairs pair
+  pub predecessor : pair.predecessor ≡ serial
+  pub successor : Row
+  pub stands : row_at s pair.successor ≡ Some successor
+  pub of_app : successor.key.app ≡ app
+  pub lacks : row_at s pair.predecessor ≡ None
+
+-- exactly those
+abbrev pub AreLacking : List ℕ → Sets → List Pair → List ℕ → Type 0
+AreLacking app s pairs serials = (serial : ℕ) → Contains serials serial ↔ IsLacking app s pairs serial
+
+-- exactly the predecessors of the application's rows that the lists and the other rows don't have
+abbrev pub AreUnknownEnds : List ℕ → List Row → Content → List ℕ → Type 0
+AreUnknownEnds app others c serials = AreLacking app (with_others others c.sets) c.pairs serials

@@ -1,10 +1,10 @@
 //! The pairs of one application, found from its rows, each with both its rows, looked up by serial.
-ghost use Rattle.std.specs.Prelude.{◌≡◌, ◌≢◌, None, Some, IfOk, IfErr, OnOk, Contains, length, map, option_copied, option_map};
-ghost use Rattle.external_dependencies.specs.declared.pairs.Pair.{Pair as PairValue};
+ghost use Rattle.std.specs.Prelude.{◌≡◌, ◌≢◌, Some, IfOk, IfErr, OnOk, length, map, option_copied, option_map};
 ghost use Rattle.plan_store_lists.specs.Rows.{AreRows, look_up};
 ghost use Rattle.plan_store_lists.specs.Seats.{AreSeats, HasSeats};
 ghost use Rattle.planner_machine.specs.Sound.{AreNumbered};
-ghost use Rattle.plan_store.specs.AppPairs.{AddsPairs, AreBySerials, HasAppPairs, HasEnds, LacksNone, with_others};
+ghost use Rattle.plan_store.specs.AppPairs.{AddsPairs, AreBySerials, AreLacking, AreUnknownEnds, HasAppPairs, HasEnds};
+ghost use Rattle.plan_store.specs.AppPairs.{lacks_end, with_others};
 ghost use Rattle.plan_store.specs.Contents.{content_of};
 ghost use Rattle.plan_store.specs.Listed.{EndsWithin, link_at, linked_rows, links_at, row_at};
 ghost use Rattle.plan_store.specs.Listings.{EmitsAll, EmitsPart, IsListing, AcceptsAll, link_shown};
@@ -191,29 +191,46 @@ impl Content {
         }
     }
 
-    // Adds each predecessor of these pairs that neither the lists nor the others have.
-    fn push_unknown(
+    // Whether the pair's successor is of the application, and neither the lists nor the others have its predecessor.
+    fn lacks_end(&self, others: &[Row], pair: Pair, app: &App) -> bool
+        ensures { AreBySerials others.now → result ≡ lacks_end app.now
+            (row_at (with_others others.now (content_of self.now).sets) pair.successor)
+            (row_at (with_others others.now (content_of self.now).sets) pair.predecessor) }
+    {
+        let Some(successor) = self.known_row(others, pair.successor) else {
+            return false;
+        };
+        if successor.key.app != *app {
+            return false;
+        }
+        match self.known_row(others, pair.predecessor) {
+            Some(_row) => false,
+            None => true,
+        }
+    }
+
+    // The predecessors of these pairs that are lacking.
+    fn lacking_ends(
         &self,
-        serials: &mut Vec<Serial>,
+        alloc: Global,
         others: &[Row],
         pairs: &[Pair],
-    ) -> Result<(), AllocError>
-        ensures { AreBySerials others.now → OnOk result ((pair : PairValue)
-            → Contains pairs.now pair
-            → row_at (with_others others.now (content_of self.now).sets) pair.predecessor ≡ None
-            → Contains serials.new.items pair.predecessor) }
+        app: &App,
+    ) -> Result<Vec<Serial>, AllocError>
+        ensures { AreBySerials others.now → IfOk result (λ serials. AreLacking app.now
+            (with_others others.now (content_of self.now).sets) pairs.now serials.items) }
     {
+        let mut serials = Vec::new(alloc);
         for pair in pairs {
-            match self.known_row(others, pair.predecessor) {
-                Some(_row) => {}
-                None => serials.push(pair.predecessor)?,
+            if self.lacks_end(others, *pair, app) {
+                serials.push(pair.predecessor)?;
             }
         }
-        Ok(())
+        Ok(serials)
     }
 
     /// The predecessors of the application's rows in the lists and among the others, of which neither those nor these
-    /// have the row. The others are of history, in the order of their serials.
+    /// have the row: each of them, in the order of their serials. The others are of history, in that order too.
     pub fn unknown_ends(
         &self,
         alloc: Global,
@@ -221,11 +238,10 @@ impl Content {
         app: &App,
     ) -> Result<Vec<Serial>, AllocError>
         ensures { AreBySerials others.now → IfOk result (λ serials.
-            LacksNone app.now others.now (content_of self.now) serials.items) }
+            AreUnknownEnds app.now others.now (content_of self.now) serials.items) }
     {
         let found = self.app_pairs(alloc, others, app)?;
-        let mut serials = Vec::new(alloc);
-        self.push_unknown(&mut serials, others, found.as_slice())?;
+        let mut serials = self.lacking_ends(alloc, others, found.as_slice(), app)?;
         serials.sort_unstable();
         Ok(serials)
     }
