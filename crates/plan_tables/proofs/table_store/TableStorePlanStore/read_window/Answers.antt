@@ -1,4 +1,4 @@
-use Rattle.std.proofs.Common.{◌≡◌, ◌∙◌, Err, Ok, ap, refl, subst, sym}
+use Rattle.std.proofs.Common.{◌≡◌, ◌∙◌, ◌<◌, Err, Ok, ap, arith, refl, subst, sym}
 use Rattle.std.proofs.Math.Logic.{∥∥₁_map}
 use Rattle.sqlite.specs.Held.{state}
 use Rattle.planner_machine.specs.Content.{Content}
@@ -6,7 +6,7 @@ use Rattle.plan_store.specs.Contents.{content_of}
 use Rattle.plan_store.specs.Views.{Shows}
 use Rattle.plan_store.specs.declared.stores.StoreFault.TheVariants.{Device}
 use Rattle.plan_tables.specs.Kept.{IsKept, kept_in}
-use Rattle.plan_tables.proofs.LookLemmas.{kept_sure}
+use Rattle.plan_tables.proofs.LookLemmas.{kept_sure, read_failed}
 use Rattle.plan_tables.proofs.WindowLemmas.{window_kept}
 use Rattle.plan_tables.proofs.table_store.TableStorePlanStore.read_window.Goals as goal
 
@@ -52,3 +52,8 @@ returns g c =
       ),
       tt,
     )
+
+pub returns-then-self-gt0 : goal.returns-then-self-gt0
+returns-then-self-gt0 g c =
+    let some : 0 < c.args.self.now.failures = omega (arith, c.if-self-gt0.true) in
+    ((refl, λ _. tt, read_failed c.args.self.now _ some), tt)
