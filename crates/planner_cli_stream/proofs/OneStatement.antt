@@ -7,6 +7,7 @@ use Rattle.std.specs.Str.{bytes_eq}
 use Rattle.std.proofs.lemmas.Fmt.{decimal_injective}
 use Rattle.planner_cli_stream.specs.Grammar.{Text, Use, reading_of}
 use Rattle.planner_cli_stream.specs.Line.{is_line_byte, words_of}
+use Rattle.occurrences.specs.declared.status.Action.TheVariants as action
 use Rattle.work_calendars.proofs.SpellingFacts.{SpellsDay-one_day, SpellsMoment-one_moment}
 use Rattle.work_calendars.specs.Spelling.{SpellsDay, SpellsMoment}
 use Rattle.planner_cli_stream.specs.Arguments.{HasArguments}
@@ -16,6 +17,7 @@ use Rattle.planner_cli_stream.specs.Values.{HasApp, HasCount, HasDay, HasDays, H
 use Rattle.planner_cli_stream.specs.Values.{HasText, HasWhat, Reading}
 use Rattle.planner_cli_stream.specs.Verb.{layout_for, verb_text}
 use Rattle.planner_cli_stream.specs.declared.arguments.Arguments.{Arguments}
+use Rattle.planner_cli_stream.specs.declared.statements.KeyAct.TheVariants as act
 use Rattle.planner_cli_stream.specs.declared.statements.Statement.{Statement}
 use Rattle.planner_cli_stream.specs.declared.verbs.Verb.{Verb}
 use Rattle.planner_cli_stream.specs.declared.verbs.Verb.TheVariants as verb
@@ -42,17 +44,17 @@ verb_by t = or_else (bytes_eq t (codes "define")) verb.Define
     (or_else (bytes_eq t (codes "ltp-modify-all")) verb.LtpModifyAll
     (or_else (bytes_eq t (codes "ltp-modify-one")) verb.LtpModifyOne
     (or_else (bytes_eq t (codes "ltp-trial")) verb.LtpTrial
-    (or_else (bytes_eq t (codes "ltp-add")) verb.LtpAdd
-    (or_else (bytes_eq t (codes "ltp-delete")) verb.LtpDelete
+    (or_else (bytes_eq t (codes "ltp-add")) (verb.OnKey act.Add)
+    (or_else (bytes_eq t (codes "ltp-delete")) (verb.OnKey act.Delete)
     (or_else (bytes_eq t (codes "dp-extend")) verb.DpExtend
     (or_else (bytes_eq t (codes "dp-replan")) verb.DpReplan
     (or_else (bytes_eq t (codes "dp-trial")) verb.DpTrial
-    (or_else (bytes_eq t (codes "cp-add")) verb.CpAdd
-    (or_else (bytes_eq t (codes "cp-start")) verb.CpStart
-    (or_else (bytes_eq t (codes "cp-complete")) verb.CpComplete
-    (or_else (bytes_eq t (codes "cp-fail")) verb.CpFail
-    (or_else (bytes_eq t (codes "cp-reset")) verb.CpReset
-    (or_else (bytes_eq t (codes "cp-delete")) verb.CpDelete
+    (or_else (bytes_eq t (codes "cp-add")) (verb.OnKey act.AddCurrent)
+    (or_else (bytes_eq t (codes "cp-start")) (verb.OnKey (act.Act action.Start))
+    (or_else (bytes_eq t (codes "cp-complete")) (verb.OnKey (act.Act action.Complete))
+    (or_else (bytes_eq t (codes "cp-fail")) (verb.OnKey (act.Act action.Fail))
+    (or_else (bytes_eq t (codes "cp-reset")) (verb.OnKey (act.Act action.Reset))
+    (or_else (bytes_eq t (codes "cp-delete")) (verb.OnKey (act.Act action.Delete))
     (or_else (bytes_eq t (codes "list")) verb.List None)))))))))))))))))))
 
 verb_by-text : (x : Verb) → verb_by (verb_text x) ≡ Some x
@@ -64,17 +66,17 @@ verb_by-text verb.LtpExtend = refl
 verb_by-text verb.LtpModifyAll = refl
 verb_by-text verb.LtpModifyOne = refl
 verb_by-text verb.LtpTrial = refl
-verb_by-text verb.LtpAdd = refl
-verb_by-text verb.LtpDelete = refl
+verb_by-text (verb.OnKey act.Add) = refl
+verb_by-text (verb.OnKey act.Delete) = refl
 verb_by-text verb.DpExtend = refl
 verb_by-text verb.DpReplan = refl
 verb_by-text verb.DpTrial = refl
-verb_by-text verb.CpAdd = refl
-verb_by-text verb.CpStart = refl
-verb_by-text verb.CpComplete = refl
-verb_by-text verb.CpFail = refl
-verb_by-text verb.CpReset = refl
-verb_by-text verb.CpDelete = refl
+verb_by-text (verb.OnKey act.AddCurrent) = refl
+verb_by-text (verb.OnKey (act.Act action.Start)) = refl
+verb_by-text (verb.OnKey (act.Act action.Complete)) = refl
+verb_by-text (verb.OnKey (act.Act action.Fail)) = refl
+verb_by-text (verb.OnKey (act.Act action.Reset)) = refl
+verb_by-text (verb.OnKey (act.Act action.Delete)) = refl
 verb_by-text verb.List = refl
 
 same_verb : (x y : Verb) → verb_text x ≡ verb_text y → x ≡ y

@@ -6,8 +6,6 @@ use Rattle.planner_cli_stream.specs.Grammar.{Text, Use, reading_of}
 use Rattle.planner_cli_stream.specs.Line.{is_line_byte, words_of}
 use Rattle.work_calendars.specs.declared.names.TheConstants.{LONGEST_SHORT_NAME}
 use Rattle.occurrences.specs.declared.key.Key.{Key}
-use Rattle.occurrences.specs.declared.status.Action.{Action}
-use Rattle.occurrences.specs.declared.status.Action.TheVariants as action
 use Rattle.planner_cli_stream.specs.Arguments.{HasArguments}
 use Rattle.planner_cli_stream.specs.Verb.{layout_for, verb_text}
 use Rattle.planner_cli_stream.specs.declared.arguments.Arguments.{Arguments}
@@ -15,6 +13,7 @@ use Rattle.planner_cli_stream.specs.declared.statements.ChangeStatement.{ChangeS
 use Rattle.planner_cli_stream.specs.declared.statements.ChangeStatement.TheVariants as change
 use Rattle.planner_cli_stream.specs.declared.statements.DailyFunction.{DailyFunction}
 use Rattle.planner_cli_stream.specs.declared.statements.DailyFunction.TheVariants as daily
+use Rattle.planner_cli_stream.specs.declared.statements.KeyAct.{KeyAct}
 use Rattle.planner_cli_stream.specs.declared.statements.PlanFunction.{PlanFunction}
 use Rattle.planner_cli_stream.specs.declared.statements.PlanFunction.TheVariants as plan
 use Rattle.planner_cli_stream.specs.declared.statements.Statement.{Statement}
@@ -75,8 +74,8 @@ key_of ia app = record { ia = ia; app = app }
 abbrev pub key_in : Arguments → Option Key
 key_in a = of_two key_of a.ia a.app
 
-abbrev pub act_of : Action → Arguments → Option ChangeStatement
-act_of action a = of_one (change.Act action) (key_in a)
+abbrev pub on_key_of : Arguments → KeyAct → Option ChangeStatement
+on_key_of a act = of_one (λ key. change.OnKey key act) (key_in a)
 
 -- the change of that name; none where the name is of no change
 abbrev pub change_of : Verb → Arguments → Option ChangeStatement
@@ -85,16 +84,9 @@ change_of verb.LtpCreate a = of_one change.Plan (create_of a)
 change_of verb.LtpExtend a = of_one change.Plan (extend_of a)
 change_of verb.LtpModifyAll a = Some (change.Plan plan.ModifyAll)
 change_of verb.LtpModifyOne a = of_one change.Plan (modify_one_of a)
-change_of verb.LtpAdd a = of_one change.Add (key_in a)
-change_of verb.LtpDelete a = of_one change.Delete (key_in a)
 change_of verb.DpExtend a = of_one change.Daily (daily_extend_of a)
 change_of verb.DpReplan a = Some (change.Daily daily.Replan)
-change_of verb.CpAdd a = of_one change.AddCurrent (key_in a)
-change_of verb.CpStart a = act_of action.Start a
-change_of verb.CpComplete a = act_of action.Complete a
-change_of verb.CpFail a = act_of action.Fail a
-change_of verb.CpReset a = act_of action.Reset a
-change_of verb.CpDelete a = act_of action.Delete a
+change_of (verb.OnKey act) a = on_key_of a act
 change_of _ a = None
 
 -- a trial of each function, with the options that it accepts and no others

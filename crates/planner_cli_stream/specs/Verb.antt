@@ -1,6 +1,8 @@
 -- The table of the statements: the name of each, and what follows it.
 use Rattle.std.specs.Prelude.{ℕ, true, false, List, [], ◌∷◌, Option, Some, None, map, codes}
 use Rattle.planner_cli_stream.specs.Grammar.{Layout, Text}
+use Rattle.occurrences.specs.declared.status.Action.TheVariants as action
+use Rattle.planner_cli_stream.specs.declared.statements.KeyAct.TheVariants as act
 use Rattle.planner_cli_stream.specs.declared.verbs.Verb.{Verb}
 use Rattle.planner_cli_stream.specs.declared.verbs.Verb.TheVariants as verb
 
@@ -13,17 +15,17 @@ verb_text verb.LtpExtend = codes "ltp-extend"
 verb_text verb.LtpModifyAll = codes "ltp-modify-all"
 verb_text verb.LtpModifyOne = codes "ltp-modify-one"
 verb_text verb.LtpTrial = codes "ltp-trial"
-verb_text verb.LtpAdd = codes "ltp-add"
-verb_text verb.LtpDelete = codes "ltp-delete"
+verb_text (verb.OnKey act.Add) = codes "ltp-add"
+verb_text (verb.OnKey act.Delete) = codes "ltp-delete"
 verb_text verb.DpExtend = codes "dp-extend"
 verb_text verb.DpReplan = codes "dp-replan"
 verb_text verb.DpTrial = codes "dp-trial"
-verb_text verb.CpAdd = codes "cp-add"
-verb_text verb.CpStart = codes "cp-start"
-verb_text verb.CpComplete = codes "cp-complete"
-verb_text verb.CpFail = codes "cp-fail"
-verb_text verb.CpReset = codes "cp-reset"
-verb_text verb.CpDelete = codes "cp-delete"
+verb_text (verb.OnKey act.AddCurrent) = codes "cp-add"
+verb_text (verb.OnKey (act.Act action.Start)) = codes "cp-start"
+verb_text (verb.OnKey (act.Act action.Complete)) = codes "cp-complete"
+verb_text (verb.OnKey (act.Act action.Fail)) = codes "cp-fail"
+verb_text (verb.OnKey (act.Act action.Reset)) = codes "cp-reset"
+verb_text (verb.OnKey (act.Act action.Delete)) = codes "cp-delete"
 verb_text verb.List = codes "list"
 
 -- options of these names, each of which has to be there, and a word without an option
@@ -55,15 +57,8 @@ layout_for verb.LtpExtend = takes (codes "to" ∷ codes "job" ∷ []) None
 layout_for verb.LtpModifyAll = takes (codes "job" ∷ []) None
 layout_for verb.LtpModifyOne = takes (codes "app" ∷ codes "job" ∷ []) None
 layout_for verb.LtpTrial = may_take (codes "from" ∷ codes "to" ∷ codes "app" ∷ []) (Some (codes "FUNCTION"))
-layout_for verb.LtpAdd = takes occurrence_names None
-layout_for verb.LtpDelete = takes occurrence_names None
 layout_for verb.DpExtend = extension
 layout_for verb.DpReplan = takes (codes "job" ∷ []) None
 layout_for verb.DpTrial = may_take (codes "to" ∷ codes "days" ∷ codes "count" ∷ []) (Some (codes "FUNCTION"))
-layout_for verb.CpAdd = takes occurrence_names None
-layout_for verb.CpStart = takes occurrence_names None
-layout_for verb.CpComplete = takes occurrence_names None
-layout_for verb.CpFail = takes occurrence_names None
-layout_for verb.CpReset = takes occurrence_names None
-layout_for verb.CpDelete = takes occurrence_names None
+layout_for (verb.OnKey act) = takes occurrence_names None
 layout_for verb.List = may_take (codes "app" ∷ []) (Some (codes "WHAT"))

@@ -55,7 +55,7 @@ pub use line_kinds::LONGEST_LINE;
 pub use lines::ReadFault;
 pub use pages::Page;
 pub use read::read_statement;
-pub use statements::{ChangeStatement, DailyFunction, PlanFunction, Statement};
+pub use statements::{ChangeStatement, DailyFunction, KeyAct, PlanFunction, Statement};
 pub use verbs::Verb;
 pub use word_law::reads_what_is_written;
 pub use word_values::Values;

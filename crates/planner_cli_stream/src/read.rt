@@ -1,16 +1,16 @@
 //! Lines are read as statements.
 ghost use Rattle.std.specs.Prelude.{◌≡◌, IfOk};
-ghost use Rattle.planner_cli_stream.specs.Statement.{Reads, act_of, change_of, create_of, daily_trial_of, extend_of};
+ghost use Rattle.planner_cli_stream.specs.Statement.{Reads, change_of, create_of, daily_trial_of, extend_of};
 ghost use Rattle.planner_cli_stream.specs.Statement.{daily_extend_of, fits_kind, key_in, list_of, modify_one_of};
-ghost use Rattle.planner_cli_stream.specs.Statement.{plan_trial_of, statement_of, undefine_of};
+ghost use Rattle.planner_cli_stream.specs.Statement.{on_key_of, plan_trial_of, statement_of, undefine_of};
 
 use crate::arguments::Arguments;
 use crate::values::arguments_in;
 use crate::{
-    ChangeStatement, DailyFunction, FunctionWord, KindWord, PlanFunction, Statement, Verb,
+    ChangeStatement, DailyFunction, FunctionWord, KeyAct, KindWord, PlanFunction, Statement, Verb,
     is_line_text, words_in,
 };
-use occurrences::{Action, Key};
+use occurrences::Key;
 use std::alloc::{AllocError, Global};
 use work_calendars::{LONGEST_SHORT_NAME, Name};
 
@@ -58,16 +58,9 @@ fn statement_of(verb: Verb, a: &Arguments) -> Option<Statement>
         | Verb::LtpExtend
         | Verb::LtpModifyAll
         | Verb::LtpModifyOne
-        | Verb::LtpAdd
-        | Verb::LtpDelete
         | Verb::DpExtend
         | Verb::DpReplan
-        | Verb::CpAdd
-        | Verb::CpStart
-        | Verb::CpComplete
-        | Verb::CpFail
-        | Verb::CpReset
-        | Verb::CpDelete => Some(Statement::Change {
+        | Verb::OnKey(_) => Some(Statement::Change {
             change: change_of(verb, a)?,
             job: a.job?,
         }),
@@ -84,16 +77,9 @@ fn change_of(verb: Verb, a: &Arguments) -> Option<ChangeStatement>
         Verb::LtpExtend => Some(ChangeStatement::Plan(extend_of(a)?)),
         Verb::LtpModifyAll => Some(ChangeStatement::Plan(PlanFunction::ModifyAll)),
         Verb::LtpModifyOne => Some(ChangeStatement::Plan(modify_one_of(a)?)),
-        Verb::LtpAdd => Some(ChangeStatement::Add { key: key_in(a)? }),
-        Verb::LtpDelete => Some(ChangeStatement::Delete { key: key_in(a)? }),
         Verb::DpExtend => Some(ChangeStatement::Daily(daily_extend_of(a)?)),
         Verb::DpReplan => Some(ChangeStatement::Daily(DailyFunction::Replan)),
-        Verb::CpAdd => Some(ChangeStatement::AddCurrent { key: key_in(a)? }),
-        Verb::CpStart => act_of(Action::Start, a),
-        Verb::CpComplete => act_of(Action::Complete, a),
-        Verb::CpFail => act_of(Action::Fail, a),
-        Verb::CpReset => act_of(Action::Reset, a),
-        Verb::CpDelete => act_of(Action::Delete, a),
+        Verb::OnKey(act) => on_key_of(a, act),
         Verb::Define | Verb::Days | Verb::LtpTrial | Verb::DpTrial | Verb::List => None,
     }
 }
@@ -174,13 +160,13 @@ fn key_in(a: &Arguments) -> Option<Key>
     })
 }
 
-/// A report on an occurrence of the current plan.
-fn act_of(action: Action, a: &Arguments) -> Option<ChangeStatement>
-    ensures { result ≡ act_of action a.now }
+/// A change of the occurrence that the values name.
+fn on_key_of(a: &Arguments, act: KeyAct) -> Option<ChangeStatement>
+    ensures { result ≡ on_key_of a.now act }
 {
-    Some(ChangeStatement::Act {
-        action,
+    Some(ChangeStatement::OnKey {
         key: key_in(a)?,
+        act,
     })
 }
 

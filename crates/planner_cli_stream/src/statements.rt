@@ -27,6 +27,19 @@ pub enum DailyFunction {
     Replan,
 }
 
+/// What a statement on one occurrence does to it.
+#[derive(Clone, Copy, Debug, PartialEq, Eq)]
+pub enum KeyAct {
+    /// `ltp-add`: to add it to the long-term plan.
+    Add,
+    /// `ltp-delete`: to delete it from the long-term plan.
+    Delete,
+    /// `cp-add`: to add it to the current plan.
+    AddCurrent,
+    /// `cp-start` to `cp-delete`: to report on it in the current plan.
+    Act(Action),
+}
+
 /// A statement that changes something, without its job number, and without data.
 #[derive(Clone, Copy, Debug, PartialEq, Eq)]
 pub enum ChangeStatement {
@@ -35,16 +48,10 @@ pub enum ChangeStatement {
     Undefine { kind: KindWord, name: Name },
     /// `ltp-create` to `ltp-modify-one`: to plan.
     Plan(PlanFunction),
-    /// `ltp-add`: to add an occurrence to the long-term plan.
-    Add { key: Key },
-    /// `ltp-delete`: to delete an occurrence from the long-term plan.
-    Delete { key: Key },
     /// `dp-extend`, `dp-replan`: to make a daily plan.
     Daily(DailyFunction),
-    /// `cp-add`: to add an occurrence to the current plan.
-    AddCurrent { key: Key },
-    /// `cp-start` to `cp-delete`: to report on an occurrence of the current plan.
-    Act { action: Action, key: Key },
+    /// `ltp-add`, `ltp-delete`, `cp-add` to `cp-delete`: to do something to the occurrence of that key.
+    OnKey { key: Key, act: KeyAct },
 }
 
 /// A statement of a job stream.

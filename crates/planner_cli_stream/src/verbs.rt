@@ -3,7 +3,8 @@ ghost use Rattle.std.specs.Prelude.{◌≡◌, ◌≢◌, IfSome, IfNone};
 ghost use Rattle.planner_cli_stream.specs.Form.{layout_of};
 ghost use Rattle.planner_cli_stream.specs.Verb.{layout_for, verb_text};
 
-use crate::Form;
+use crate::{Form, KeyAct};
+use occurrences::Action;
 
 /// The name of a statement, its first word.
 #[derive(Clone, Copy, Debug, PartialEq, Eq)]
@@ -24,28 +25,14 @@ pub enum Verb {
     LtpModifyOne,
     /// `ltp-trial`
     LtpTrial,
-    /// `ltp-add`
-    LtpAdd,
-    /// `ltp-delete`
-    LtpDelete,
     /// `dp-extend`
     DpExtend,
     /// `dp-replan`
     DpReplan,
     /// `dp-trial`
     DpTrial,
-    /// `cp-add`
-    CpAdd,
-    /// `cp-start`
-    CpStart,
-    /// `cp-complete`
-    CpComplete,
-    /// `cp-fail`
-    CpFail,
-    /// `cp-reset`
-    CpReset,
-    /// `cp-delete`
-    CpDelete,
+    /// `ltp-add`, `ltp-delete`, `cp-add` to `cp-delete`: the statements on one occurrence
+    OnKey(KeyAct),
     /// `list`
     List,
 }
@@ -65,17 +52,17 @@ impl Verb {
             "ltp-modify-all" => Some(Verb::LtpModifyAll),
             "ltp-modify-one" => Some(Verb::LtpModifyOne),
             "ltp-trial" => Some(Verb::LtpTrial),
-            "ltp-add" => Some(Verb::LtpAdd),
-            "ltp-delete" => Some(Verb::LtpDelete),
+            "ltp-add" => Some(Verb::OnKey(KeyAct::Add)),
+            "ltp-delete" => Some(Verb::OnKey(KeyAct::Delete)),
             "dp-extend" => Some(Verb::DpExtend),
             "dp-replan" => Some(Verb::DpReplan),
             "dp-trial" => Some(Verb::DpTrial),
-            "cp-add" => Some(Verb::CpAdd),
-            "cp-start" => Some(Verb::CpStart),
-            "cp-complete" => Some(Verb::CpComplete),
-            "cp-fail" => Some(Verb::CpFail),
-            "cp-reset" => Some(Verb::CpReset),
-            "cp-delete" => Some(Verb::CpDelete),
+            "cp-add" => Some(Verb::OnKey(KeyAct::AddCurrent)),
+            "cp-start" => Some(Verb::OnKey(KeyAct::Act(Action::Start))),
+            "cp-complete" => Some(Verb::OnKey(KeyAct::Act(Action::Complete))),
+            "cp-fail" => Some(Verb::OnKey(KeyAct::Act(Action::Fail))),
+            "cp-reset" => Some(Verb::OnKey(KeyAct::Act(Action::Reset))),
+            "cp-delete" => Some(Verb::OnKey(KeyAct::Act(Action::Delete))),
             "list" => Some(Verb::List),
             _ => None,
         }
@@ -141,14 +128,7 @@ impl Verb {
                 optional: APP.as_slice(),
                 word: Some("WHAT"),
             },
-            Verb::LtpAdd
-            | Verb::LtpDelete
-            | Verb::CpAdd
-            | Verb::CpStart
-            | Verb::CpComplete
-            | Verb::CpFail
-            | Verb::CpReset
-            | Verb::CpDelete => Form {
+            Verb::OnKey(_) => Form {
                 required: APP_IA_JOB.as_slice(),
                 optional: &[],
                 word: None,
