@@ -12,11 +12,8 @@ change_asked : (change : ChangeStatement) (function : PlanFunction) → plan_in 
     → change_of change ≡ plan_change function
 change_asked (statement.Plan own) function is = let same : own ≡ function = cc in ap plan_change same
 change_asked (statement.Undefine kind name) function is = absurd (let no : ⊥ = cc is in no)
-change_asked (statement.Add key) function is = absurd (let no : ⊥ = cc is in no)
-change_asked (statement.Delete key) function is = absurd (let no : ⊥ = cc is in no)
 change_asked (statement.Daily daily) function is = absurd (let no : ⊥ = cc is in no)
-change_asked (statement.AddCurrent key) function is = absurd (let no : ⊥ = cc is in no)
-change_asked (statement.Act action key) function is = absurd (let no : ⊥ = cc is in no)
+change_asked (statement.OnKey key act) function is = absurd (let no : ⊥ = cc is in no)
 
 -- it is that change of the machine
 pub plan_asked : (job : JobChange) (function : PlanFunction) → plan_of job ≡ Some function

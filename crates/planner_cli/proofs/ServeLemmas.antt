@@ -7,6 +7,7 @@ use Rattle.app_definitions.specs.Definitions.{IsDefined, names_given}
 use Rattle.app_definitions.specs.declared.definitions.Definitions.{Definitions}
 use Rattle.app_definitions.specs.declared.kinds.DefinitionBlock.{DefinitionBlock}
 use Rattle.app_definitions.specs.declared.kinds.Kind.{Kind}
+use Rattle.occurrences.specs.declared.key.Key.{Key}
 use Rattle.occurrences.specs.declared.refusal.Refusal.{Refusal}
 use Rattle.occurrences.specs.declared.refusal.Refusal.TheVariants.{FaultyData, JobWithAnotherText, NotDefined}
 use Rattle.occurrences.specs.declared.reply.Reply.TheVariants.{Rows}
@@ -28,6 +29,9 @@ use Rattle.plan_store.specs.declared.changes.Verdict.{Verdict}
 use Rattle.plan_store.specs.declared.changes.Verdict.TheVariants.{Done, Refused}
 use Rattle.planner_cli_stream.specs.JobNumber.{IsJobNumber}
 use Rattle.planner_cli_stream.specs.Items.{longest_block}
+use Rattle.planner_cli_stream.specs.declared.statements.KeyAct.{KeyAct}
+use Rattle.planner_cli_stream.specs.declared.statements.KeyAct.TheVariants as act
+use Rattle.planner_cli.specs.Changes.{key_change}
 use Rattle.planner_cli.specs.Outcomes.{answer_text, answering}
 use Rattle.planner_cli.specs.Replies.{AnswerLines}
 use Rattle.planner_cli.specs.Rows.{AreDaysLines}
@@ -74,6 +78,13 @@ shown_names number kind bytes short block reads = let few = names_few kind bytes
 pub block_well_formed : (kind : Kind) (bytes : List ℕ) (block : DefinitionBlock) → length bytes ≤ longest_block
     → ReadsAs kind bytes block → IsWellFormed (Define block)
 block_well_formed kind bytes block short reads = (shown_names 0 kind bytes short block reads, (kind, bytes, reads))
+
+-- so is what changes one occurrence
+pub key_well_formed : (key : Key) (act : KeyAct) → IsWellFormed (key_change key act)
+key_well_formed key act.Add = tt
+key_well_formed key act.Delete = tt
+key_well_formed key act.AddCurrent = tt
+key_well_formed key (act.Act action) = tt
 
 pub serves_define : (number : ℕ) (text : List ℕ) (kind : Kind) (bytes : List ℕ) (block : DefinitionBlock) (c : Content)
     → IsJobNumber number

@@ -62,10 +62,7 @@ abbrev pub daily_in : ChangeStatement → Option DailyFunction
 daily_in (statement.Daily function) = Some function
 daily_in (statement.Undefine kind name) = None
 daily_in (statement.Plan function) = None
-daily_in (statement.Add key) = None
-daily_in (statement.Delete key) = None
-daily_in (statement.AddCurrent key) = None
-daily_in (statement.Act action key) = None
+daily_in (statement.OnKey key act) = None
 
 -- and that a job requests
 abbrev pub daily_of : JobChange → Option DailyFunction
@@ -76,11 +73,8 @@ daily_of (by_job.Statement change) = daily_in change
 abbrev pub plan_in : ChangeStatement → Option PlanFunction
 plan_in (statement.Plan function) = Some function
 plan_in (statement.Undefine kind name) = None
-plan_in (statement.Add key) = None
-plan_in (statement.Delete key) = None
 plan_in (statement.Daily function) = None
-plan_in (statement.AddCurrent key) = None
-plan_in (statement.Act action key) = None
+plan_in (statement.OnKey key act) = None
 
 -- and that a job requests
 abbrev pub plan_of : JobChange → Option PlanFunction
@@ -103,11 +97,8 @@ IsEndOf c None end = Unit {0}
 abbrev pub need_of_change : Option ℕ → ChangeStatement → Need
 need_of_change end (statement.Undefine kind name) = need.Definitions
 need_of_change end (statement.Plan function) = need.LongTerm
-need_of_change end (statement.Add key) = need.Key key
-need_of_change end (statement.Delete key) = need.Key key
 need_of_change end (statement.Daily function) = daily_need end
-need_of_change end (statement.AddCurrent key) = need.Key key
-need_of_change end (statement.Act action key) = need.Key key
+need_of_change end (statement.OnKey key act) = need.Key key
 
 abbrev pub need_of : Option ℕ → JobChange → Need
 need_of end (by_job.Define block) = need.Definitions

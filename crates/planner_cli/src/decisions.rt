@@ -8,16 +8,16 @@ ghost use Rattle.plan_store.specs.Views.{Shows};
 ghost use Rattle.plan_store.specs.declared.stores.Need.TheVariants.{Definitions, LongTerm};
 ghost use Rattle.long_term_plan.specs.Early.{IsRefusedEarly};
 ghost use Rattle.daily_planning.specs.DailyPlans.{daily_need};
-ghost use Rattle.planner_cli.specs.Changes.{change_of, daily_change, plan_change};
+ghost use Rattle.planner_cli.specs.Changes.{change_of, daily_change, key_change, plan_change};
 ghost use Rattle.planner_cli.specs.Verdicts.{IsEnd, IsEndOf, daily_in, daily_of, job_change, need_of, need_of_change};
 ghost use Rattle.planner_cli.specs.Verdicts.{plan_in, plan_of};
 
 use crate::define::{define, undefine};
 use crate::kinds::definitions_kind;
 use app_definitions::DefinitionBlock;
-use occurrences::Refusal;
+use occurrences::{Key, Refusal};
 use plan_store::{Need, Verdict, View};
-use planner_cli_stream::{ChangeStatement, DailyFunction, PlanFunction};
+use planner_cli_stream::{ChangeStatement, DailyFunction, KeyAct, PlanFunction};
 use std::alloc::{AllocError, Global};
 use work_calendars::Moment;
 
@@ -48,10 +48,7 @@ fn daily_in(change: &ChangeStatement) -> Option<DailyFunction>
         ChangeStatement::Daily(function) => Some(*function),
         ChangeStatement::Undefine { .. }
         | ChangeStatement::Plan(_)
-        | ChangeStatement::Add { .. }
-        | ChangeStatement::Delete { .. }
-        | ChangeStatement::AddCurrent { .. }
-        | ChangeStatement::Act { .. } => None,
+        | ChangeStatement::OnKey { .. } => None,
     }
 }
 
@@ -72,11 +69,8 @@ fn plan_in(change: &ChangeStatement) -> Option<PlanFunction>
     match change {
         ChangeStatement::Plan(function) => Some(*function),
         ChangeStatement::Undefine { .. }
-        | ChangeStatement::Add { .. }
-        | ChangeStatement::Delete { .. }
         | ChangeStatement::Daily(_)
-        | ChangeStatement::AddCurrent { .. }
-        | ChangeStatement::Act { .. } => None,
+        | ChangeStatement::OnKey { .. } => None,
     }
 }
 
@@ -97,11 +91,8 @@ fn need_of_change(end: Option<Moment>, change: &ChangeStatement) -> Need
     match change {
         ChangeStatement::Undefine { .. } => Need::Definitions,
         ChangeStatement::Plan(_) => Need::LongTerm,
-        ChangeStatement::Add { key }
-        | ChangeStatement::Delete { key }
-        | ChangeStatement::AddCurrent { key }
-        | ChangeStatement::Act { key, .. } => Need::Key(*key),
         ChangeStatement::Daily(_) => daily_planning::daily_need(end),
+        ChangeStatement::OnKey { key, .. } => Need::Key(*key),
     }
 }
 
@@ -138,13 +129,26 @@ fn decide_change(
             Ok(undefine(alloc, view, definitions_kind(*kind), name))
         }
         ChangeStatement::Plan(function) => decide_plan(alloc, view, function),
-        ChangeStatement::Add { key } => long_term_plan::add(alloc, view, key),
-        ChangeStatement::Delete { key } => long_term_plan::delete(alloc, view, key),
         ChangeStatement::Daily(function) => decide_daily(alloc, view, end, function),
-        ChangeStatement::AddCurrent { key } => daily_planning::cp_add(alloc, view, key),
-        ChangeStatement::Act { action, key } => {
-            daily_planning::cp_action(alloc, view, key, *action)
-        }
+        ChangeStatement::OnKey { key, act } => decide_on_key(alloc, view, key, *act),
+    }
+}
+
+// The verdict on a change of one occurrence.
+fn decide_on_key(
+    alloc: Global,
+    view: &View<'_>,
+    key: &Key,
+    act: KeyAct,
+) -> Result<Verdict, AllocError>
+    ensures { IfOk result (λ verdict. (c : Content) → Shows (Need.Key key.now) view.now c → IsSound c
+        → VerdictIs (decision_of (key_change key.now act)) c verdict) }
+{
+    match act {
+        KeyAct::Add => long_term_plan::add(alloc, view, key),
+        KeyAct::Delete => long_term_plan::delete(alloc, view, key),
+        KeyAct::AddCurrent => daily_planning::cp_add(alloc, view, key),
+        KeyAct::Act(action) => daily_planning::cp_action(alloc, view, key, action),
     }
 }
 

@@ -25,12 +25,9 @@ pub(crate) fn change_is_well_formed(change: &ChangeStatement)
     match change {
         ChangeStatement::Undefine { .. } => {}
         ChangeStatement::Plan(function) => plan_is_well_formed(function),
-        ChangeStatement::Add { .. } => {}
-        ChangeStatement::Delete { .. } => {}
         ChangeStatement::Daily(DailyFunction::Extend { .. }) => {}
         ChangeStatement::Daily(DailyFunction::ExtendBy { .. }) => {}
         ChangeStatement::Daily(DailyFunction::Replan) => {}
-        ChangeStatement::AddCurrent { .. } => {}
-        ChangeStatement::Act { .. } => {}
+        ChangeStatement::OnKey { .. } => {}
     }
 }
