@@ -4,6 +4,7 @@ mod SeekLemmas
 mod WhyLemmas
 mod WindowLemmas
 mod ListLemmas
+mod EndLemmas
 pub mod LookLemmas
 pub mod MetLemmas
 pub mod SetLemmas

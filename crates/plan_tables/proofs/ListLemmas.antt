@@ -2,6 +2,8 @@
 use Rattle.std.proofs.Common.{◌≡◌, ◌≢◌, ◌≤◌, ℕ, List, [], Err, Ok, Option, Result, arith, inl, inr, refl}
 use Rattle.std.proofs.Common.{Bool, subst, sym}
 use Rattle.std.proofs.Math.Logic.{∥∥₁_elim, ∥∥₁_map}
+use Rattle.std.specs.List.Sorted.{IsSortedByKey}
+use Rattle.std.specs.Ordering.{nat_cmp}
 use Rattle.std.specs.Prelude.{IfOk, IsTrue, OnOk}
 use Rattle.sqlite.specs.Effect.{Database}
 use Rattle.sqlite.specs.Held.{Held, state}
@@ -13,18 +15,24 @@ use Rattle.sqlite.proofs.StateLemmas.{survives_then}
 use Rattle.occurrences.specs.declared.place.Deletion.{Deletion}
 use Rattle.occurrences.specs.declared.row.Row.{Row}
 use Rattle.planner_machine.specs.Content.{Content}
-use Rattle.planner_machine.specs.Sound.{AreNumbered}
+use Rattle.planner_machine.specs.Sound.{AreNumbered, IsSound}
 use Rattle.plan_store_lists.specs.Rows.{of_deletion, of_row}
+use Rattle.plan_store.specs.AppPairs.{HasEnds}
+use Rattle.plan_store.specs.Ends.{HasFound}
 use Rattle.plan_store.specs.Listings.{EmitsAll, EmitsPart as EmitsSome, IsListing, Shown}
 use Rattle.plan_store.specs.Parts.{ListsAll}
+use Rattle.plan_store.specs.Views.{row_serial}
+use Rattle.plan_store.specs.declared.listings.ListFault.{ListFault}
 use Rattle.plan_store.specs.declared.listings.ListFault.TheVariants as list
 use Rattle.plan_store.specs.declared.listings.ItemRefused.{ItemRefused}
+use Rattle.plan_store.proofs.EndLemmas.{has_ends}
 use Rattle.plan_tables_schema.specs.Rows.{StaysOrIsUndone, tables_of}
 use Rattle.plan_tables_schema.specs.Schema.{HasTables}
 use Rattle.plan_tables_schema.specs.declared.tables.Table.{Table}
 use Rattle.plan_tables_schema.proofs.StopLemmas.{vain_since}
 use Rattle.plan_tables_content.specs.Content.{IsContentOf}
 use Rattle.plan_tables_loading.proofs.LookLemmas.{undone_since}
+use Rattle.plan_tables_windows.specs.Fetching.{rest_in}
 use Rattle.plan_tables_queries.specs.Finding.{FindsFact, StopsFor}
 use Rattle.plan_tables_queries.specs.declared.faults.LookupFault.{LookupFault}
 use Rattle.plan_tables_queries.specs.declared.faults.LookupFault.TheVariants as lookup
@@ -32,12 +40,12 @@ use Rattle.plan_tables_queries.specs.Listing.{EmitsPart, HoldsContent, Lists, St
 use Rattle.plan_tables_queries.specs.declared.listing_faults.ListedFault.{ListedFault}
 use Rattle.plan_tables_queries.specs.declared.listing_faults.ListedFault.TheVariants as listed
 use Rattle.plan_tables.specs.Kept.{IsKept, kept_in}
-use Rattle.plan_tables.specs.Listing.{LeavesOpen, ListsKept, fault_so, listed_so, what_of}
+use Rattle.plan_tables.specs.Listing.{LeavesOpen, ListsKept, ended_so, fault_so, listed_so, what_of}
 use Rattle.plan_tables.specs.declared.listing.ListedTable.{ListedTable}
 use Rattle.plan_tables.specs.declared.keeping.Unmade.{Unmade}
 use Rattle.plan_tables.specs.declared.keeping.Unmade.TheVariants as unmade
 use Rattle.plan_tables.specs.declared.listing.Unlisted.TheVariants as unlisted
-use Rattle.plan_tables.proofs.SetLemmas.{deletion_found_set, no_prop, row_found_set}
+use Rattle.plan_tables.proofs.SetLemmas.{deletion_found_set, no_prop, row_found_set, row_set}
 
 -- ---- one table after another
 
@@ -126,6 +134,34 @@ finds_not g old new fault P R is = record {
   survives = is.survives;
 }
 
+-- ---- what was found says something else
+
+pub finds_as : {S T U : Type 0} (g : Ghosts S) (old new : Held S) (x : T) (y : U) (P : Content → T → Type 0)
+    (R : Content → U → Type 0) → FindsFact g old new (Ok x) P → ((c : Content) → IsSound c → P c x → R c y)
+    → FindsFact g old new (Ok y) R
+finds_as g old new x y P R is so = record {
+  found = λ clean has c of sound. so c sound (is.found clean has c of sound);
+  told = λ clean has c of sound. tt;
+  same = is.same;
+  fails = λ clean has. tt;
+  leaves = is.leaves;
+  mode = is.mode;
+  survives = is.survives;
+}
+
+-- memory is refused then
+pub finds_short : {S T U : Type 0} (g : Ghosts S) (old new : Held S) (x : T) (P : Content → T → Type 0)
+    (R : Content → U → Type 0) → FindsFact g old new (Ok x) P → FindsFact g old new (Err lookup.Memory) R
+finds_short g old new x P R is = record {
+  found = λ clean has c of sound. tt;
+  told = λ clean has c of sound same. cc;
+  same = λ clean has. tt;
+  fails = is.same;
+  leaves = is.leaves;
+  mode = is.mode;
+  survives = is.survives;
+}
+
 -- ---- a set in its table
 
 pub holds_kept : (s : State) (lists : Content) (t : Table) → IsKept s lists → HoldsContent s t (kept_in s lists)
@@ -198,29 +234,13 @@ module _ {S K : Type 0} (g : Ghosts S) (old new : Held S) (lists : Content) (Acc
       stops (lookup.Store e) h = h
 
   -- it was read
-  module _ {T : Type 0} (x : T) (P : Content → T → Type 0) (did : FindsFact g old new (Ok x) P) (h : List Row)
-      (d : List Deletion)
-      (reads : (c : Content) → P c x → ListsAll of_row h c.sets.history × ListsAll of_deletion d c.sets.deletions) where
-    read_rest : HasCleanDisk (state g new) → ∥ IsKept (state g old) lists ∥₁
-        → ListsAll of_row h kept.sets.history × ListsAll of_deletion d kept.sets.deletions
-    read_rest clean is =
-        let found = λ (k : IsKept (state g old) lists). reads kept (did.found clean k.stored.plan.schema kept
-        k.stored.content k.sound) in (
-          record {
-            only = λ row there. ∥∥₁_elim is (row_found_set _ _) (λ k. (found k).0.only row there);
-            found = λ serial. ∥∥₁_elim is (row_found_set _ _) (λ k. (found k).0.found serial);
-          },
-          record {
-            only = λ deletion there. ∥∥₁_elim is (deletion_found_set _ _) (λ k. (found k).1.only deletion there);
-            found = λ serial. ∥∥₁_elim is (deletion_found_set _ _) (λ k. (found k).1.found serial);
-          },
-        )
-
-    pub pairs_ok : (count : ℕ) → (AreNumbered kept.sets → ListsAll of_row h kept.sets.history
-        → ListsAll of_deletion d kept.sets.deletions → EmitsAll Accepts (IsListing (what_of what) app kept) before after count)
+  module _ {T : Type 0} (x : T) (P : Content → T → Type 0) (did : FindsFact g old new (Ok x) P) (Ready : Type 0)
+      (read : HasCleanDisk (state g new) → ∥ IsKept (state g old) lists ∥₁ → Ready) where
+    pub pairs_ok : (count : ℕ) → (AreNumbered kept.sets → Ready
+        → EmitsAll Accepts (IsListing (what_of what) app kept) before after count)
         → ListsKept g old new lists Accepts Refuses before after what app (Ok count)
     pairs_ok count all = record {
-      all = λ clean is numbered. let both = read_rest clean is in all numbered both.0 both.1;
+      all = λ clean is numbered. all numbered (read clean is);
       part = λ clean is numbered. tt;
       told = λ clean is. tt;
       same = did.same;
@@ -230,40 +250,83 @@ module _ {S K : Type 0} (g : Ghosts S) (old new : Held S) (lists : Content) (Acc
       survives = did.survives;
     }
 
-    pub pairs_memory : (AreNumbered kept.sets → ListsAll of_row h kept.sets.history
-        → ListsAll of_deletion d kept.sets.deletions → EmitsSome Accepts Refuses (IsListing (what_of what) app kept) before after list.Memory)
-        → ListsKept g old new lists Accepts Refuses before after what app (Err listed.Memory)
-    pairs_memory part = record {
+    pub pairs_ended : (fault : ListFault) → (AreNumbered kept.sets → Ready
+        → EmitsSome Accepts Refuses (IsListing (what_of what) app kept) before after fault)
+        → ListsKept g old new lists Accepts Refuses before after what app (Err (ended_so fault))
+    pairs_ended fault part = record {
       all = λ clean is numbered. tt;
-      part = λ clean is numbered.
-          let both = read_rest clean is in
-          let did' = part numbered both.0 both.1 in
-          record { done = did'.done; rest = did'.rest; whole = did'.whole; ends = did'.ends };
-      told = λ clean is same. cc;
+      part = λ clean is numbered. ended fault (part numbered (read clean is));
+      told = λ clean is. untold fault;
       same = λ clean has. tt;
-      fails = λ clean has. did.same clean has;
+      fails = λ clean has. stops fault (did.same clean has);
       leaves = did.leaves;
       mode = did.mode;
       survives = did.survives;
     }
+      where
+        ended : (f : ListFault) → EmitsSome Accepts Refuses (IsListing (what_of what) app kept) before after f
+            → EmitsPart Accepts Refuses (IsListing (what_of what) app kept) before after (ended_so f)
+        ended (list.Sink fault) d = record { done = d.done; rest = d.rest; whole = d.whole; ends = d.ends }
+        ended list.Memory d = record { done = d.done; rest = d.rest; whole = d.whole; ends = d.ends }
+        ended list.Device d = record { done = d.done; rest = d.rest; whole = d.whole; ends = d.ends }
 
-    pub pairs_refused : (fault : ItemRefused) → (AreNumbered kept.sets → ListsAll of_row h kept.sets.history
-        → ListsAll of_deletion d kept.sets.deletions → EmitsSome Accepts Refuses (IsListing (what_of what) app kept) before after
-        (list.Sink fault))
-        → ListsKept g old new lists Accepts Refuses before after what app (Err (listed.Sink fault))
-    pairs_refused fault part = record {
-      all = λ clean is numbered. tt;
-      part = λ clean is numbered.
-          let both = read_rest clean is in
-          let did' = part numbered both.0 both.1 in
-          record { done = did'.done; rest = did'.rest; whole = did'.whole; ends = did'.ends };
-      told = λ clean is same. cc;
-      same = λ clean has. tt;
-      fails = λ clean has. did.same clean has;
-      leaves = did.leaves;
-      mode = did.mode;
-      survives = did.survives;
-    }
+        untold : (f : ListFault) → ended_so f ≢ listed.Malformed
+        untold (list.Sink fault) is = cc
+        untold list.Memory is = cc
+        untold list.Device is = cc
+
+        stops : (f : ListFault) → IsUnchanged (state g old) (state g new)
+            → StopsListing (state g old) (state g new) (ended_so f)
+        stops (list.Sink fault) same = same
+        stops list.Memory same = same
+        stops list.Device same = same
+
+-- ---- what was read is ready, though what is kept is a mere fact
+
+module _ {S T : Type 0} (g : Ghosts S) (old new : Held S) (lists : Content) (x : T) (P : Content → T → Type 0)
+    (did : FindsFact g old new (Ok x) P) where
+  abbrev all : Content
+  all = kept_in (state g old) lists
+
+  found_kept : HasCleanDisk (state g new) → IsKept (state g old) lists → P all x
+  found_kept clean k = did.found clean k.stored.plan.schema all k.stored.content k.sound
+
+  -- all of history and all deletions
+  pub rest_ready : (h : List Row) (d : List Deletion)
+      → ((c : Content) → P c x → ListsAll of_row h c.sets.history × ListsAll of_deletion d c.sets.deletions)
+      → HasCleanDisk (state g new) → ∥ IsKept (state g old) lists ∥₁
+      → ListsAll of_row h all.sets.history × ListsAll of_deletion d all.sets.deletions
+  rest_ready h d reads clean is = (
+    record {
+      only = λ row there. ∥∥₁_elim is (row_found_set _ _) (λ k. (reads all (found_kept clean k)).0.only row there);
+      found = λ serial. ∥∥₁_elim is (row_found_set _ _) (λ k. (reads all (found_kept clean k)).0.found serial);
+    },
+    record {
+      only = λ deletion there. ∥∥₁_elim is (deletion_found_set _ _)
+          (λ k. (reads all (found_kept clean k)).1.only deletion there);
+      found = λ serial. ∥∥₁_elim is (deletion_found_set _ _) (λ k. (reads all (found_kept clean k)).1.found serial);
+    },
+  )
+
+  -- the rows that the lists lack for the pairs of one application
+  pub ends_ready : (app : List ℕ) (rows : List Row) → IsSortedByKey row_serial nat_cmp rows
+      → ((c : Content) → P c x → HasFound app lists c.sets.history rows)
+      → HasCleanDisk (state g new) → ∥ IsKept (state g old) lists ∥₁ → HasEnds app (rest_in (state g old)) rows lists
+  ends_ready app rows rising finds clean is =
+      let ends : IsKept (state g old) lists → HasEnds app (rest_in (state g old)) rows lists =
+      λ k. has_ends app (rest_in (state g old)) lists rows rising k.sound k.part (finds all (found_kept clean k)) in
+      record {
+        ordered = record {
+          rising = rising;
+          one_each = λ a b at_a at_b same. ∥∥₁_elim is (row_set _ _)
+              (λ k. (ends k).ordered.one_each a b at_a at_b same);
+        };
+        only = λ serial row at. ∥∥₁_elim is (row_found_set _ _) (λ k. (ends k).only serial row at);
+        successors = λ pair row there at of. ∥∥₁_elim is (row_found_set _ _)
+            (λ k. (ends k).successors pair row there at of);
+        predecessors = λ pair row there at of. ∥∥₁_elim is (row_found_set _ _)
+            (λ k. (ends k).predecessors pair row there at of);
+      }
 
 -- ---- why it ended
 

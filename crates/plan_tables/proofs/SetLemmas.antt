@@ -29,7 +29,7 @@ current_set = Coded-set current.the_row.coded
 deletion_set : IsSet Deletion
 deletion_set = Coded-set deletion.the_row.coded
 
-row_set : IsSet Row
+pub row_set : IsSet Row
 row_set = Coded-set row.the_row.coded
 
 link_set : IsSet Link

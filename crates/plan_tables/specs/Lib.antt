@@ -11,3 +11,4 @@ pub mod Causes
 pub mod Whys
 pub mod Accepted
 pub mod Applied
+pub mod Ends

@@ -36,6 +36,12 @@ listed_so lookup.Memory = listed.Memory
 listed_so lookup.Malformed = listed.Malformed
 listed_so (lookup.Store e) = listed.Store e
 
+-- the fault of a listing of lists, which have no device
+abbrev pub ended_so : ListFault → ListedFault
+ended_so (list.Sink fault) = listed.Sink fault
+ended_so list.Memory = listed.Memory
+ended_so list.Device = listed.Memory
+
 -- the fault of a store
 abbrev pub fault_so : Unlisted → ListFault
 fault_so (unlisted.Sink fault) = list.Sink fault

@@ -14,6 +14,7 @@
 mod answers;
 mod closing;
 mod definition_moves;
+mod ends;
 mod keeping;
 mod listing;
 mod looking;

@@ -1,6 +1,6 @@
 // Listings that query the tables.
 
-ghost use Rattle.std.specs.Prelude.{◌≡◌, ◌≢◌, false, option_copied, IfErr, IfOk, IsTrue, OnOk};
+ghost use Rattle.std.specs.Prelude.{◌≡◌, false, option_copied, IfErr, IfOk, IsTrue, None, OnOk, Some};
 ghost use Rattle.sqlite.specs.Held.{state};
 ghost use Rattle.sqlite.specs.State.{HasCleanDisk, IsUnchanged, Survives};
 ghost use Rattle.planner_machine.specs.Sound.{AreNumbered};
@@ -12,8 +12,10 @@ ghost use Rattle.plan_tables_schema.specs.Schema.{HasTables};
 ghost use Rattle.plan_tables_queries.specs.Finding.{FindsFact};
 ghost use Rattle.plan_tables.specs.Causes.{HasFailed};
 ghost use Rattle.plan_tables.specs.Kept.{IsKept, StaysPut, kept_in};
-ghost use Rattle.plan_tables.specs.Listing.{LeavesOpen, ListsKept, fault_so, listed_so, what_of};
+ghost use Rattle.plan_tables.specs.Listing.{LeavesOpen, ListsKept, ended_so, fault_so, listed_so};
+ghost use Rattle.plan_tables.specs.Listing.{what_of};
 
+use crate::ends::find_ends;
 use crate::keeping::{Unmade, cause_of};
 use occurrences::{Deletion, Row};
 use plan_store::{Content, ItemRefused, ItemSink, ListFault};
@@ -71,6 +73,62 @@ fn read_rest<S: Alter>(
     }
 }
 
+// Why a listing of pairs from lists ended before its last item. Lists have no device.
+fn ended_so(fault: ListFault) -> ListedFault
+    ensures { result ≡ ended_so fault }
+{
+    match fault {
+        ListFault::Sink(fault) => ListedFault::Sink(fault),
+        ListFault::Memory | ListFault::Device => ListedFault::Memory,
+    }
+}
+
+// Passes the sink all pairs, each with both its rows. All of history and all deletions are read first.
+fn list_all_pairs<S: Alter, K: ItemSink>(
+    alloc: Global,
+    conn: &mut Connection<S>,
+    lists: &Content,
+    sink: &mut K,
+) -> Result<usize, ListedFault>
+    ensures { ListsKept S.Store conn.old conn.new (content_of lists.now) K.accepts K.refuses
+        sink.old sink.new ListedTable.Pairs None result }
+{
+    lists.has_listings_with();
+    let (history, deletions) = match read_rest(alloc, conn) {
+        Ok(rows) => rows,
+        Err(fault) => return Err(listed_so(fault)),
+    };
+    let completed = history.as_slice();
+    let deleted = deletions.as_slice();
+    match lists.pairs_to(alloc, completed, deleted, None, sink) {
+        Ok(count) => Ok(count),
+        Err(fault) => Err(ended_so(fault)),
+    }
+}
+
+// Passes the sink the pairs of one application, each with both its rows, which are looked up by serial.
+fn list_app_pairs<S: Alter, K: ItemSink>(
+    alloc: Global,
+    conn: &mut Connection<S>,
+    lists: &Content,
+    app: &App,
+    sink: &mut K,
+) -> Result<usize, ListedFault>
+    ensures { ListsKept S.Store conn.old conn.new (content_of lists.now) K.accepts K.refuses
+        sink.old sink.new ListedTable.Pairs (Some app.now) result }
+{
+    lists.has_listings_with();
+    let found = match find_ends(alloc, conn, lists, app) {
+        Ok(found) => found,
+        Err(fault) => return Err(listed_so(fault)),
+    };
+    let rows = found.as_slice();
+    match lists.app_pairs_to(alloc, rows, app, sink) {
+        Ok(count) => Ok(count),
+        Err(fault) => Err(ended_so(fault)),
+    }
+}
+
 // Passes the sink the pairs of one application or of all, each with both its rows.
 fn list_pairs<S: Alter, K: ItemSink>(
     alloc: Global,
@@ -82,19 +140,9 @@ fn list_pairs<S: Alter, K: ItemSink>(
     ensures { ListsKept S.Store conn.old conn.new (content_of lists.now) K.accepts K.refuses
         sink.old sink.new ListedTable.Pairs (option_copied app.entry) result }
 {
-    lists.has_listings_with();
-    let (history, deletions) = match read_rest(alloc, conn) {
-        Ok(rows) => rows,
-        Err(fault) => return Err(listed_so(fault)),
-    };
-    let completed = history.as_slice();
-    let deleted = deletions.as_slice();
-    match lists.pairs_to(alloc, completed, deleted, app, sink) {
-        Ok(count) => Ok(count),
-        Err(ListFault::Sink(fault)) => Err(ListedFault::Sink(fault)),
-        Err(ListFault::Memory) => Err(ListedFault::Memory),
-        // lists have no device
-        Err(ListFault::Device) => Err(ListedFault::Memory),
+    match app {
+        Some(app) => list_app_pairs(alloc, conn, lists, app, sink),
+        None => list_all_pairs(alloc, conn, lists, sink),
     }
 }
 
