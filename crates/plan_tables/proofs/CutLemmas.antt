@@ -1,8 +1,9 @@
 -- Lists that are cut have a part of what they had, and keep the same content beside the tables.
-use Rattle.std.proofs.Common.{◌≡◌, ◌∙◌, ℕ, Contains, List, Some, ap, subst, sym, true}
-use Rattle.sqlite.specs.State.{State}
+use Rattle.std.proofs.Common.{◌≡◌, ◌∙◌, Contains, List, Option, ap, subst, sym, true}
+use Rattle.std.proofs.Math.Logic.{∥∥₁_map}
+use Rattle.sqlite.specs.State.{HasCleanDisk, State}
 use Rattle.external_dependencies.specs.declared.pairs.Pair.{Pair}
-use Rattle.planner_machine.specs.Content.{Content, Sets}
+use Rattle.planner_machine.specs.Content.{Content}
 use Rattle.planner_machine.specs.Sound.{IsSound}
 use Rattle.planner_machine.specs.declared.content.Bounds.{Bounds}
 use Rattle.plan_store.specs.Parts.{IsPartOf, Rest, is_planned, rest_of, with_rest}
@@ -44,6 +45,11 @@ module _ (s : State) (was now : Content)
     sound = subst IsSound (sym cut_same) kept.sound;
     part = part (told_rest (tables_of s.now.trees)) kept.part;
   }
+
+  pub kept_sure_cut : ((rest : Rest) → IsPartOf rest was → IsPartOf rest now)
+      → ∥ (HasCleanDisk s → IsKept s was) ∥₁ → ∥ (HasCleanDisk s → IsKept s now) ∥₁
+  kept_sure_cut part sure = ∥∥₁_map {B = HasCleanDisk s → IsKept s now} sure
+      (λ kept clean. kept_cut part (kept clean))
 
   pub looks_cut : (new : State) (later : Content) → LooksOn s new now later → LooksOn s new was later
   looks_cut new later looks = record {

@@ -14,5 +14,6 @@ pub mod FoundLemmas
 pub mod RefusedLemmas
 pub mod ToldLemmas
 pub mod CopiedLemmas
+pub mod CutLemmas
 pub mod CauseLemmas
 pub mod AgainLemmas

@@ -1,6 +1,9 @@
 // What is fetched from the tables before a window is lent or a change is made, and loaded into the lists.
 
+ghost use Rattle.std.specs.Prelude.{◌≡◌, ◌⊎◌};
 ghost use Rattle.plan_store.specs.Contents.{content_of};
+ghost use Rattle.plan_store.specs.Parts.{IsPartOf, Rest, followed_alone, with_rest};
+ghost use Rattle.plan_store.specs.Room.{no_jobs, with_job_set};
 ghost use Rattle.plan_tables_windows.specs.Fetching.{Fetches};
 ghost use Rattle.plan_tables.specs.Sought.{IsFoundFor, Seeks};
 
@@ -48,4 +51,38 @@ pub(crate) fn seek<S: Alter>(
         Ok(()) => Ok(()),
         Err(fault) => Err(why_of(conn, &fault)),
     }
+}
+
+// How many rows of history and of the deletions the lists have.
+pub(crate) fn loaded_rows(lists: &Content) -> usize {
+    lists.history.len().saturating_add(lists.deletions.len())
+}
+
+// How many of these the lists may have before they are cut, where a cut left so many: twice as many, as many as the
+// lists have of all else, and a thousand. So what a cut costs was loaded since the last one.
+fn greatest_load(lists: &Content, kept: usize) -> usize {
+    kept.saturating_mul(2)
+        .saturating_add(lists.pairs.as_slice().len())
+        .saturating_add(lists.ltp.len())
+        .saturating_add(lists.cp.len())
+        .saturating_add(1_000)
+}
+
+/// Cuts lists that loaded much: it drops the rows of history and the deletions that no plan needs. If memory is refused,
+/// they stay. `kept` says how many the last cut left.
+pub(crate) fn cut_lists(alloc: Global, lists: &mut Content, kept: &mut usize)
+    ensures same { (rest : Rest) → with_rest rest (content_of lists.new)
+        ≡ with_rest rest (content_of lists.old) }
+    ensures part { (rest : Rest) → IsPartOf rest (content_of lists.old)
+        → IsPartOf rest (content_of lists.new) }
+    ensures jobs { (content_of lists.old).jobs ≡ no_jobs → (content_of lists.new).jobs ≡ no_jobs }
+    ensures cut { (content_of lists.new ≡ content_of lists.old)
+        ⊎ ((content_of lists.new ≡ followed_alone (with_job_set no_jobs (content_of lists.old)))
+        ⊎ (content_of lists.new ≡ with_job_set no_jobs (content_of lists.old))) }
+{
+    if loaded_rows(lists) <= greatest_load(lists, *kept) {
+        return;
+    }
+    let _ = lists.keep_part(alloc);
+    *kept = loaded_rows(lists);
 }

@@ -37,7 +37,7 @@ use crate::keeping::{Unmade, ask_open, change_both};
 use crate::listing::{ListedTable, Unlisted, list_kept};
 use crate::looking::job_kept;
 use crate::prepared::{Prepared, can_number, prepare};
-use crate::seeking::{Sought, seek};
+use crate::seeking::{Sought, cut_lists, loaded_rows, seek};
 use app_definitions::Definitions;
 use external_dependencies::Links;
 use plan_store::{Change, Content, ItemSink, ListFault, Need, PlanStore, StoreFault, View, What};
@@ -57,6 +57,8 @@ pub struct TableStore<S: Alter> {
     conn: Connection<S>,
     // the plans, their pairs and the definitions, and of history and of the deletions what was loaded
     lists: Content,
+    // how many rows of history and of the deletions the lists had when they were cut last
+    kept: usize,
     // how often sqlite failed, or refused for another cause than memory, up to the greatest number that is counted
     failures: u64,
     // whether memory was refused when it checked that the connection is open
@@ -111,10 +113,12 @@ impl<S: Alter + Drop> TableStore<S> {
         // its clause says that an open connection has a database
         let _ = conn.schema();
         let mut lists = lists;
-        lists.keep_part(alloc);
+        let _ = lists.keep_part(alloc);
+        let kept = loaded_rows(&lists);
         TableStore {
             conn,
             lists,
+            kept,
             failures: 0,
             in_doubt: false,
             found: None,
@@ -223,6 +227,7 @@ impl<S: Alter + Drop> TableStore<S> {
     }
 
     // Fetches what is sought, if nothing failed and the connection is known to be open, and loads it into the lists.
+    // Lists that loaded much are cut first.
     fn find_out(&mut self, sought: Sought<'_>) -> Result<(), StoreFault>
         requires whole { self.old.failures ≡ 0 }
         requires sure { self.old.in_doubt ≡ false }
@@ -254,6 +259,7 @@ impl<S: Alter + Drop> TableStore<S> {
         ensures steady { IfErr result (λ fault. fault ≡ Memory
             → self.new.failures ≡ self.old.failures) }
     {
+        cut_lists(self.alloc, &mut self.lists, &mut self.kept);
         match seek(self.alloc, &mut self.conn, &mut self.lists, sought) {
             Ok(()) => Ok(()),
             Err(Unmade::Memory) => Err(StoreFault::Memory),

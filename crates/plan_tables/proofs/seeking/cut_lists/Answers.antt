@@ -1,4 +1,4 @@
-use Rattle.std.proofs.Common.{◌≡◌, ap, inl, inr, refl}
+use Rattle.std.proofs.Common.{ap}
 use Rattle.plan_store.specs.Contents.{content_of}
 use Rattle.plan_store.specs.Parts.{with_rest}
 use Rattle.plan_tables.proofs.CutLemmas.{part_within}

@@ -6,6 +6,7 @@ use Rattle.sqlite.specs.Held.{state}
 use Rattle.sqlite.specs.State.{HasCleanDisk}
 use Rattle.plan_store.specs.Contents.{content_of}
 use Rattle.plan_tables.specs.Kept.{kept_in}
+use Rattle.plan_tables.proofs.CutLemmas.{kept_sure_cut, looks_cut}
 use Rattle.plan_tables.proofs.LookLemmas.{kept_sure, looks_more, told_kept_still}
 use Rattle.plan_tables.proofs.SetLemmas.{truth_prop}
 use Rattle.plan_tables.proofs.StoredLemmas.{keeps_more, put_still}
@@ -16,12 +17,14 @@ invariant_of-self g c =
     let old = c.args.self.now in
     let before = state g.S.Store old.conn in
     let after_it = state g.S.Store c.seek.new.conn in
-    let was = content_of old.lists in
+    let first = content_of old.lists in
+    let was = content_of c.cut_lists.new.lists in
     let now = content_of c.seek.new.lists in
-    let kept = kept_sure old.in_doubt old.failures c.requires.sure c.requires.whole old.stored in
+    let kept = kept_sure_cut before first was c.cut_lists.ensures.same c.cut_lists.ensures.part
+    (kept_sure old.in_doubt old.failures c.requires.sure c.requires.whole old.stored) in
     record {
       settled = c.seek.ensures.mode old.settled;
-      jobless = c.seek.ensures.grows.jobs ∙ old.jobless;
+      jobless = c.seek.ensures.grows.jobs ∙ c.cut_lists.ensures.jobs old.jobless;
       stored = ∥∥₁_map kept (λ h whole clean _.
           let calm : HasCleanDisk before = omega (arith, c.seek.ensures.survives.clean, clean) in
           let k = h calm in
@@ -36,12 +39,14 @@ invariant_of-self-in-Err-Memory g c =
     let old = c.args.self.now in
     let before = state g.S.Store old.conn in
     let after_it = state g.S.Store c.seek.new.conn in
-    let was = content_of old.lists in
+    let first = content_of old.lists in
+    let was = content_of c.cut_lists.new.lists in
     let now = content_of c.seek.new.lists in
-    let kept = kept_sure old.in_doubt old.failures c.requires.sure c.requires.whole old.stored in
+    let kept = kept_sure_cut before first was c.cut_lists.ensures.same c.cut_lists.ensures.part
+    (kept_sure old.in_doubt old.failures c.requires.sure c.requires.whole old.stored) in
     record {
       settled = c.seek.ensures.mode old.settled;
-      jobless = c.seek.ensures.grows.jobs ∙ old.jobless;
+      jobless = c.seek.ensures.grows.jobs ∙ c.cut_lists.ensures.jobs old.jobless;
       stored = ∥∥₁_map kept (λ h whole clean _.
           let calm : HasCleanDisk before = omega (arith, c.seek.ensures.survives.clean, clean) in
           let k = h calm in
@@ -56,12 +61,14 @@ invariant_of-self-in-Err-Doubt g c =
     let old = c.args.self.now in
     let before = state g.S.Store old.conn in
     let after_it = state g.S.Store c.seek.new.conn in
-    let was = content_of old.lists in
+    let first = content_of old.lists in
+    let was = content_of c.cut_lists.new.lists in
     let now = content_of c.seek.new.lists in
-    let kept = kept_sure old.in_doubt old.failures c.requires.sure c.requires.whole old.stored in
+    let kept = kept_sure_cut before first was c.cut_lists.ensures.same c.cut_lists.ensures.part
+    (kept_sure old.in_doubt old.failures c.requires.sure c.requires.whole old.stored) in
     record {
       settled = c.seek.ensures.mode old.settled;
-      jobless = c.seek.ensures.grows.jobs ∙ old.jobless;
+      jobless = c.seek.ensures.grows.jobs ∙ c.cut_lists.ensures.jobs old.jobless;
       stored = ∥∥₁_map kept (λ h whole clean opens.
           let calm : HasCleanDisk before = omega (arith, c.seek.ensures.survives.clean, clean) in
           let k = h calm in
@@ -76,12 +83,14 @@ invariant_of-self-in-Err-Device g c =
     let old = c.args.self.now in
     let before = state g.S.Store old.conn in
     let after_it = state g.S.Store c.seek.new.conn in
-    let was = content_of old.lists in
+    let first = content_of old.lists in
+    let was = content_of c.cut_lists.new.lists in
     let now = content_of c.seek.new.lists in
-    let kept = kept_sure old.in_doubt old.failures c.requires.sure c.requires.whole old.stored in
+    let kept = kept_sure_cut before first was c.cut_lists.ensures.same c.cut_lists.ensures.part
+    (kept_sure old.in_doubt old.failures c.requires.sure c.requires.whole old.stored) in
     record {
       settled = c.seek.ensures.mode old.settled;
-      jobless = c.seek.ensures.grows.jobs ∙ old.jobless;
+      jobless = c.seek.ensures.grows.jobs ∙ c.cut_lists.ensures.jobs old.jobless;
       stored = ∣ (λ none clean doubt. absurd (omega arith)) ∣₁;
       told = told_kept_still before after_it c.seek.ensures.survives was kept old.told;
     }
@@ -91,49 +100,63 @@ returns-in-Ok-clause-looks g c =
     let old = c.args.self.now in
     let before = state g.S.Store old.conn in
     let after_it = state g.S.Store c.seek.new.conn in
-    let was = content_of old.lists in
+    let first = content_of old.lists in
+    let was = content_of c.cut_lists.new.lists in
     let now = content_of c.seek.new.lists in
-    let kept = kept_sure old.in_doubt old.failures c.requires.sure c.requires.whole old.stored in
-    looks_more before after_it c.seek.ensures.survives was kept now c.seek.ensures.stays c.seek.ensures.grows
+    let kept = kept_sure_cut before first was c.cut_lists.ensures.same c.cut_lists.ensures.part
+    (kept_sure old.in_doubt old.failures c.requires.sure c.requires.whole old.stored) in
+    looks_cut before first was c.cut_lists.ensures.same after_it now
+    (looks_more before after_it c.seek.ensures.survives was kept now c.seek.ensures.stays c.seek.ensures.grows)
 
 pub returns-in-Err-Memory-clause-looks : goal.returns-in-Err-Memory-clause-looks
 returns-in-Err-Memory-clause-looks g c =
     let old = c.args.self.now in
     let before = state g.S.Store old.conn in
     let after_it = state g.S.Store c.seek.new.conn in
-    let was = content_of old.lists in
+    let first = content_of old.lists in
+    let was = content_of c.cut_lists.new.lists in
     let now = content_of c.seek.new.lists in
-    let kept = kept_sure old.in_doubt old.failures c.requires.sure c.requires.whole old.stored in
-    looks_more before after_it c.seek.ensures.survives was kept now c.seek.ensures.stays c.seek.ensures.grows
+    let kept = kept_sure_cut before first was c.cut_lists.ensures.same c.cut_lists.ensures.part
+    (kept_sure old.in_doubt old.failures c.requires.sure c.requires.whole old.stored) in
+    looks_cut before first was c.cut_lists.ensures.same after_it now
+    (looks_more before after_it c.seek.ensures.survives was kept now c.seek.ensures.stays c.seek.ensures.grows)
 
 pub returns-in-Err-Doubt-clause-looks : goal.returns-in-Err-Doubt-clause-looks
 returns-in-Err-Doubt-clause-looks g c =
     let old = c.args.self.now in
     let before = state g.S.Store old.conn in
     let after_it = state g.S.Store c.seek.new.conn in
-    let was = content_of old.lists in
+    let first = content_of old.lists in
+    let was = content_of c.cut_lists.new.lists in
     let now = content_of c.seek.new.lists in
-    let kept = kept_sure old.in_doubt old.failures c.requires.sure c.requires.whole old.stored in
-    looks_more before after_it c.seek.ensures.survives was kept now c.seek.ensures.stays c.seek.ensures.grows
+    let kept = kept_sure_cut before first was c.cut_lists.ensures.same c.cut_lists.ensures.part
+    (kept_sure old.in_doubt old.failures c.requires.sure c.requires.whole old.stored) in
+    looks_cut before first was c.cut_lists.ensures.same after_it now
+    (looks_more before after_it c.seek.ensures.survives was kept now c.seek.ensures.stays c.seek.ensures.grows)
 
 pub returns-in-Err-Device-clause-looks : goal.returns-in-Err-Device-clause-looks
 returns-in-Err-Device-clause-looks g c =
     let old = c.args.self.now in
     let before = state g.S.Store old.conn in
     let after_it = state g.S.Store c.seek.new.conn in
-    let was = content_of old.lists in
+    let first = content_of old.lists in
+    let was = content_of c.cut_lists.new.lists in
     let now = content_of c.seek.new.lists in
-    let kept = kept_sure old.in_doubt old.failures c.requires.sure c.requires.whole old.stored in
-    looks_more before after_it c.seek.ensures.survives was kept now c.seek.ensures.stays c.seek.ensures.grows
+    let kept = kept_sure_cut before first was c.cut_lists.ensures.same c.cut_lists.ensures.part
+    (kept_sure old.in_doubt old.failures c.requires.sure c.requires.whole old.stored) in
+    looks_cut before first was c.cut_lists.ensures.same after_it now
+    (looks_more before after_it c.seek.ensures.survives was kept now c.seek.ensures.stays c.seek.ensures.grows)
 
 pub returns-in-Ok-clause-found : goal.returns-in-Ok-clause-found
 returns-in-Ok-clause-found g c clean =
     let old = c.args.self.now in
     let before = state g.S.Store old.conn in
     let after_it = state g.S.Store c.seek.new.conn in
-    let was = content_of old.lists in
+    let first = content_of old.lists in
+    let was = content_of c.cut_lists.new.lists in
     let now = content_of c.seek.new.lists in
-    let kept = kept_sure old.in_doubt old.failures c.requires.sure c.requires.whole old.stored in
+    let kept = kept_sure_cut before first was c.cut_lists.ensures.same c.cut_lists.ensures.part
+    (kept_sure old.in_doubt old.failures c.requires.sure c.requires.whole old.stored) in
     let calm : HasCleanDisk before = omega (arith, c.seek.ensures.survives.clean, clean) in
     c.in-Ok.ensures.found clean (∥∥₁_map kept (λ h. h calm))
 
@@ -142,9 +165,11 @@ returns-in-Ok-clause-same g c clean =
     let old = c.args.self.now in
     let before = state g.S.Store old.conn in
     let after_it = state g.S.Store c.seek.new.conn in
-    let was = content_of old.lists in
+    let first = content_of old.lists in
+    let was = content_of c.cut_lists.new.lists in
     let now = content_of c.seek.new.lists in
-    let kept = kept_sure old.in_doubt old.failures c.requires.sure c.requires.whole old.stored in
+    let kept = kept_sure_cut before first was c.cut_lists.ensures.same c.cut_lists.ensures.part
+    (kept_sure old.in_doubt old.failures c.requires.sure c.requires.whole old.stored) in
     let calm : HasCleanDisk before = omega (arith, c.seek.ensures.survives.clean, clean) in
     ∥∥₁_map kept (λ h. (c.in-Ok.ensures.same clean (h calm)).0.now_is)
 
@@ -153,9 +178,11 @@ returns-in-Ok-clause-opens g c clean =
     let old = c.args.self.now in
     let before = state g.S.Store old.conn in
     let after_it = state g.S.Store c.seek.new.conn in
-    let was = content_of old.lists in
+    let first = content_of old.lists in
+    let was = content_of c.cut_lists.new.lists in
     let now = content_of c.seek.new.lists in
-    let kept = kept_sure old.in_doubt old.failures c.requires.sure c.requires.whole old.stored in
+    let kept = kept_sure_cut before first was c.cut_lists.ensures.same c.cut_lists.ensures.part
+    (kept_sure old.in_doubt old.failures c.requires.sure c.requires.whole old.stored) in
     let calm : HasCleanDisk before = omega (arith, c.seek.ensures.survives.clean, clean) in
     ∥∥₁_elim kept (truth_prop after_it.is_open) (λ h. (c.in-Ok.ensures.same clean (h calm)).0.is_open)
 
@@ -164,9 +191,11 @@ returns-in-Err-Memory-clause-memory g c clean _ _ =
     let old = c.args.self.now in
     let before = state g.S.Store old.conn in
     let after_it = state g.S.Store c.seek.new.conn in
-    let was = content_of old.lists in
+    let first = content_of old.lists in
+    let was = content_of c.cut_lists.new.lists in
     let now = content_of c.seek.new.lists in
-    let kept = kept_sure old.in_doubt old.failures c.requires.sure c.requires.whole old.stored in
+    let kept = kept_sure_cut before first was c.cut_lists.ensures.same c.cut_lists.ensures.part
+    (kept_sure old.in_doubt old.failures c.requires.sure c.requires.whole old.stored) in
     let calm : HasCleanDisk before = omega (arith, c.seek.ensures.survives.clean, clean) in
     ∥∥₁_elim kept (truth_prop after_it.is_open)
     (λ h. c.in-Err-Memory.ensures.memory clean (h calm) c.in-Err-Memory.field-0-is)
@@ -176,9 +205,11 @@ returns-in-Err-Device-clause-caused g c clean is =
     let old = c.args.self.now in
     let before = state g.S.Store old.conn in
     let after_it = state g.S.Store c.seek.new.conn in
-    let was = content_of old.lists in
+    let first = content_of old.lists in
+    let was = content_of c.cut_lists.new.lists in
     let now = content_of c.seek.new.lists in
-    let kept = kept_sure old.in_doubt old.failures c.requires.sure c.requires.whole old.stored in
+    let kept = kept_sure_cut before first was c.cut_lists.ensures.same c.cut_lists.ensures.part
+    (kept_sure old.in_doubt old.failures c.requires.sure c.requires.whole old.stored) in
     let calm : HasCleanDisk before = omega (arith, c.seek.ensures.survives.clean, clean) in
     ∥∥₁_map kept (λ h. c.in-Err-Device.ensures.failed clean (h calm) c.in-Err-Device.field-0-is)
 
@@ -187,9 +218,11 @@ returns-in-Ok-clause-schema g c clean =
     let old = c.args.self.now in
     let before = state g.S.Store old.conn in
     let after_it = state g.S.Store c.seek.new.conn in
-    let was = content_of old.lists in
+    let first = content_of old.lists in
+    let was = content_of c.cut_lists.new.lists in
     let now = content_of c.seek.new.lists in
-    let kept = kept_sure old.in_doubt old.failures c.requires.sure c.requires.whole old.stored in
+    let kept = kept_sure_cut before first was c.cut_lists.ensures.same c.cut_lists.ensures.part
+    (kept_sure old.in_doubt old.failures c.requires.sure c.requires.whole old.stored) in
     let calm : HasCleanDisk before = omega (arith, c.seek.ensures.survives.clean, clean) in
     ∥∥₁_map kept (λ h. ap (λ (db : Database). db.schema) (c.in-Ok.ensures.same clean (h calm)).0.now_is)
 
@@ -198,9 +231,11 @@ returns-in-Err-Memory-clause-schema g c is clean opens =
     let old = c.args.self.now in
     let before = state g.S.Store old.conn in
     let after_it = state g.S.Store c.seek.new.conn in
-    let was = content_of old.lists in
+    let first = content_of old.lists in
+    let was = content_of c.cut_lists.new.lists in
     let now = content_of c.seek.new.lists in
-    let kept = kept_sure old.in_doubt old.failures c.requires.sure c.requires.whole old.stored in
+    let kept = kept_sure_cut before first was c.cut_lists.ensures.same c.cut_lists.ensures.part
+    (kept_sure old.in_doubt old.failures c.requires.sure c.requires.whole old.stored) in
     let calm : HasCleanDisk before = omega (arith, c.seek.ensures.survives.clean, clean) in
     ∥∥₁_map kept (λ h. ap (λ (db : Database). db.schema)
     (put_still before after_it (kept_in before was) (h calm).stored (c.seek.ensures.stays clean (h calm)) opens).0)
@@ -210,9 +245,11 @@ returns-in-Err-Doubt-clause-schema g c is clean opens =
     let old = c.args.self.now in
     let before = state g.S.Store old.conn in
     let after_it = state g.S.Store c.seek.new.conn in
-    let was = content_of old.lists in
+    let first = content_of old.lists in
+    let was = content_of c.cut_lists.new.lists in
     let now = content_of c.seek.new.lists in
-    let kept = kept_sure old.in_doubt old.failures c.requires.sure c.requires.whole old.stored in
+    let kept = kept_sure_cut before first was c.cut_lists.ensures.same c.cut_lists.ensures.part
+    (kept_sure old.in_doubt old.failures c.requires.sure c.requires.whole old.stored) in
     let calm : HasCleanDisk before = omega (arith, c.seek.ensures.survives.clean, clean) in
     ∥∥₁_map kept (λ h. ap (λ (db : Database). db.schema)
     (put_still before after_it (kept_in before was) (h calm).stored (c.seek.ensures.stays clean (h calm)) opens).0)
