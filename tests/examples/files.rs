@@ -1,5 +1,6 @@
-//! The examples of the libraries. `lib.rt` and the `README.md` of each have the lines between the two marks. Each is
-//! over any store or any files, because a proof over a named one takes longer.
+//! The examples of the libraries of plans in files. `lib.rt` and the `README.md` of each have the lines between the two
+//! marks. `tools/gate/examples` compiles and runs this file as a module of `test_adoption`, without a proof: a proof
+//! of these takes many minutes.
 ghost use Rattle.std.specs.Prelude.{◌≡◌, ⊤, false, IfOk};
 
 use crate::plans::{other, plan, settled};
