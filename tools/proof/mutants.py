@@ -34,8 +34,9 @@ PROGRAM, PLANNER, STREAMS, OPCPLAN = "over_lists", "planner_cli", "test_streams"
 # what is asked of a plan file of the worked streams, and the stream that an earlier program made it of
 LISTS = b"list ltp\nlist cp\nlist history\nlist deletions\nlist dependencies\nlist links\n"
 MADE_OF = {"schema-1.db": "two-hundred-statements"}
-# the longest that a stream over files or a test may take, in seconds: compiled with checks it is slow
-LONGEST = "1200"
+# the longest that a stream over files or a test may take, in seconds: compiled with checks it is slow, and slower still
+# beside other runs
+LONGEST = "3600"
 # the libraries that each crate of the repository uses
 Uses = dict[str, list[str]]
 
