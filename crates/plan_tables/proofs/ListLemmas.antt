@@ -1,15 +1,14 @@
 -- Rows that are read one table after another, and listings for which the tables of a kept content are asked.
 use Rattle.std.proofs.Common.{◌≡◌, ◌≢◌, ◌≤◌, ℕ, List, [], Err, Ok, Option, Result, arith, inl, inr, refl}
-use Rattle.std.proofs.Common.{Bool, subst, sym}
+use Rattle.std.proofs.Common.{Bool, ap, subst, sym}
 use Rattle.std.proofs.Math.Logic.{∥∥₁_elim, ∥∥₁_map}
 use Rattle.std.specs.List.Sorted.{IsSortedByKey}
 use Rattle.std.specs.Ordering.{nat_cmp}
-use Rattle.std.specs.Prelude.{IfOk, IsTrue, OnOk}
+use Rattle.std.specs.Prelude.{IfOk, IsErrAnd, IsTrue, OnOk}
 use Rattle.sqlite.specs.Effect.{Database}
 use Rattle.sqlite.specs.Held.{Held, state}
 use Rattle.sqlite.specs.State.{HasCleanDisk, IsUnchanged, State}
 use Rattle.sqlite.specs.Store.{Ghosts}
-use Rattle.sqlite.specs.declared.error.Error.{Error}
 use Rattle.sqlite.proofs.Callers.{unchanged_then}
 use Rattle.sqlite.proofs.StateLemmas.{survives_then}
 use Rattle.occurrences.specs.declared.place.Deletion.{Deletion}
@@ -24,7 +23,6 @@ use Rattle.plan_store.specs.Parts.{ListsAll}
 use Rattle.plan_store.specs.Views.{row_serial}
 use Rattle.plan_store.specs.declared.listings.ListFault.{ListFault}
 use Rattle.plan_store.specs.declared.listings.ListFault.TheVariants as list
-use Rattle.plan_store.specs.declared.listings.ItemRefused.{ItemRefused}
 use Rattle.plan_store.proofs.EndLemmas.{has_ends}
 use Rattle.plan_tables_schema.specs.Rows.{StaysOrIsUndone, tables_of}
 use Rattle.plan_tables_schema.specs.Schema.{HasTables}
@@ -33,19 +31,20 @@ use Rattle.plan_tables_schema.proofs.StopLemmas.{vain_since}
 use Rattle.plan_tables_content.specs.Content.{IsContentOf}
 use Rattle.plan_tables_loading.proofs.LookLemmas.{undone_since}
 use Rattle.plan_tables_windows.specs.Fetching.{rest_in}
-use Rattle.plan_tables_queries.specs.Finding.{FindsFact, StopsFor}
-use Rattle.plan_tables_queries.specs.declared.faults.LookupFault.{LookupFault}
-use Rattle.plan_tables_queries.specs.declared.faults.LookupFault.TheVariants as lookup
-use Rattle.plan_tables_queries.specs.Listing.{EmitsPart, HoldsContent, Lists, StopsFor as StopsListing}
-use Rattle.plan_tables_queries.specs.declared.listing_faults.ListedFault.{ListedFault}
-use Rattle.plan_tables_queries.specs.declared.listing_faults.ListedFault.TheVariants as listed
+use Rattle.plan_tables_queries.specs.Finding.{FailsFor, FindsFact}
+use Rattle.plan_tables_lookups.specs.declared.faults.TableFault.{TableFault}
+use Rattle.plan_tables_lookups.specs.declared.faults.TableFault.TheVariants as table_fault
+use Rattle.plan_tables_lookups.specs.declared.faults.Stopped.{Stopped}
+use Rattle.plan_tables_lookups.specs.declared.faults.Stopped.TheVariants.{Fault, Sink}
+use Rattle.plan_tables_queries.specs.Listing.{EmitsPart, HoldsContent, Lists, StopsFor}
+use Rattle.plan_tables_queries.proofs.FindLemmas.{passes_on}
 use Rattle.plan_tables.specs.Kept.{IsKept, kept_in}
-use Rattle.plan_tables.specs.Listing.{LeavesOpen, ListsKept, ended_so, fault_so, listed_so, what_of}
+use Rattle.plan_tables.specs.Listing.{LeavesOpen, ListsKept, ended_so, fault_so, what_of}
 use Rattle.plan_tables.specs.declared.listing.ListedTable.{ListedTable}
 use Rattle.plan_tables.specs.declared.keeping.Unmade.{Unmade}
 use Rattle.plan_tables.specs.declared.keeping.Unmade.TheVariants as unmade
-use Rattle.plan_tables.specs.declared.listing.Unlisted.TheVariants as unlisted
 use Rattle.plan_tables.proofs.SetLemmas.{deletion_found_set, no_prop, row_found_set, row_set}
+use Rattle.plan_tables.proofs.WhyLemmas.{Fails}
 
 -- ---- one table after another
 
@@ -54,11 +53,11 @@ module _ (a b c : State) (same : IsUnchanged a b) where
   left_since (inl stays) = inl (unchanged_then a b c same stays)
   left_since (inr undone) = inr (undone_since a b c same undone)
 
-  stops_since : a.faults ≤ b.faults → b.step_limit ≡ a.step_limit → (fault : LookupFault) → StopsFor b c fault
-      → StopsFor a c fault
-  stops_since more limit lookup.Memory h = unchanged_then a b c same h
-  stops_since more limit lookup.Malformed h = unchanged_then a b c same h
-  stops_since more limit (lookup.Store e) h = vain_since a b c e more (λ _. same.0.is_open) limit h
+  fails_since : a.faults ≤ b.faults → b.step_limit ≡ a.step_limit → (fault : TableFault) → FailsFor b c fault
+      → FailsFor a c fault
+  fails_since more limit table_fault.Memory h = unchanged_then a b c same h
+  fails_since more limit table_fault.Malformed h = unchanged_then a b c same h
+  fails_since more limit (table_fault.Store e) h = vain_since a b c e more (λ _. same.0.is_open) limit h
 
 module _ {S T U : Type 0} (g : Ghosts S) (old mid new : Held S) (x : T) (P : Content → T → Type 0)
     (Q : Content → U → Type 0) (one : FindsFact g old mid (Ok x) P) where
@@ -104,27 +103,29 @@ module _ {S T U : Type 0} (g : Ghosts S) (old mid new : Held S) (x : T) (P : Con
             (λ clean _ none has. none (has_still (same_first calm clean) has)) one.survives two.survives;
       }
 
-  pub finds_second : {V : Type 0} (R : Content → V → Type 0) (fault : LookupFault)
-      → FindsFact g mid new (Err fault) Q → FindsFact g old new (Err fault) R
-  finds_second R fault two =
+  pub finds_second : {V : Type 0} (R : Content → V → Type 0) (fault : TableFault)
+      → FindsFact g mid new (Err fault) Q → (result : Result V TableFault) → IsErrAnd result (λ f. f ≡ fault)
+      → FindsFact g old new result R
+  finds_second R fault two result passed =
       let calm : HasCleanDisk last → HasCleanDisk between = λ clean. omega (arith, two.survives.clean, clean) in
-      record {
+      passes_on g old new fault R result passed (record {
         found = λ clean has c is sound. tt;
         told = λ clean has c is sound. two.told clean (has_still (same_first calm clean) has) c
             (content_still (same_first calm clean) has c is) sound;
         same = λ clean has. tt;
-        fails = λ clean has. stops_since first between last (same_first calm clean has) one.survives.counts
+        fails = λ clean has. fails_since first between last (same_first calm clean has) one.survives.counts
             one.survives.limit fault (two.fails clean (has_still (same_first calm clean) has));
         leaves = λ clean has. left_since first between last (same_first calm clean has)
             (two.leaves clean (has_still (same_first calm clean) has));
         mode = λ outside. two.mode (one.mode outside);
         survives = survives_then first between last _ _ _ (λ _ _ none. none)
             (λ clean _ none has. none (has_still (same_first calm clean) has)) one.survives two.survives;
-      }
+      })
 
-pub finds_not : {S T V : Type 0} (g : Ghosts S) (old new : Held S) (fault : LookupFault) (P : Content → T → Type 0)
-    (R : Content → V → Type 0) → FindsFact g old new (Err fault) P → FindsFact g old new (Err fault) R
-finds_not g old new fault P R is = record {
+pub finds_not : {S T V : Type 0} (g : Ghosts S) (old new : Held S) (fault : TableFault) (P : Content → T → Type 0)
+    (R : Content → V → Type 0) → FindsFact g old new (Err fault) P → (result : Result V TableFault)
+    → IsErrAnd result (λ f. f ≡ fault) → FindsFact g old new result R
+finds_not g old new fault P R is result passed = passes_on g old new fault R result passed (record {
   found = λ clean has c of sound. tt;
   told = is.told;
   same = λ clean has. tt;
@@ -132,7 +133,7 @@ finds_not g old new fault P R is = record {
   leaves = is.leaves;
   mode = is.mode;
   survives = is.survives;
-}
+})
 
 -- ---- what was found says something else
 
@@ -151,8 +152,9 @@ finds_as g old new x y P R is so = record {
 
 -- memory is refused then
 pub finds_short : {S T U : Type 0} (g : Ghosts S) (old new : Held S) (x : T) (P : Content → T → Type 0)
-    (R : Content → U → Type 0) → FindsFact g old new (Ok x) P → FindsFact g old new (Err lookup.Memory) R
-finds_short g old new x P R is = record {
+    (R : Content → U → Type 0) → FindsFact g old new (Ok x) P → (result : Result U TableFault)
+    → IsErrAnd result (λ f. f ≡ table_fault.Memory) → FindsFact g old new result R
+finds_short g old new x P R is result passed = passes_on g old new table_fault.Memory R result passed (record {
   found = λ clean has c of sound. tt;
   told = λ clean has c of sound same. cc;
   same = λ clean has. tt;
@@ -160,7 +162,7 @@ finds_short g old new x P R is = record {
   leaves = is.leaves;
   mode = is.mode;
   survives = is.survives;
-}
+})
 
 -- ---- a set in its table
 
@@ -177,7 +179,7 @@ module _ {S K : Type 0} (g : Ghosts S) (old new : Held S) (lists : Content) (Acc
   abbrev kept : Content
   kept = kept_in (state g old) lists
 
-  pub lists_kept : (t : Table) (result : Result ℕ ListedFault)
+  pub lists_kept : (t : Table) (result : Result ℕ (Stopped TableFault))
       → Lists g old new t Accepts Refuses before after (IsListing (what_of what) app) result
       → ListsKept g old new lists Accepts Refuses before after what app result
   lists_kept t result did = record {
@@ -191,47 +193,31 @@ module _ {S K : Type 0} (g : Ghosts S) (old new : Held S) (lists : Content) (Acc
     survives = did.survives;
   }
     where
-      on_ok : (P : Type 0) (r : Result ℕ ListedFault) → IfOk r (λ _. P) → OnOk r P
+      on_ok : (P : Type 0) (r : Result ℕ (Stopped TableFault)) → IfOk r (λ _. P) → OnOk r P
       on_ok P (Ok v) h = h
       on_ok P (Err e) h = tt
 
   -- ---- pairs
 
   -- the rest was not read
-  pub unread_kept : {T : Type 0} (P : Content → T → Type 0) (why : LookupFault) → FindsFact g old new (Err why) P
+  pub unread_kept : {T : Type 0} (P : Content → T → Type 0) (why : TableFault) → FindsFact g old new (Err why) P
       → (AreNumbered kept.sets → (items : List Shown) × IsListing (what_of what) app kept items) → after ≡ before
-      → ListsKept g old new lists Accepts Refuses before after what app (Err (listed_so why))
-  unread_kept P why did some still = record {
-    all = λ clean is _. tt;
-    part = λ clean is numbered. none why (some numbered);
-    told = λ clean is. ∥∥₁_elim is no_fault (λ k. untold why (did.told clean k.stored.plan.schema kept k.stored.content
-        k.sound));
-    same = λ clean has. tt;
-    fails = λ clean has. stops why (did.fails clean has);
-    leaves = did.leaves;
-    mode = did.mode;
-    survives = did.survives;
-  }
-    where
-      no_fault : IsProp (listed_so why ≢ listed.Malformed)
-      no_fault f h = λ i is. no_prop (f is) (h is) i
-
-      none : (f : LookupFault) → (items : List Shown) × IsListing (what_of what) app kept items
-          → EmitsPart Accepts Refuses (IsListing (what_of what) app kept) before after (listed_so f)
-      none lookup.Memory (items, is) = record { done = []; rest = items; whole = is; ends = still }
-      none lookup.Malformed (items, is) = record { done = []; rest = items; whole = is; ends = still }
-      none (lookup.Store e) (items, is) = record { done = []; rest = items; whole = is; ends = still }
-
-      untold : (f : LookupFault) → f ≢ lookup.Malformed → listed_so f ≢ listed.Malformed
-      untold lookup.Memory other is = cc
-      untold lookup.Malformed other is = other refl
-      untold (lookup.Store e) other is = cc
-
-      stops : (f : LookupFault) → StopsFor (state g old) (state g new) f
-          → StopsListing (state g old) (state g new) (listed_so f)
-      stops lookup.Memory h = h
-      stops lookup.Malformed h = h
-      stops (lookup.Store e) h = h
+      → (result : Result ℕ (Stopped TableFault)) → IsErrAnd result (λ stopped. stopped ≡ Fault why)
+      → ListsKept g old new lists Accepts Refuses before after what app result
+  unread_kept P why did some still (Ok count) passed = absurd passed
+  unread_kept P why did some still (Err stopped) passed = subst
+      (λ stopped. ListsKept g old new lists Accepts Refuses before after what app (Err stopped)) (sym passed) (record {
+        all = λ clean is _. tt;
+        part = λ clean is numbered. let (items, whole) = some numbered in
+            record { done = []; rest = items; whole = whole; ends = still };
+        told = λ clean is malformed. ∥∥₁_elim is no_prop (λ k. did.told clean k.stored.plan.schema kept k.stored.content
+            k.sound cc);
+        same = λ clean has. tt;
+        fails = did.fails;
+        leaves = did.leaves;
+        mode = did.mode;
+        survives = did.survives;
+      })
 
   -- it was read
   module _ {T : Type 0} (x : T) (P : Content → T → Type 0) (did : FindsFact g old new (Ok x) P) (Ready : Type 0)
@@ -270,13 +256,13 @@ module _ {S K : Type 0} (g : Ghosts S) (old new : Held S) (lists : Content) (Acc
         ended list.Memory d = record { done = d.done; rest = d.rest; whole = d.whole; ends = d.ends }
         ended list.Device d = record { done = d.done; rest = d.rest; whole = d.whole; ends = d.ends }
 
-        untold : (f : ListFault) → ended_so f ≢ listed.Malformed
+        untold : (f : ListFault) → ended_so f ≢ Fault table_fault.Malformed
         untold (list.Sink fault) is = cc
         untold list.Memory is = cc
         untold list.Device is = cc
 
         stops : (f : ListFault) → IsUnchanged (state g old) (state g new)
-            → StopsListing (state g old) (state g new) (ended_so f)
+            → StopsFor (state g old) (state g new) (ended_so f)
         stops (list.Sink fault) same = same
         stops list.Memory same = same
         stops list.Device same = same
@@ -331,38 +317,40 @@ module _ {S T : Type 0} (g : Ghosts S) (old new : Held S) (lists : Content) (x :
 -- ---- why it ended
 
 module _ {K : Type 0} (Accepts Refuses : K → Shown → K → Type 0) (IsWhole : List Shown → Type 0) (old new : K) where
-  pub handed_short : (fault : ListedFault) → fault ≡ listed.Memory → EmitsPart Accepts Refuses IsWhole old new fault
-      → EmitsSome Accepts Refuses IsWhole old new list.Memory
-  handed_short fault is did =
-      let d = subst (λ (f : ListedFault). EmitsPart Accepts Refuses IsWhole old new f) is did in
+  pub handed_refused : (stopped : Stopped TableFault) → stopped ≡ Sink → EmitsPart Accepts Refuses IsWhole old new stopped
+      → EmitsSome Accepts Refuses IsWhole old new (fault_so Sink)
+  handed_refused stopped is did =
+      let d = subst (EmitsPart Accepts Refuses IsWhole old new) is did in
       record { done = d.done; rest = d.rest; whole = d.whole; ends = d.ends }
 
-  pub handed_refused : (fault : ListedFault) (f : ItemRefused) → fault ≡ listed.Sink f
-      → EmitsPart Accepts Refuses IsWhole old new fault → EmitsSome Accepts Refuses IsWhole old new (list.Sink f)
-  handed_refused fault f is did =
-      let d = subst (λ (f : ListedFault). EmitsPart Accepts Refuses IsWhole old new f) is did in
-      record { done = d.done; rest = d.rest; whole = d.whole; ends = d.ends }
-
-  pub handed_untold : (fault : ListedFault) → fault ≡ listed.Malformed → EmitsPart Accepts Refuses IsWhole old new fault
-      → EmitsSome Accepts Refuses IsWhole old new list.Device
-  handed_untold fault is did =
-      let d = subst (λ (f : ListedFault). EmitsPart Accepts Refuses IsWhole old new f) is did in
-      record { done = d.done; rest = d.rest; whole = d.whole; ends = d.ends }
-
-  pub handed_unread : (fault : ListedFault) (e : Error) (why : Unmade) → fault ≡ listed.Store e
-      → EmitsPart Accepts Refuses IsWhole old new fault
-      → EmitsSome Accepts Refuses IsWhole old new (fault_so (unlisted.Unmade why))
-  handed_unread fault e why is did = go why
+  pub handed_unread : (stopped : Stopped TableFault) (fault : TableFault) (why : Unmade) → stopped ≡ Fault fault
+      → EmitsPart Accepts Refuses IsWhole old new stopped → EmitsSome Accepts Refuses IsWhole old new (fault_so (Fault why))
+  handed_unread stopped fault why is did = go why
     where
-      d : EmitsPart Accepts Refuses IsWhole old new (listed.Store e)
-      d = subst (λ (f : ListedFault). EmitsPart Accepts Refuses IsWhole old new f) is did
+      d : EmitsPart Accepts Refuses IsWhole old new (Fault fault)
+      d = subst (EmitsPart Accepts Refuses IsWhole old new) is did
 
-      go : (w : Unmade) → EmitsSome Accepts Refuses IsWhole old new (fault_so (unlisted.Unmade w))
+      go : (w : Unmade) → EmitsSome Accepts Refuses IsWhole old new (fault_so (Fault w))
       go unmade.Memory = record { done = d.done; rest = d.rest; whole = d.whole; ends = d.ends }
       go unmade.Doubt = record { done = d.done; rest = d.rest; whole = d.whole; ends = d.ends }
       go unmade.Device = record { done = d.done; rest = d.rest; whole = d.whole; ends = d.ends }
 
-pub open_so : (why : Unmade) (opens : Bool) → (why ≡ unmade.Memory → IsTrue opens) → LeavesOpen (unlisted.Unmade why)
+-- a listing that failed for the fault
+pub listing_fails : {S K : Type 0} (g : Ghosts S) (old new : Held S) (lists : Content)
+    (Accepts Refuses : K → Shown → K → Type 0) (before after : K) (what : ListedTable) (app : Option (List ℕ))
+    (stopped : Stopped TableFault) (fault : TableFault) → stopped ≡ Fault fault
+    → ListsKept g old new lists Accepts Refuses before after what app (Err stopped) → Fails g old new lists fault
+listing_fails g old new lists Accepts Refuses before after what app stopped fault is did =
+    let d = subst (λ s. ListsKept g old new lists Accepts Refuses before after what app (Err s)) is did in
+    record {
+      told = λ clean kept malformed. d.told clean ∣ kept ∣₁ (ap Fault malformed);
+      fails = λ clean kept. d.fails clean kept.stored.plan.schema;
+      leaves = λ clean kept. d.leaves clean kept.stored.plan.schema;
+      mode = d.mode;
+      survives = d.survives;
+    }
+
+pub open_so : (why : Unmade) (opens : Bool) → (why ≡ unmade.Memory → IsTrue opens) → LeavesOpen (Fault why)
     → IsTrue opens
 open_so unmade.Memory opens is leaves = is refl
 open_so unmade.Doubt opens is leaves = absurd leaves

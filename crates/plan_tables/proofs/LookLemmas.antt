@@ -19,8 +19,6 @@ use Rattle.plan_store.specs.declared.stores.StoreFault.TheVariants.{Device, Memo
 use Rattle.plan_tables_schema.specs.Rows.{StaysOrIsUndone}
 use Rattle.plan_tables_schema.specs.Schema.{HasTables}
 use Rattle.plan_tables_windows.specs.Fetching.{Grows}
-use Rattle.plan_tables_queries.specs.Finding.{StopsFor}
-use Rattle.plan_tables_queries.specs.declared.faults.LookupFault.{LookupFault}
 use Rattle.plan_tables.specs.Kept.{CanRead, IsKept, LooksOn, StaysPut, kept_in}
 use Rattle.plan_tables.specs.Stored.{LeavesSound, MayLeave}
 use Rattle.plan_tables.specs.Accepted.{KeepsSchema}
@@ -130,10 +128,6 @@ none_so_great c number sound great = go (c.jobs number) refl
     go : (o : Option Job) → c.jobs number ≡ o → c.jobs number ≡ None
     go None is = is
     go (Some job) is = let greatest = (sound.jobs number job is).greatest in absurd (let h : ⊥ = omega (arith, greatest, great) in h)
-
-pub stopped_open : (old new : State) (fault : LookupFault) → fault ≡ LookupFault.Memory → StopsFor old new fault
-    → IsTrue new.is_open
-stopped_open old new fault is stops = (subst (StopsFor old new) is stops).0.is_open
 
 -- ---- what a call does that reads
 

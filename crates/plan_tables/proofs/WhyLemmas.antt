@@ -1,5 +1,5 @@
--- What is left of a look-up that failed, once it was asked why.
-use Rattle.std.proofs.Common.{◌≡◌, Err, arith, refl, subst, sym}
+-- What is left of a call that failed, once it was asked why.
+use Rattle.std.proofs.Common.{◌≡◌, ◌≢◌, Err, arith, refl, subst, sym}
 use Rattle.std.specs.Prelude.{false, IsTrue}
 use Rattle.sqlite.specs.Held.{Held, state}
 use Rattle.sqlite.specs.State.{HasCleanDisk, State, Survives}
@@ -7,74 +7,97 @@ use Rattle.sqlite.specs.Store.{Ghosts}
 use Rattle.sqlite.specs.declared.error.Error.{Error}
 use Rattle.sqlite.proofs.StateLemmas.{survives_then}
 use Rattle.planner_machine.specs.Content.{Content}
+use Rattle.plan_tables_schema.specs.Rows.{StaysOrIsUndone}
 use Rattle.plan_tables_schema.specs.Schema.{HasTables}
-use Rattle.plan_tables_queries.specs.Finding.{FindsFact}
-use Rattle.plan_tables_queries.specs.declared.faults.LookupFault.{LookupFault}
-use Rattle.plan_tables_queries.specs.declared.faults.LookupFault.TheVariants as lookup
+use Rattle.plan_tables_queries.specs.Finding.{FailsFor, FindsFact}
+use Rattle.plan_tables_lookups.specs.declared.faults.TableFault.{TableFault}
+use Rattle.plan_tables_lookups.specs.declared.faults.TableFault.TheVariants as lookup
 use Rattle.plan_tables.specs.Causes.{HasFailed}
 use Rattle.plan_tables.specs.Kept.{IsKept, StaysPut, kept_in}
 use Rattle.plan_tables.specs.Whys.{IsCauseOf, IsWhyOf}
 use Rattle.plan_tables.specs.declared.keeping.Unmade.{Unmade}
 use Rattle.plan_tables.specs.declared.keeping.Unmade.TheVariants as unmade
 use Rattle.plan_tables.proofs.CauseLemmas.{failed_so}
-use Rattle.plan_tables.proofs.LookLemmas.{put_by, put_then, stopped_open}
+use Rattle.plan_tables.proofs.LookLemmas.{put_by, put_then}
 
-pub record EndsFor {S : Type 0} (g : Ghosts S) (old end : Held S) (why : Unmade) : Type 0 where
-  pub stays : HasCleanDisk (state g end) → (lists : Content) → IsKept (state g old) lists
-      → StaysPut (state g old) (state g end)
-  pub memory : HasCleanDisk (state g end) → (lists : Content) → IsKept (state g old) lists → why ≡ unmade.Memory
+-- a call over kept lists that failed for the fault
+pub record Fails {S : Type 0} (g : Ghosts S) (old mid : Held S) (lists : Content) (fault : TableFault) : Type 0 where
+  pub told : HasCleanDisk (state g mid) → IsKept (state g old) lists → fault ≢ lookup.Malformed
+  pub fails : HasCleanDisk (state g mid) → IsKept (state g old) lists → FailsFor (state g old) (state g mid) fault
+  pub leaves : HasCleanDisk (state g mid) → IsKept (state g old) lists → StaysOrIsUndone (state g old) (state g mid)
+  pub mode : old.in_transaction ≡ false → mid.in_transaction ≡ false
+  pub survives : Survives (state g old) (state g mid) (λ _. HasTables (state g old).now.schema → ⊥)
+
+-- what is left of it at the end
+pub record EndsFor {S : Type 0} (g : Ghosts S) (old mid end : Held S) (lists : Content) (why : Unmade) : Type 0 where
+  pub calm : HasCleanDisk (state g end) → HasCleanDisk (state g mid)
+  pub stays : HasCleanDisk (state g end) → IsKept (state g old) lists → StaysPut (state g old) (state g end)
+  pub memory : HasCleanDisk (state g end) → IsKept (state g old) lists → why ≡ unmade.Memory
       → IsTrue (state g end).is_open
-  pub failed : HasCleanDisk (state g end) → (lists : Content) → IsKept (state g old) lists → why ≡ unmade.Device
+  pub failed : HasCleanDisk (state g end) → IsKept (state g old) lists → why ≡ unmade.Device
       → HasFailed (state g old) (state g end)
   pub mode : old.in_transaction ≡ false → end.in_transaction ≡ false
   pub survives : Survives (state g old) (state g end) (λ _. HasTables (state g old).now.schema → ⊥)
 
-module _ {S T : Type 0} (g : Ghosts S) (old mid : Held S) (P : Content → T → Type 0) where
+pub fact_fails : {S T : Type 0} (g : Ghosts S) (old mid : Held S) (lists : Content) (fault : TableFault)
+    (P : Content → T → Type 0) → FindsFact g old mid (Err fault) P → Fails g old mid lists fault
+fact_fails g old mid lists fault P did = record {
+  told = λ clean kept. did.told clean kept.stored.plan.schema (kept_in (state g old) lists) kept.stored.content
+      kept.sound;
+  fails = λ clean kept. did.fails clean kept.stored.plan.schema;
+  leaves = λ clean kept. did.leaves clean kept.stored.plan.schema;
+  mode = did.mode;
+  survives = did.survives;
+}
+
+module _ {S : Type 0} (g : Ghosts S) (old mid : Held S) (lists : Content) where
   abbrev from : State
   from = state g old
 
   abbrev to : State
   to = state g mid
 
-  ends_memory : FindsFact g old mid (Err lookup.Memory) P → EndsFor g old mid unmade.Memory
+  ends_memory : Fails g old mid lists lookup.Memory → EndsFor g old mid mid lists unmade.Memory
   ends_memory did = record {
-    stays = λ clean lists kept. put_by from to (did.leaves clean kept.stored.plan.schema);
-    memory = λ clean lists kept _. stopped_open from to lookup.Memory refl (did.fails clean kept.stored.plan.schema);
-    failed = λ clean lists kept device. absurd (let h : ⊥ = cc device in h);
+    calm = λ clean. clean;
+    stays = λ clean kept. put_by from to (did.leaves clean kept);
+    memory = λ clean kept _. (did.fails clean kept).0.is_open;
+    failed = λ clean kept device. absurd (let h : ⊥ = cc device in h);
     mode = did.mode;
     survives = did.survives;
   }
 
-  ends_untold : FindsFact g old mid (Err lookup.Malformed) P → EndsFor g old mid unmade.Device
+  ends_untold : Fails g old mid lists lookup.Malformed → EndsFor g old mid mid lists unmade.Device
   ends_untold did = record {
-    stays = λ clean lists kept. put_by from to (did.leaves clean kept.stored.plan.schema);
-    memory = λ clean lists kept memory. absurd (let h : ⊥ = cc memory in h);
-    failed = λ clean lists kept _. absurd (did.told clean kept.stored.plan.schema (kept_in from lists)
-        kept.stored.content kept.sound refl);
+    calm = λ clean. clean;
+    stays = λ clean kept. put_by from to (did.leaves clean kept);
+    memory = λ clean kept memory. absurd (let h : ⊥ = cc memory in h);
+    failed = λ clean kept _. absurd (did.told clean kept refl);
     mode = did.mode;
     survives = did.survives;
   }
 
-  ends_asked : (end : Held S) (error : Error) (why : Unmade) → FindsFact g old mid (Err (lookup.Store error)) P
-      → IsCauseOf g mid end error why → EndsFor g old end why
+  ends_asked : (end : Held S) (error : Error) (why : Unmade) → Fails g old mid lists (lookup.Store error)
+      → IsCauseOf g mid end error why → EndsFor g old mid end lists why
   ends_asked end error why did cause =
       let last = state g end in
       let calm : HasCleanDisk last → HasCleanDisk to = λ clean. omega (arith, cause.survives.clean, clean) in
       record {
-        stays = λ clean lists kept. put_then from to last
-            (put_by from to (did.leaves (calm clean) kept.stored.plan.schema)) (cause.stays clean);
-        memory = λ clean lists kept memory. (cause.asked clean memory).0.is_open;
-        failed = λ clean lists kept device. failed_so from to last error _ _ kept.stored.is_open (calm clean)
-            did.survives cause.survives (did.fails (calm clean) kept.stored.plan.schema) (cause.shut clean device);
+        calm = calm;
+        stays = λ clean kept. put_then from to last (put_by from to (did.leaves (calm clean) kept))
+            (cause.stays clean);
+        memory = λ clean kept memory. (cause.asked clean memory).0.is_open;
+        failed = λ clean kept device. failed_so from to last error _ _ kept.stored.is_open (calm clean)
+            did.survives cause.survives (did.fails (calm clean) kept) (cause.shut clean device);
         mode = λ outside. cause.mode (did.mode outside);
         survives = survives_then from to last _ (λ _. ⊥) _ (λ _ _ none. none) (λ _ _ none. absurd none) did.survives
             cause.survives;
       }
 
-  pub ends_for : (end : Held S) (fault : LookupFault) (why : Unmade) → FindsFact g old mid (Err fault) P
-      → IsWhyOf g mid end fault why → EndsFor g old end why
-  ends_for end lookup.Memory why did (is, same) = subst (λ (h : Held S). EndsFor g old h why) (sym same)
-      (subst (EndsFor g old mid) (sym is) (ends_memory did))
-  ends_for end lookup.Malformed why did (is, same) = subst (λ (h : Held S). EndsFor g old h why) (sym same)
-      (subst (EndsFor g old mid) (sym is) (ends_untold did))
+  pub ends_for : (end : Held S) (fault : TableFault) (why : Unmade) → Fails g old mid lists fault
+      → IsWhyOf g mid end fault why → EndsFor g old mid end lists why
+  ends_for end lookup.Memory why did (is, same) = subst (λ (h : Held S). EndsFor g old mid h lists why) (sym same)
+      (subst (EndsFor g old mid mid lists) (sym is) (ends_memory did))
+  ends_for end lookup.Malformed why did (is, same) = subst (λ (h : Held S). EndsFor g old mid h lists why) (sym same)
+      (subst (EndsFor g old mid mid lists) (sym is) (ends_untold did))
   ends_for end (lookup.Store error) why did cause = ends_asked end error why did cause

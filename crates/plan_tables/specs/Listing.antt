@@ -13,16 +13,15 @@ use Rattle.plan_store.specs.declared.listings.What.TheVariants as whats
 use Rattle.plan_tables_schema.specs.Rows.{StaysOrIsUndone}
 use Rattle.plan_tables_schema.specs.Schema.{HasTables}
 use Rattle.plan_tables_queries.specs.Listing.{EmitsPart, StopsFor}
-use Rattle.plan_tables_queries.specs.declared.listing_faults.ListedFault.{ListedFault}
-use Rattle.plan_tables_queries.specs.declared.listing_faults.ListedFault.TheVariants as listed
-use Rattle.plan_tables_queries.specs.declared.faults.LookupFault.{LookupFault}
-use Rattle.plan_tables_queries.specs.declared.faults.LookupFault.TheVariants as lookup
+use Rattle.plan_tables_lookups.specs.declared.faults.Stopped.{Stopped}
+use Rattle.plan_tables_lookups.specs.declared.faults.Stopped.TheVariants.{Fault, Sink}
+use Rattle.plan_tables_lookups.specs.declared.faults.TableFault.{TableFault}
+use Rattle.plan_tables_lookups.specs.declared.faults.TableFault.TheVariants.{Malformed, Memory}
 use Rattle.plan_tables.specs.Kept.{IsKept, kept_in}
+use Rattle.plan_tables.specs.declared.keeping.Unmade.{Unmade}
 use Rattle.plan_tables.specs.declared.keeping.Unmade.TheVariants as unmade
 use Rattle.plan_tables.specs.declared.listing.ListedTable.{ListedTable}
 use Rattle.plan_tables.specs.declared.listing.ListedTable.TheVariants as asked
-use Rattle.plan_tables.specs.declared.listing.Unlisted.{Unlisted}
-use Rattle.plan_tables.specs.declared.listing.Unlisted.TheVariants as unlisted
 
 -- what is listed
 abbrev pub what_of : ListedTable → What
@@ -30,31 +29,25 @@ what_of asked.History = whats.History
 what_of asked.Deletions = whats.Deletions
 what_of asked.Pairs = whats.Dependencies
 
--- the fault of a look-up as one of a listing
-abbrev pub listed_so : LookupFault → ListedFault
-listed_so lookup.Memory = listed.Memory
-listed_so lookup.Malformed = listed.Malformed
-listed_so (lookup.Store e) = listed.Store e
-
 -- the fault of a listing of lists, which have no device
-abbrev pub ended_so : ListFault → ListedFault
-ended_so (list.Sink fault) = listed.Sink fault
-ended_so list.Memory = listed.Memory
-ended_so list.Device = listed.Memory
+abbrev pub ended_so : ListFault → Stopped TableFault
+ended_so (list.Sink _) = Sink
+ended_so list.Memory = Fault Memory
+ended_so list.Device = Fault Memory
 
 -- the fault of a store
-abbrev pub fault_so : Unlisted → ListFault
-fault_so (unlisted.Sink fault) = list.Sink fault
-fault_so (unlisted.Unmade unmade.Memory) = list.Memory
-fault_so (unlisted.Unmade unmade.Doubt) = list.Memory
-fault_so (unlisted.Unmade unmade.Device) = list.Device
+abbrev pub fault_so : Stopped Unmade → ListFault
+fault_so Sink = list.Sink (record {})
+fault_so (Fault unmade.Memory) = list.Memory
+fault_so (Fault unmade.Doubt) = list.Memory
+fault_so (Fault unmade.Device) = list.Device
 
 -- it leaves the connection open
-abbrev pub LeavesOpen : Unlisted → Type 0
-LeavesOpen (unlisted.Sink fault) = ⊤
-LeavesOpen (unlisted.Unmade unmade.Memory) = ⊤
-LeavesOpen (unlisted.Unmade unmade.Doubt) = ⊥
-LeavesOpen (unlisted.Unmade unmade.Device) = ⊥
+abbrev pub LeavesOpen : Stopped Unmade → Type 0
+LeavesOpen Sink = ⊤
+LeavesOpen (Fault unmade.Memory) = ⊤
+LeavesOpen (Fault unmade.Doubt) = ⊥
+LeavesOpen (Fault unmade.Device) = ⊥
 
 -- Over a kept content an Ok is the number of all items of the listing, which the sink accepted in its order, and an
 -- error means that it accepted the first of them and, if it is to blame, refused the next. Whatever the tables have,
@@ -62,14 +55,14 @@ LeavesOpen (unlisted.Unmade unmade.Device) = ⊥
 -- general errors; a crash finds what it found before.
 pub record ListsKept {S K : Type 0} (g : Ghosts S) (old new : Held S) (lists : Content)
     (Accepts Refuses : K → Shown → K → Type 0) (before after : K) (what : ListedTable) (app : Option (List ℕ))
-    (result : Result ℕ ListedFault) : Type 0 where
+    (result : Result ℕ (Stopped TableFault)) : Type 0 where
   pub all : HasCleanDisk (state g new) → ∥ IsKept (state g old) lists ∥₁
       → AreNumbered (kept_in (state g old) lists).sets
       → IfOk result (EmitsAll Accepts (IsListing (what_of what) app (kept_in (state g old) lists)) before after)
   pub part : HasCleanDisk (state g new) → ∥ IsKept (state g old) lists ∥₁
       → AreNumbered (kept_in (state g old) lists).sets
       → IfErr result (EmitsPart Accepts Refuses (IsListing (what_of what) app (kept_in (state g old) lists)) before after)
-  pub told : HasCleanDisk (state g new) → ∥ IsKept (state g old) lists ∥₁ → IfErr result (λ fault. fault ≢ listed.Malformed)
+  pub told : HasCleanDisk (state g new) → ∥ IsKept (state g old) lists ∥₁ → IfErr result (λ stopped. stopped ≢ Fault Malformed)
   pub same : HasCleanDisk (state g new) → HasTables (state g old).now.schema
       → OnOk result (IsUnchanged (state g old) (state g new))
   pub fails : HasCleanDisk (state g new) → HasTables (state g old).now.schema

@@ -6,8 +6,8 @@ use Rattle.sqlite.specs.Store.{Ghosts}
 use Rattle.sqlite.specs.declared.error.Error.{Error}
 use Rattle.sqlite_disk.specs.Disk.{MoreFaults}
 use Rattle.plan_store.specs.declared.stores.StoreFault.TheVariants.{Memory}
-use Rattle.plan_tables_queries.specs.declared.faults.LookupFault.{LookupFault}
-use Rattle.plan_tables_queries.specs.declared.faults.LookupFault.TheVariants as lookup
+use Rattle.plan_tables_lookups.specs.declared.faults.TableFault.{TableFault}
+use Rattle.plan_tables_lookups.specs.declared.faults.TableFault.TheVariants as lookup
 use Rattle.plan_tables.specs.Causes.{fault_in}
 use Rattle.plan_tables.specs.Kept.{StaysPut}
 use Rattle.plan_tables.specs.declared.keeping.Unmade.{Unmade}
@@ -26,7 +26,7 @@ pub record IsCauseOf {S : Type 0} (g : Ghosts S) (old new : Held S) (error : Err
   pub survives : Survives (state g old) (state g new) (λ _. ⊥)
 
 -- want of memory, or a row that tells no fact, which the device is blamed for; nothing was asked of the connection
-abbrev pub IsWhyOf : {S : Type 0} → Ghosts S → (old new : Held S) → LookupFault → Unmade → Type 0
+abbrev pub IsWhyOf : {S : Type 0} → Ghosts S → (old new : Held S) → TableFault → Unmade → Type 0
 IsWhyOf g old new lookup.Memory why = (why ≡ unmade.Memory) × (new ≡ old)
 IsWhyOf g old new lookup.Malformed why = (why ≡ unmade.Device) × (new ≡ old)
 IsWhyOf g old new (lookup.Store error) why = IsCauseOf g old new error why

@@ -12,9 +12,10 @@ ghost use Rattle.plan_tables.specs.Ends.{HasSerial};
 
 use occurrences::{Row, Serial};
 use plan_store::Content;
-use plan_tables_queries::{LookupFault, completed_of, completed_row};
+use plan_tables_lookups::TableFault;
+use plan_tables_queries::{completed_of, completed_row};
 use sqlite::{Alter, Connection};
-use std::alloc::{AllocError, Global};
+use std::alloc::Global;
 use work_calendars::App;
 
 // Puts the rows in the order of their serials.
@@ -30,18 +31,14 @@ fn find_of_app<S: Alter>(
     alloc: Global,
     conn: &mut Connection<S>,
     app: &App,
-) -> Result<Vec<Row>, LookupFault>
+) -> Result<Vec<Row>, TableFault>
     ensures found { FindsFact S.Store conn.old conn.new result (λ c found.
         AreAllOf c.sets.history app.now found.items) }
     ensures sorted { IfOk result (λ found. IsSortedByKey row_serial nat_cmp found.items) }
 {
-    match completed_of(alloc, conn, app) {
-        Ok(mut found) => {
-            sort_by_serial(&mut found);
-            Ok(found)
-        }
-        Err(fault) => Err(fault),
-    }
+    let mut found = completed_of(alloc, conn, app)?;
+    sort_by_serial(&mut found);
+    Ok(found)
 }
 
 // Adds the row that history has under the serial, if there is one.
@@ -50,17 +47,16 @@ fn add_completed<S: Alter>(
     conn: &mut Connection<S>,
     found: &mut Vec<Row>,
     serial: Serial,
-) -> Result<(), LookupFault>
+) -> Result<(), TableFault>
     ensures { FindsFact S.Store conn.old conn.new result (λ c _.
         found.new.items ≡ found.old.items ++ option_to_list (c.sets.history serial)) }
 {
-    match completed_row(alloc, conn, serial) {
-        Ok(Some(row)) => match found.push(row) {
-            Ok(()) => Ok(()),
-            Err(_) => Err(LookupFault::Memory),
-        },
-        Ok(None) => Ok(()),
-        Err(fault) => Err(fault),
+    match completed_row(alloc, conn, serial)? {
+        Some(row) => {
+            found.push(row)?;
+            Ok(())
+        }
+        None => Ok(()),
     }
 }
 
@@ -80,25 +76,16 @@ pub(crate) fn find_ends<S: Alter>(
     conn: &mut Connection<S>,
     lists: &Content,
     app: &App,
-) -> Result<Vec<Row>, LookupFault>
+) -> Result<Vec<Row>, TableFault>
     ensures found { FindsFact S.Store conn.old conn.new result (λ c found.
         HasFound app.now (content_of lists.now) c.sets.history found.items) }
     ensures sorted { IfOk result (λ found. IsSortedByKey row_serial nat_cmp found.items) }
 {
-    let mut found = match find_of_app(alloc, conn, app) {
-        Ok(found) => found,
-        Err(fault) => return Err(fault),
-    };
-    let serials = match lists.unknown_ends(alloc, &found, app) {
-        Ok(serials) => serials,
-        Err(AllocError) => return Err(LookupFault::Memory),
-    };
+    let mut found = find_of_app(alloc, conn, app)?;
+    let serials = lists.unknown_ends(alloc, &found, app)?;
     for serial in &serials {
         if !ends_with(&found, *serial) {
-            match add_completed(alloc, conn, &mut found, *serial) {
-                Ok(()) => {}
-                Err(fault) => return Err(fault),
-            }
+            add_completed(alloc, conn, &mut found, *serial)?;
         }
     }
     sort_by_serial(&mut found);

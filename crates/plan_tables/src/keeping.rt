@@ -24,7 +24,7 @@ ghost use Rattle.plan_tables.specs.Kept.{IsMet, StaysPut, jobless};
 ghost use Rattle.plan_tables.specs.Whys.{IsWhyOf};
 
 use plan_store::{Change, Content, DefinitionChange, Redefining, Room, StoreFault};
-use plan_tables_queries::LookupFault;
+use plan_tables_lookups::TableFault;
 use plan_tables_writing::{DefinitionMoves, commit_change};
 use sqlite::{Alter, Connection, Error, ErrorCode};
 use std::alloc::{AllocError, Global};
@@ -109,13 +109,13 @@ pub(crate) fn cause_of<S: Alter>(conn: &mut Connection<S>, error: &Error) -> Unm
 }
 
 /// Why something is not done whose look-up failed so. A row that tells no fact is a failure of the device.
-pub(crate) fn why_of<S: Alter>(conn: &mut Connection<S>, fault: &LookupFault) -> Unmade
+pub(crate) fn why_of<S: Alter>(conn: &mut Connection<S>, fault: &TableFault) -> Unmade
     ensures { IsWhyOf S.Store conn.old conn.new fault.now result }
 {
     match fault {
-        LookupFault::Memory => Unmade::Memory,
-        LookupFault::Malformed => Unmade::Device,
-        LookupFault::Store(error) => cause_of(conn, error),
+        TableFault::Memory => Unmade::Memory,
+        TableFault::Malformed => Unmade::Device,
+        TableFault::Store(error) => cause_of(conn, error),
     }
 }
 

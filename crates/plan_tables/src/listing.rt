@@ -12,16 +12,15 @@ ghost use Rattle.plan_tables_schema.specs.Schema.{HasTables};
 ghost use Rattle.plan_tables_queries.specs.Finding.{FindsFact};
 ghost use Rattle.plan_tables.specs.Causes.{HasFailed};
 ghost use Rattle.plan_tables.specs.Kept.{IsKept, StaysPut, kept_in};
-ghost use Rattle.plan_tables.specs.Listing.{LeavesOpen, ListsKept, ended_so, fault_so, listed_so};
+ghost use Rattle.plan_tables.specs.Listing.{LeavesOpen, ListsKept, ended_so, fault_so};
 ghost use Rattle.plan_tables.specs.Listing.{what_of};
 
 use crate::ends::find_ends;
-use crate::keeping::{Unmade, cause_of};
+use crate::keeping::{Unmade, why_of};
 use occurrences::{Deletion, Row};
-use plan_store::{Content, ItemRefused, ItemSink, ListFault};
-use plan_tables_queries::{
-    ListedFault, LookupFault, completed_rows, deleted_rows, list_deletions, list_history,
-};
+use plan_store::{Content, ItemSink, ListFault};
+use plan_tables_lookups::{Stopped, TableFault};
+use plan_tables_queries::{completed_rows, deleted_rows, list_deletions, list_history};
 use sqlite::{Alter, Connection};
 use std::alloc::Global;
 use work_calendars::App;
@@ -34,52 +33,27 @@ pub(crate) enum ListedTable {
     Pairs,
 }
 
-/// Why a listing ended before its last item.
-#[derive(Clone, Copy)]
-pub(crate) enum Unlisted {
-    /// The sink refused an item.
-    Sink(ItemRefused),
-    /// Memory was refused, or a query of the tables failed.
-    Unmade(Unmade),
-}
-
-// The fault of a look-up as one of a listing.
-fn listed_so(fault: LookupFault) -> ListedFault
-    ensures { result ≡ listed_so fault }
-{
-    match fault {
-        LookupFault::Memory => ListedFault::Memory,
-        LookupFault::Malformed => ListedFault::Malformed,
-        LookupFault::Store(error) => ListedFault::Store(error),
-    }
-}
-
 // All rows of history, and all deletions.
 fn read_rest<S: Alter>(
     alloc: Global,
     conn: &mut Connection<S>,
-) -> Result<(Vec<Row>, Vec<Deletion>), LookupFault>
+) -> Result<(Vec<Row>, Vec<Deletion>), TableFault>
     ensures { FindsFact S.Store conn.old conn.new result (λ c found.
         ListsAll of_row found.0.items c.sets.history
         × ListsAll of_deletion found.1.items c.sets.deletions) }
 {
-    let history = match completed_rows(alloc, conn) {
-        Ok(history) => history,
-        Err(fault) => return Err(fault),
-    };
-    match deleted_rows(alloc, conn) {
-        Ok(deletions) => Ok((history, deletions)),
-        Err(fault) => Err(fault),
-    }
+    let history = completed_rows(alloc, conn)?;
+    let deletions = deleted_rows(alloc, conn)?;
+    Ok((history, deletions))
 }
 
 // Why a listing of pairs from lists ended before its last item. Lists have no device.
-fn ended_so(fault: ListFault) -> ListedFault
+fn ended_so(fault: ListFault) -> Stopped<TableFault>
     ensures { result ≡ ended_so fault }
 {
     match fault {
-        ListFault::Sink(fault) => ListedFault::Sink(fault),
-        ListFault::Memory | ListFault::Device => ListedFault::Memory,
+        ListFault::Sink(_) => Stopped::Sink,
+        ListFault::Memory | ListFault::Device => Stopped::Fault(TableFault::Memory),
     }
 }
 
@@ -89,17 +63,14 @@ fn list_all_pairs<S: Alter, K: ItemSink>(
     conn: &mut Connection<S>,
     lists: &Content,
     sink: &mut K,
-) -> Result<usize, ListedFault>
+) -> Result<usize, Stopped<TableFault>>
     ensures { ListsKept S.Store conn.old conn.new (content_of lists.now) K.accepts K.refuses
         sink.old sink.new ListedTable.Pairs None result }
 {
     lists.has_listings_with();
-    let (history, deletions) = match read_rest(alloc, conn) {
-        Ok(rows) => rows,
-        Err(fault) => return Err(listed_so(fault)),
-    };
-    let completed = history.as_slice();
-    let deleted = deletions.as_slice();
+    let rows = read_rest(alloc, conn)?;
+    let completed = rows.0.as_slice();
+    let deleted = rows.1.as_slice();
     match lists.pairs_to(alloc, completed, deleted, None, sink) {
         Ok(count) => Ok(count),
         Err(fault) => Err(ended_so(fault)),
@@ -113,15 +84,12 @@ fn list_app_pairs<S: Alter, K: ItemSink>(
     lists: &Content,
     app: &App,
     sink: &mut K,
-) -> Result<usize, ListedFault>
+) -> Result<usize, Stopped<TableFault>>
     ensures { ListsKept S.Store conn.old conn.new (content_of lists.now) K.accepts K.refuses
         sink.old sink.new ListedTable.Pairs (Some app.now) result }
 {
     lists.has_listings_with();
-    let found = match find_ends(alloc, conn, lists, app) {
-        Ok(found) => found,
-        Err(fault) => return Err(listed_so(fault)),
-    };
+    let found = find_ends(alloc, conn, lists, app)?;
     let rows = found.as_slice();
     match lists.app_pairs_to(alloc, rows, app, sink) {
         Ok(count) => Ok(count),
@@ -136,7 +104,7 @@ fn list_pairs<S: Alter, K: ItemSink>(
     lists: &Content,
     app: Option<&App>,
     sink: &mut K,
-) -> Result<usize, ListedFault>
+) -> Result<usize, Stopped<TableFault>>
     ensures { ListsKept S.Store conn.old conn.new (content_of lists.now) K.accepts K.refuses
         sink.old sink.new ListedTable.Pairs (option_copied app.entry) result }
 {
@@ -154,7 +122,7 @@ fn list_facts<S: Alter, K: ItemSink>(
     asked: ListedTable,
     app: Option<&App>,
     sink: &mut K,
-) -> Result<usize, ListedFault>
+) -> Result<usize, Stopped<TableFault>>
     ensures { ListsKept S.Store conn.old conn.new (content_of lists.now) K.accepts K.refuses
         sink.old sink.new asked (option_copied app.entry) result }
 {
@@ -173,7 +141,7 @@ pub(crate) fn list_kept<S: Alter, K: ItemSink>(
     asked: ListedTable,
     app: Option<&App>,
     sink: &mut K,
-) -> Result<usize, Unlisted>
+) -> Result<usize, Stopped<Unmade>>
     ensures all { HasCleanDisk (state S.Store conn.new)
         → ∥ IsKept (state S.Store conn.old) (content_of lists.now) ∥₁
         → AreNumbered (kept_in (state S.Store conn.old) (content_of lists.now)).sets
@@ -197,7 +165,7 @@ pub(crate) fn list_kept<S: Alter, K: ItemSink>(
         → IfErr result (λ why. LeavesOpen why → IsTrue (state S.Store conn.new).is_open) }
     ensures failed { HasCleanDisk (state S.Store conn.new)
         → IsKept (state S.Store conn.old) (content_of lists.now)
-        → IfErr result (λ why. why ≡ Unlisted.Unmade Unmade.Device
+        → IfErr result (λ why. why ≡ Stopped.Fault Unmade.Device
         → HasFailed (state S.Store conn.old) (state S.Store conn.new)) }
     ensures mode { conn.old.in_transaction ≡ false → conn.new.in_transaction ≡ false }
     ensures survives { Survives (state S.Store conn.old) (state S.Store conn.new)
@@ -205,9 +173,7 @@ pub(crate) fn list_kept<S: Alter, K: ItemSink>(
 {
     match list_facts(alloc, conn, lists, asked, app, sink) {
         Ok(count) => Ok(count),
-        Err(ListedFault::Sink(fault)) => Err(Unlisted::Sink(fault)),
-        Err(ListedFault::Memory) => Err(Unlisted::Unmade(Unmade::Memory)),
-        Err(ListedFault::Malformed) => Err(Unlisted::Unmade(Unmade::Device)),
-        Err(ListedFault::Store(error)) => Err(Unlisted::Unmade(cause_of(conn, &error))),
+        Err(Stopped::Sink) => Err(Stopped::Sink),
+        Err(Stopped::Fault(fault)) => Err(Stopped::Fault(why_of(conn, &fault))),
     }
 }

@@ -9,7 +9,7 @@ ghost use Rattle.plan_tables.specs.Sought.{IsFoundFor, Seeks};
 
 use crate::keeping::{Unmade, why_of};
 use plan_store::{Change, Content, Need};
-use plan_tables_queries::LookupFault;
+use plan_tables_lookups::TableFault;
 use plan_tables_windows::{load_for_change, load_for_need};
 use sqlite::{Alter, Connection};
 use std::alloc::Global;
@@ -27,7 +27,7 @@ fn load_sought<S: Alter>(
     conn: &mut Connection<S>,
     lists: &mut Content,
     sought: Sought<'_>,
-) -> Result<(), LookupFault>
+) -> Result<(), TableFault>
     ensures { Fetches S.Store conn.old conn.new (content_of lists.old) (content_of lists.new)
         result (IsFoundFor sought.entry) }
 {

@@ -34,15 +34,18 @@ ghost use Rattle.plan_tables.specs.Representable.{BringMoves};
 
 use crate::answers::{added_rise, change_is_representable};
 use crate::keeping::{Unmade, ask_open, change_both};
-use crate::listing::{ListedTable, Unlisted, list_kept};
+use crate::listing::{ListedTable, list_kept};
 use crate::looking::job_kept;
 use crate::prepared::{Prepared, can_number, prepare};
 use crate::seeking::{Sought, cut_lists, loaded_rows, seek};
 use app_definitions::Definitions;
 use external_dependencies::Links;
-use plan_store::{Change, Content, ItemSink, ListFault, Need, PlanStore, StoreFault, View, What};
+use plan_store::{
+    Change, Content, ItemRefused, ItemSink, ListFault, Need, PlanStore, StoreFault, View, What,
+};
 use plan_tables_constraints::fitting_changes_are_accepted;
 use plan_tables_content::{tables_have_one_content, tables_represent_sets};
+use plan_tables_lookups::Stopped;
 use plan_tables_opening::has_only_key_indexes;
 use planner_machine::{Bounds, Job};
 use sqlite::{Alter, Connection, Error};
@@ -340,13 +343,13 @@ impl<S: Alter + Drop> TableStore<S> {
     {
         match list_kept(alloc, &mut self.conn, &self.lists, asked, app, sink) {
             Ok(count) => Ok(count),
-            Err(Unlisted::Sink(fault)) => Err(ListFault::Sink(fault)),
-            Err(Unlisted::Unmade(Unmade::Memory)) => Err(ListFault::Memory),
-            Err(Unlisted::Unmade(Unmade::Doubt)) => {
+            Err(Stopped::Sink) => Err(ListFault::Sink(ItemRefused)),
+            Err(Stopped::Fault(Unmade::Memory)) => Err(ListFault::Memory),
+            Err(Stopped::Fault(Unmade::Doubt)) => {
                 self.in_doubt = true;
                 Err(ListFault::Memory)
             }
-            Err(Unlisted::Unmade(Unmade::Device)) => {
+            Err(Stopped::Fault(Unmade::Device)) => {
                 self.failures = self.failures.saturating_add(1);
                 Err(ListFault::Device)
             }

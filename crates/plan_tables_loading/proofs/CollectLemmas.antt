@@ -6,7 +6,7 @@ use Rattle.std.specs.List.Sorted.{IsPermutation}
 use Rattle.sqlite.specs.Order.{Row as Values}
 use Rattle.plan_store_lists.proofs.KeyLemmas.{contains_first, contains_later}
 use Rattle.plan_tables_lookups.specs.Emitting.{EmitsAll, EmitsPart, AcceptsAll}
-use Rattle.plan_tables_lookups.specs.declared.emitting.EmitFault.TheVariants.{Sink}
+use Rattle.plan_tables_lookups.specs.declared.faults.Stopped.TheVariants.{Sink}
 use Rattle.plan_tables_schema.specs.Rows.{Tables, shown}
 use Rattle.plan_tables_schema.specs.declared.tables.Table.{Table}
 use Rattle.plan_tables_loading.specs.Readable.{ShowsEach}

@@ -1,5 +1,5 @@
 -- The pairs and the rowids of their rows, as they are handed out.
-use Rattle.std.proofs.Common.{◌≡◌, ◌≤◌, ℕ, List, [], ◌∷◌, ◌++◌, map, true, IsTrue, Err, refl, sym, subst}
+use Rattle.std.proofs.Common.{◌≡◌, ◌≤◌, List, [], ◌++◌, map, true, IsTrue, Err, refl, sym, subst}
 use Rattle.std.specs.List.Sorted.{IsPermutation}
 use Rattle.sqlite.specs.Effect.{Database}
 use Rattle.sqlite.specs.Given.{HasBegun, HasGiven}
@@ -18,7 +18,7 @@ use Rattle.plan_tables_schema.specs.Rows.{MayFail, StaysOrIsUndone, tables_of}
 use Rattle.plan_tables_schema.specs.Schema.{HasTables}
 use Rattle.plan_tables_schema.specs.declared.tables.Table.TheVariants.{Dependency}
 use Rattle.plan_tables_schema.proofs.MeaningLemmas.{Means}
-use Rattle.plan_tables_schema.proofs.StatementLemmas.{text_fails, text_leaves, text_quiet, text_reads, text_stays}
+use Rattle.plan_tables_schema.proofs.StatementLemmas.{text_fails, text_leaves, text_quiet, text_reads}
 use Rattle.plan_tables_schema.proofs.Steps.{plain_query, plain_rows}
 use Rattle.plan_tables_loading.specs.Rowids.{pair_shown, pair_sql, pair_terms}
 use Rattle.plan_tables_loading.proofs.PairTexts.{pair_names, pairs_means}

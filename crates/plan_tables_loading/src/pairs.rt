@@ -21,7 +21,7 @@ use crate::collecting::Collector;
 use crate::decode::Decode;
 use crate::order::{Numbered, place_of};
 use external_dependencies::Pair;
-use plan_tables_lookups::{EmitFault, RowRefused, ValuesSink};
+use plan_tables_lookups::{RowRefused, Stopped, ValuesSink};
 use sqlite::{Alter, Connection, Error, ErrorCode, Row as Cells};
 use std::alloc::{AllocError, Global};
 
@@ -82,7 +82,7 @@ fn pair_text() -> &'static str
 fn emit_pairs<S: Alter, K: ValuesSink>(
     conn: &mut Connection<S>,
     sink: &mut K,
-) -> Result<(), EmitFault>
+) -> Result<(), Stopped<Error>>
     ensures all { HasCleanDisk (state S.Store conn.new)
         → HasTables (state S.Store conn.old).now.schema
         → OnOk result (EmitsAll K.accepts (IsPermutation
@@ -108,23 +108,18 @@ fn emit_pairs<S: Alter, K: ValuesSink>(
 {
     // its clause says that an open connection has a database
     let _ = conn.schema();
-    let mut rows = match conn.query(pair_text(), &[]) {
-        Ok(rows) => rows,
-        Err(error) => return Err(EmitFault::Store(error)),
-    };
+    let mut rows = conn.query(pair_text(), &[])?;
     'rows: for _ in 0..u64::MAX {
-        if let Err(error) = rows.advance() {
-            return Err(EmitFault::Store(error));
-        }
+        rows.advance()?;
         let Some(row) = rows.get() else {
             return Ok(());
         };
         if let Err(RowRefused) = sink.accept(row) {
-            return Err(EmitFault::Sink);
+            return Err(Stopped::Sink);
         }
     }
     // no memory has so many rows
-    Err(EmitFault::Store(Error::SqliteFailure(ErrorCode::OutOfMemory)))
+    Err(Stopped::Fault(Error::SqliteFailure(ErrorCode::OutOfMemory)))
 }
 
 /// What the rows of the pairs encode.
@@ -153,9 +148,9 @@ pub(crate) fn read_pairs<S: Alter>(
     };
     match emit_pairs(conn, &mut told) {
         Ok(()) => Ok(Some(told.xs)),
-        Err(EmitFault::Store(error)) => Err(error),
-        Err(EmitFault::Sink) if told.is_short => Err(Error::from(AllocError)),
-        Err(EmitFault::Sink) => Ok(None),
+        Err(Stopped::Fault(error)) => Err(error),
+        Err(Stopped::Sink) if told.is_short => Err(Error::from(AllocError)),
+        Err(Stopped::Sink) => Ok(None),
     }
 }
 

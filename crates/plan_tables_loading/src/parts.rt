@@ -65,14 +65,12 @@ impl<A: TablePart, B: TablePart> TablePart for (A, B) {
     ghost readable = { λ all. A.readable all × B.readable all };
 
     fn read<S: Alter>(alloc: Global, conn: &mut Connection<S>) -> Result<Option<(A, B)>, Error> {
-        match A::read(alloc, conn) {
-            Ok(Some(first)) => match B::read(alloc, conn) {
-                Ok(Some(second)) => Ok(Some((first, second))),
-                Ok(None) => Ok(None),
-                Err(error) => Err(error),
+        match A::read(alloc, conn)? {
+            Some(first) => match B::read(alloc, conn)? {
+                Some(second) => Ok(Some((first, second))),
+                None => Ok(None),
             },
-            Ok(None) => Ok(None),
-            Err(error) => Err(error),
+            None => Ok(None),
         }
     }
 }
@@ -145,10 +143,9 @@ impl<X: StandsIn<PLACE> + Drop, const PLACE: usize> TablePart for InOrder<X, PLA
         alloc: Global,
         conn: &mut Connection<S>,
     ) -> Result<Option<InOrder<X, PLACE>>, Error> {
-        match read_in_order(alloc, conn, X::table()) {
-            Ok(Some(rows)) => Ok(Some(InOrder { rows })),
-            Ok(None) => Ok(None),
-            Err(error) => Err(error),
+        match read_in_order(alloc, conn, X::table())? {
+            Some(rows) => Ok(Some(InOrder { rows })),
+            None => Ok(None),
         }
     }
 }
@@ -183,10 +180,9 @@ impl TablePart for LinkRows {
     ghost readable = { ShowsLinks };
 
     fn read<S: Alter>(alloc: Global, conn: &mut Connection<S>) -> Result<Option<LinkRows>, Error> {
-        match read_table(alloc, conn, Table::LinkInForce) {
-            Ok(Some(links)) => Ok(link_rows(links)?),
-            Ok(None) => Ok(None),
-            Err(error) => Err(error),
+        match read_table(alloc, conn, Table::LinkInForce)? {
+            Some(links) => Ok(link_rows(links)?),
+            None => Ok(None),
         }
     }
 }
@@ -217,10 +213,9 @@ impl TablePart for PairRows {
     ghost readable = { λ all. ShowsEachOnce all Dependency pair_values IsPair };
 
     fn read<S: Alter>(alloc: Global, conn: &mut Connection<S>) -> Result<Option<PairRows>, Error> {
-        match read_pairs(alloc, conn) {
-            Ok(Some(told)) => Ok(pair_rows(alloc, told)?),
-            Ok(None) => Ok(None),
-            Err(error) => Err(error),
+        match read_pairs(alloc, conn)? {
+            Some(told) => Ok(pair_rows(alloc, told)?),
+            None => Ok(None),
         }
     }
 }
@@ -247,10 +242,9 @@ impl TablePart for Meta {
     ghost readable = { ShowsMeta };
 
     fn read<S: Alter>(alloc: Global, conn: &mut Connection<S>) -> Result<Option<Meta>, Error> {
-        match read_table(alloc, conn, Table::Meta) {
-            Ok(Some(metas)) => Ok(only(metas)),
-            Ok(None) => Ok(None),
-            Err(error) => Err(error),
+        match read_table(alloc, conn, Table::Meta)? {
+            Some(metas) => Ok(only(metas)),
+            None => Ok(None),
         }
     }
 }

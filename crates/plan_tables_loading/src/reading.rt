@@ -70,9 +70,8 @@ pub fn read_lists<S: Alter>(
         → IfErr result (MayFail (state S.Store conn.old) (state S.Store conn.new)) }
     ensures mode { conn.old.in_transaction ≡ false → conn.new.in_transaction ≡ false }
 {
-    match <(RowParts, Rest)>::read(alloc, conn) {
-        Ok(Some((rows, rest))) => Ok(Some(lists_of(rows_of(rows), rest))),
-        Ok(None) => Ok(None),
-        Err(error) => Err(error),
+    match <(RowParts, Rest)>::read(alloc, conn)? {
+        Some((rows, rest)) => Ok(Some(lists_of(rows_of(rows), rest))),
+        None => Ok(None),
     }
 }

@@ -13,7 +13,7 @@ ghost use Rattle.plan_tables_loading.specs.Readable.{ShowsEach, ShowsEachOnce, S
 use crate::collecting::Collector;
 use crate::decode::Decode;
 use crate::order::{Numbered, in_order};
-use plan_tables_lookups::{EmitFault, emit_all};
+use plan_tables_lookups::{Stopped, emit_all};
 use plan_tables_schema::Table;
 use sqlite::{Alter, Connection, Error};
 use std::alloc::{AllocError, Global};
@@ -48,9 +48,9 @@ pub(crate) fn read_table<X: Decode + Drop, S: Alter>(
     };
     match emit_all(conn, table, &mut told) {
         Ok(()) => Ok(Some(told.xs)),
-        Err(EmitFault::Store(error)) => Err(error),
-        Err(EmitFault::Sink) if told.is_short => Err(Error::from(AllocError)),
-        Err(EmitFault::Sink) => Ok(None),
+        Err(Stopped::Fault(error)) => Err(error),
+        Err(Stopped::Sink) if told.is_short => Err(Error::from(AllocError)),
+        Err(Stopped::Sink) => Ok(None),
     }
 }
 
@@ -78,9 +78,8 @@ pub(crate) fn read_in_order<X: Decode + Numbered + Drop, S: Alter>(
         → IfErr result (MayFail (state S.Store conn.old) (state S.Store conn.new)) }
     ensures mode { conn.old.in_transaction ≡ false → conn.new.in_transaction ≡ false }
 {
-    match read_table::<X, S>(alloc, conn, table) {
-        Ok(Some(xs)) => Ok(in_order(xs)),
-        Ok(None) => Ok(None),
-        Err(error) => Err(error),
+    match read_table::<X, S>(alloc, conn, table)? {
+        Some(xs) => Ok(in_order(xs)),
+        None => Ok(None),
     }
 }

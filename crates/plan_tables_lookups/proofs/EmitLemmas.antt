@@ -13,7 +13,7 @@ use Rattle.sqlite_keyed.proofs.ListLemmas.{all_of, filter_all}
 use Rattle.plan_tables_lookups.specs.Emitting.{EmitsAll, EmitsPart, AcceptsAll}
 use Rattle.plan_tables_lookups.specs.Looks.{AreAsked, look_sql, question}
 use Rattle.plan_tables_lookups.specs.Question.{Answers}
-use Rattle.plan_tables_lookups.specs.declared.emitting.EmitFault.{EmitFault}
+use Rattle.plan_tables_lookups.specs.declared.faults.Stopped.{Stopped}
 use Rattle.plan_tables_lookups.specs.declared.looks.Look.{Look}
 use Rattle.plan_tables_lookups.specs.declared.looks.Look.TheVariants.{Whole}
 use Rattle.plan_tables_lookups.proofs.AskLemmas.{answered, begun, fails, plain}
@@ -94,7 +94,7 @@ module _ (t : Table) (asked : Values) (all : Tables) where
     pub table_handed : EmitsAll Accepts (Answers (question (Whole t)) asked all) old new → EmitsAll Accepts IsTable old new
     table_handed h = record { rows = h.rows; whole = of_table h.rows h.whole; taken = h.taken }
 
-    pub table_parted : (fault : EmitFault)
+    pub table_parted : (fault : Stopped Error)
         → EmitsPart Accepts Refuses (Answers (question (Whole t)) asked all) old new fault
         → EmitsPart Accepts Refuses IsTable old new fault
     table_parted fault h = record {

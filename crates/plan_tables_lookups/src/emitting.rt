@@ -13,6 +13,7 @@ ghost use Rattle.plan_tables_schema.specs.Rows.{StaysOrIsUndone, shown, tables_o
 ghost use Rattle.plan_tables_schema.specs.Schema.{HasTables};
 
 use crate::asking::look_text;
+use crate::faults::Stopped;
 use crate::looks::Look;
 use plan_tables_schema::Table;
 use sqlite::types::ValueRef;
@@ -21,15 +22,6 @@ use sqlite::{Alter, Connection, Error, ErrorCode, Row};
 /// A sink refused a row.
 #[derive(Clone, Copy, Debug, PartialEq, Eq)]
 pub struct RowRefused;
-
-/// Why not all rows were yielded.
-#[derive(Debug, Drop)]
-pub enum EmitFault {
-    /// The rows could not be read.
-    Store(Error),
-    /// The sink refused a row.
-    Sink,
-}
 
 /// What receives rows of values, one after another.
 pub trait ValuesSink {
@@ -52,7 +44,7 @@ pub fn emit<S: Alter, K: ValuesSink>(
     look: Look,
     asked: &[ValueRef<'_>],
     sink: &mut K,
-) -> Result<(), EmitFault>
+) -> Result<(), Stopped<Error>>
     ensures all { HasCleanDisk (state S.Store conn.new)
         → HasTables (state S.Store conn.old).now.schema
         → OnOk result (EmitsAll K.accepts (Answers (question look) (bound asked.now)
@@ -76,23 +68,18 @@ pub fn emit<S: Alter, K: ValuesSink>(
 {
     // its clause says that an open connection has a database
     let _ = conn.schema();
-    let mut rows = match conn.query(look_text(look), asked) {
-        Ok(rows) => rows,
-        Err(error) => return Err(EmitFault::Store(error)),
-    };
+    let mut rows = conn.query(look_text(look), asked)?;
     'rows: for _ in 0..u64::MAX {
-        if let Err(error) = rows.advance() {
-            return Err(EmitFault::Store(error));
-        }
+        rows.advance()?;
         let Some(row) = rows.get() else {
             return Ok(());
         };
         if let Err(RowRefused) = sink.accept(row) {
-            return Err(EmitFault::Sink);
+            return Err(Stopped::Sink);
         }
     }
     // no memory has so many rows
-    Err(EmitFault::Store(Error::SqliteFailure(ErrorCode::OutOfMemory)))
+    Err(Stopped::Fault(Error::SqliteFailure(ErrorCode::OutOfMemory)))
 }
 
 /// Yields all rows of the table, each before the next is read, in no order. It fails as `emit` does.
@@ -100,7 +87,7 @@ pub fn emit_all<S: Alter, K: ValuesSink>(
     conn: &mut Connection<S>,
     table: Table,
     sink: &mut K,
-) -> Result<(), EmitFault>
+) -> Result<(), Stopped<Error>>
     ensures all { HasCleanDisk (state S.Store conn.new)
         → HasTables (state S.Store conn.old).now.schema
         → OnOk result (EmitsAll K.accepts (IsPermutation

@@ -11,11 +11,13 @@
 
 mod asking;
 mod emitting;
+mod faults;
 mod finding;
 mod looks;
 
 pub use asking::ask;
-pub use emitting::{EmitFault, RowRefused, ValuesSink, emit, emit_all};
+pub use emitting::{RowRefused, ValuesSink, emit, emit_all};
+pub use faults::{Stopped, TableFault};
 pub use finding::{
     deletion_of_serial, history_of_serial, job_of_number, last_of, operator_deletions_from,
 };

@@ -6,12 +6,12 @@ use Rattle.std.proofs.lemmas.List.Sorted.{Contains-permutation, IsPermutation-sy
 use Rattle.sqlite.specs.Order.{Row as Values}
 use Rattle.plan_store_lists.proofs.KeyLemmas.{contains_first}
 use Rattle.plan_tables_lookups.specs.Emitting.{EmitsPart}
-use Rattle.plan_tables_lookups.specs.declared.emitting.EmitFault.TheVariants.{Sink}
+use Rattle.plan_tables_lookups.specs.declared.faults.Stopped.TheVariants.{Sink}
 use Rattle.plan_tables_queries.specs.Decoding.{TellsNone, TellsNot}
-use Rattle.plan_tables_queries.specs.declared.faults.LookupFault.{LookupFault}
+use Rattle.plan_tables_lookups.specs.declared.faults.TableFault.{TableFault}
 use Rattle.plan_tables_queries.proofs.RowLemmas.{none_among}
 
-module _ {W X : Type 0} (kept : W → List X) (why : W → LookupFault) (Is : X → Type 0) (values_of : X → Values) where
+module _ {W X : Type 0} (kept : W → List X) (why : W → TableFault) (Is : X → Type 0) (values_of : X → Values) where
   abbrev Keeps : W → Values → W → Type 0
   Keeps old row new = map values_of (kept new) ≡ map values_of (kept old) ++ row ∷ []
 

@@ -33,8 +33,8 @@ use Rattle.plan_tables_loading.proofs.OrderLemmas.{apart_distinct, distinct_apar
 use Rattle.plan_tables_loading.proofs.RowidLemmas.{distinct_rowids}
 use Rattle.plan_tables_queries.specs.Deletions.{AreGoneFrom, IsGoneFrom}
 use Rattle.plan_tables_queries.specs.Decoding.{TellsNot}
-use Rattle.plan_tables_queries.specs.declared.faults.LookupFault.{LookupFault}
-use Rattle.plan_tables_queries.specs.declared.faults.LookupFault.TheVariants.{Memory, Malformed, Store}
+use Rattle.plan_tables_lookups.specs.declared.faults.TableFault.{TableFault}
+use Rattle.plan_tables_lookups.specs.declared.faults.TableFault.TheVariants.{Memory, Malformed, Store}
 use Rattle.plan_tables_queries.proofs.RowLemmas.{asked_is, is_asked}
 use Rattle.plan_tables_queries.proofs.SerialLemmas.{deleted_formed}
 use Rattle.plan_tables_queries.proofs.TestLemmas.{both_of, is_late, late_is, of_both, so_texts}
@@ -128,7 +128,7 @@ module _ (all : Tables) (c : Content) (is : IsContentOf all c) (moment : ℕ) (r
     pub are_gone_from : AreGoneFrom all moment c found
     are_gone_from = record { exactly = λ d. (found_is d, is_found d); once = found_apart }
 
-  pub deletion_is_told : IsSound c → (fault : LookupFault)
+  pub deletion_is_told : IsSound c → (fault : TableFault)
       → TellsNot (λ (d : Deletion). IsNumberedRow d.row) deletion_values rows fault → fault ≢ Malformed
   deletion_is_told sound Memory tells e = cc
   deletion_is_told sound Malformed (row, there, none) e =

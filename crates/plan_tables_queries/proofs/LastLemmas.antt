@@ -18,8 +18,8 @@ use Rattle.plan_tables_content.proofs.SameOptions.{is_some}
 use Rattle.plan_tables_loading.specs.Cells.{IsNumberedRow}
 use Rattle.plan_tables_queries.specs.Last.{IsLastRow}
 use Rattle.plan_tables_queries.specs.Decoding.{TellsNone}
-use Rattle.plan_tables_queries.specs.declared.faults.LookupFault.{LookupFault}
-use Rattle.plan_tables_queries.specs.declared.faults.LookupFault.TheVariants.{Memory, Malformed, Store}
+use Rattle.plan_tables_lookups.specs.declared.faults.TableFault.{TableFault}
+use Rattle.plan_tables_lookups.specs.declared.faults.TableFault.TheVariants.{Memory, Malformed, Store}
 use Rattle.plan_tables_queries.proofs.SerialLemmas.{completed_formed}
 
 module _ (all : Tables) (c : Content) (is : IsContentOf all c) (sound : IsSound c) (app : List ℕ) (moment : ℕ) where
@@ -75,7 +75,7 @@ module _ (all : Tables) (c : Content) (is : IsContentOf all c) (sound : IsSound 
               is_some other row (sym has ∙ ap c.sets.history one ∙ at);
         }
 
-    pub last_is_told : (fault : LookupFault) → TellsNone IsNumberedRow row_values cells fault → fault ≢ Malformed
+    pub last_is_told : (fault : TableFault) → TellsNone IsNumberedRow row_values cells fault → fault ≢ Malformed
     last_is_told Memory tells e = cc
     last_is_told Malformed tells e =
         let (n, row, at, values) = (is.facts table.History cells).0 last_found.has in

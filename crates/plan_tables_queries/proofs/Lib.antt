@@ -16,4 +16,3 @@ pub mod KnownLemmas
 pub mod ListingLemmas
 pub mod SetLemmas
 pub mod ListsLemmas
-mod ListedToldLemmas

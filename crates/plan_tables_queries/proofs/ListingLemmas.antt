@@ -30,9 +30,12 @@ use Rattle.plan_tables_loading.proofs.OrderLemmas.{apart_distinct, distinct_apar
 use Rattle.plan_tables_loading.proofs.RowidLemmas.{distinct_rowids, rowid_place}
 use Rattle.plan_tables_queries.proofs.RowLemmas.{asked_is, is_asked}
 use Rattle.plan_tables_queries.specs.Listing.{EndsSo, EmitsPart}
+use Rattle.plan_tables_queries.specs.Decoding.{TellsNone}
 use Rattle.plan_tables_queries.specs.ListedRows.{EndsTelling, TellsAll, TellsPart, marked}
-use Rattle.plan_tables_queries.specs.declared.listing_faults.ListedFault.{ListedFault}
-use Rattle.plan_tables_queries.specs.declared.listing_faults.ListedFault.TheVariants.{Memory, Malformed, Sink, Store}
+use Rattle.plan_tables_lookups.specs.declared.faults.Stopped.{Stopped}
+use Rattle.plan_tables_lookups.specs.declared.faults.Stopped.TheVariants.{Fault, Sink}
+use Rattle.plan_tables_lookups.specs.declared.faults.TableFault.{TableFault}
+use Rattle.plan_tables_lookups.specs.declared.faults.TableFault.TheVariants.{Malformed}
 use Rattle.plan_tables_queries.proofs.OrderLemmas.{columns_cmp, pairs_map, rows_rise}
 
 -- how a set stands in a table and in a content, and how a listing shows it
@@ -189,25 +192,23 @@ module _ {X : Type 0} (values_of : X → Values) (row_of : X → Row) (letter_of
           let head : values_of x ≡ values_of fact = cc in
           (map show more, ap (λ y. show y ∷ map show more) (kind.one x fact head))
 
-      ends : (Is : X → Type 0) (fault : ListedFault) (done more : List X) (rest : List Values) → map values_of more ≡ rest
-          → EndsTelling Is values_of row_of letter_of Accepts Refuses old done rest new fault
-          → EndsSo Accepts Refuses old (map show done) (map show more) new fault
-      ends Is Memory done more rest are taken = taken
-      ends Is Malformed done more rest are (taken, _) = taken
-      ends Is (Sink fault) done more rest are (last, fact, later, is, taken, refused) =
+      ends : (Is : X → Type 0) (stopped : Stopped TableFault) (done more : List X) (rest : List Values) → map values_of more ≡ rest
+          → EndsTelling Is values_of row_of letter_of Accepts Refuses old done rest new stopped
+          → EndsSo Accepts Refuses old (map show done) (map show more) new stopped
+      ends Is Sink done more rest are (last, fact, later, is, taken, refused) =
           let (items, shows) = next_is more rest fact later are is in
           (last, show fact, items, shows, taken, refused)
-      ends Is (Store error) done more rest are taken = taken
+      ends Is (Fault fault) done more rest are (taken, _) = taken
 
       rest_told : (done : List X) (rest : List Values) → Answers q asked all (map values_of done ++ rest)
           → (row : Values) → Contains rest row → IsTold row
       rest_told done rest a row there =
           row_told (map values_of done ++ rest) a row (Contains-append_right (map values_of done) rest row there)
 
-      pub hands_part : (Is : X → Type 0) → ∥ HaveRowids (all q.table) ∥₁ → (fault : ListedFault)
-          → TellsPart Is values_of row_of letter_of Accepts Refuses (Answers q asked all) old new fault
-          → EmitsPart Accepts Refuses (ShowRows listed app c) old new fault
-      hands_part Is have fault h =
+      pub hands_part : (Is : X → Type 0) → ∥ HaveRowids (all q.table) ∥₁ → (stopped : Stopped TableFault)
+          → TellsPart Is values_of row_of letter_of Accepts Refuses (Answers q asked all) old new stopped
+          → EmitsPart Accepts Refuses (ShowRows listed app c) old new stopped
+      hands_part Is have stopped h =
           let (more, are) = tells_each h.rest (rest_told h.done h.rest h.whole) in
           let both = map-append values_of h.done more ∙ ap (λ l. map values_of h.done ++ l) are in
           let a = subst (Answers q asked all) (sym both) h.whole in
@@ -215,15 +216,16 @@ module _ {X : Type 0} (values_of : X → Values) (row_of : X → Row) (letter_of
             done = map show h.done;
             rest = map show more;
             whole = subst (ShowRows listed app c) (map-append show h.done more) (is_listing (h.done ++ more) a have);
-            ends = ends Is fault h.done more h.rest are h.ends;
+            ends = ends Is stopped h.done more h.rest are h.ends;
           }
 
-      pub each_tells : (Is : X → Type 0) → ((n : ℕ) (x : X) → set n ≡ Some x → Is x) → (fault : ListedFault)
-          → TellsPart Is values_of row_of letter_of Accepts Refuses (Answers q asked all) old new fault → fault ≢ Malformed
-      each_tells Is formed Memory h e = cc
-      each_tells Is formed Malformed h e =
-          let (taken, (row, later, is, none)) = h.ends in
+      pub each_tells : (Is : X → Type 0) → ((n : ℕ) (x : X) → set n ≡ Some x → Is x) → (stopped : Stopped TableFault)
+          → TellsPart Is values_of row_of letter_of Accepts Refuses (Answers q asked all) old new stopped
+          → stopped ≢ Fault Malformed
+      each_tells Is formed Sink h e = cc
+      each_tells Is formed (Fault fault) h e =
+          let malformed : fault ≡ Malformed = cc in
+          let (row, later, is, untold) = h.ends.1 malformed in
+          let none = subst (TellsNone Is values_of row) malformed untold in
           let t = rest_told h.done h.rest h.whole row (subst (λ l. Contains l row) (sym is) (contains_first row later))
           in none t.fact (formed t.number t.fact t.has) t.is
-      each_tells Is formed (Sink fault) h e = cc
-      each_tells Is formed (Store error) h e = cc

@@ -21,7 +21,8 @@ use Rattle.plan_tables_lookups.specs.declared.looks.Look.{Look}
 use Rattle.plan_tables_content.specs.Content.{IsOfSet}
 use Rattle.plan_tables_queries.specs.Listing.{HoldsContent, Lists, StopsFor}
 use Rattle.plan_tables_queries.specs.ListedRows.{TellsAll, TellsPart}
-use Rattle.plan_tables_queries.specs.declared.listing_faults.ListedFault.{ListedFault}
+use Rattle.plan_tables_lookups.specs.declared.faults.Stopped.{Stopped}
+use Rattle.plan_tables_lookups.specs.declared.faults.TableFault.{TableFault}
 use Rattle.plan_tables_queries.proofs.KnownLemmas.{IsReadSet, facts_known}
 use Rattle.plan_tables_queries.proofs.ListingLemmas.{AsksFor, IsShownSet, each_tells, hands_all, hands_part}
 use Rattle.plan_tables_queries.proofs.StandingLemmas.{standing}
@@ -33,7 +34,7 @@ module _ {X : Type 0} (values_of : X → Values) (row_of : X → Row) (letter_of
     (given : AreAsked look asked) (fact_of : Values → X) (number_of : X → ℕ) (Is : X → Type 0)
     (read : IsReadSet (question look).table values_of fact_of number_of Is set_of)
     {S K : Type 0} (g : Ghosts S) (old new : Held S) (Accepts Refuses : K → Shown → K → Type 0) (before after : K)
-    (result : Result ℕ ListedFault) where
+    (result : Result ℕ (Stopped TableFault)) where
   abbrev all_tables : Tables
   all_tables = tables_of (state g old).now.trees
 

@@ -1,7 +1,7 @@
 -- The rows of a number tell what a set has under it.
 use Rattle.std.proofs.Common.{◌≡◌, ◌≢◌, ◌∙◌, ◌↔◌, ◌&&◌, ℕ, true, List, [], ◌∷◌, Option, Result, Some, None, Ok, Err, refl, sym}
 use Rattle.std.proofs.Common.{ap, subst, arith, Contains, IfOk, IfSome, map}
-use Rattle.std.specs.Prelude.{Vec}
+use Rattle.std.specs.Prelude.{IsErrAnd, Vec}
 use Rattle.std.specs.declared.alloc.Global.{Global}
 use Rattle.sqlite.specs.Held.{Held}
 use Rattle.sqlite.specs.Order.{Row as Values, column}
@@ -28,8 +28,8 @@ use Rattle.plan_tables_content.proofs.Decoded.{one_deletion, one_row}
 use Rattle.plan_tables_loading.specs.Cells.{IsNumberedRow, IsReadJob}
 use Rattle.plan_tables_queries.specs.Finding.{FindsFact}
 use Rattle.plan_tables_queries.specs.Decoding.{TellsFirst, TellsFound, TellsNot}
-use Rattle.plan_tables_queries.specs.declared.faults.LookupFault.{LookupFault}
-use Rattle.plan_tables_queries.specs.declared.faults.LookupFault.TheVariants.{Memory, Malformed, Store}
+use Rattle.plan_tables_lookups.specs.declared.faults.TableFault.{TableFault}
+use Rattle.plan_tables_lookups.specs.declared.faults.TableFault.TheVariants.{Memory, Malformed, Store}
 use Rattle.plan_tables_queries.proofs.FindLemmas.{finds_fact, not_found}
 use Rattle.plan_tables_queries.proofs.RowLemmas.{asked_is, is_asked, is_of_row}
 use Rattle.plan_tables_queries.proofs.SerialLemmas.{completed_formed, deleted_formed}
@@ -77,7 +77,7 @@ module _ {X : Type 0} (look : Look) (values_of : X → Values) (number_of : X �
         let (x, at, values) = row_is (values_of y) there in
         ap Some (kind.one y x small (kind.small c is.representable n x at) values) ∙ sym at
 
-    told_is : IsSound c → (fault : LookupFault) → TellsNot Is values_of rows fault → fault ≢ Malformed
+    told_is : IsSound c → (fault : TableFault) → TellsNot Is values_of rows fault → fault ≢ Malformed
     told_is sound Memory tells e = cc
     told_is sound Malformed (row, there, none) e =
         let (x, at, values) = row_is row there in none x (kind.formed c sound n x at) (sym values)
@@ -87,7 +87,7 @@ module _ {X : Type 0} (look : Look) (values_of : X → Values) (number_of : X �
   module _ {S : Type 0} (g : Ghosts S) (old new : Held S) (n : ℕ) where
     pub finds_number : (asked : Result (Vec Values Global) Error)
         → Finds g old new asked (λ all rows. AreAll look (natural n ∷ []) all rows.items)
-        → (result : Result (Option X) LookupFault) → IfOk result (λ found. IfSome found Small)
+        → (result : Result (Option X) TableFault) → IfOk result (λ found. IfSome found Small)
         → TellsFound Is values_of asked result
         → FindsFact g old new result (λ c found. found ≡ set_of c n)
     finds_number (Ok rows) finds (Ok found) small tells = finds_fact g old new rows _ finds _ (Ok found)
@@ -96,7 +96,7 @@ module _ {X : Type 0} (look : Look) (values_of : X → Values) (number_of : X �
         (λ _ _ _ _. tt) (λ c is sound same. told_is _ c is n rows.items same sound fault tells)
         (is_of_row Is values_of rows.items fault tells)
     finds_number (Err error) finds result small tells =
-        subst (λ r. FindsFact g old new r (λ c found. found ≡ set_of c n)) (sym tells) (not_found g old new error _ finds _)
+        not_found g old new error _ finds _ result (subst (λ r. IsErrAnd r (λ fault. fault ≡ Store error)) (sym tells) refl)
 
 -- ---- the sets
 

@@ -24,8 +24,8 @@ use Rattle.plan_tables_content.proofs.Decoded.{one_row}
 use Rattle.plan_tables_loading.specs.Cells.{IsNumberedRow}
 use Rattle.plan_tables_queries.specs.OfApp.{AreAllOf}
 use Rattle.plan_tables_queries.specs.Decoding.{TellsNot}
-use Rattle.plan_tables_queries.specs.declared.faults.LookupFault.{LookupFault}
-use Rattle.plan_tables_queries.specs.declared.faults.LookupFault.TheVariants.{Memory, Malformed, Store}
+use Rattle.plan_tables_lookups.specs.declared.faults.TableFault.{TableFault}
+use Rattle.plan_tables_lookups.specs.declared.faults.TableFault.TheVariants.{Memory, Malformed, Store}
 use Rattle.plan_tables_queries.proofs.RowLemmas.{asked_is, is_asked}
 use Rattle.plan_tables_queries.proofs.SerialLemmas.{completed_formed}
 use Rattle.plan_tables_queries.proofs.TestLemmas.{alone_of, of_alone, so_texts}
@@ -87,7 +87,7 @@ module _ (all : Tables) (c : Content) (is : IsContentOf all c) (app : List ℕ) 
     pub are_all_of : AreAllOf c.sets.history app found
     are_all_of row = (found_is row, λ both. is_found row both.0 both.1)
 
-  pub row_is_told : IsSound c → (fault : LookupFault) → TellsNot IsNumberedRow row_values rows fault → fault ≢ Malformed
+  pub row_is_told : IsSound c → (fault : TableFault) → TellsNot IsNumberedRow row_values rows fault → fault ≢ Malformed
   row_is_told sound Memory tells e = cc
   row_is_told sound Malformed (v, there, none) e =
       let one = row_is v there in

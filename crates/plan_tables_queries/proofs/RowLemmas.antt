@@ -8,18 +8,18 @@ use Rattle.plan_tables_schema.specs.Rows.{Tables, shown}
 use Rattle.plan_tables_lookups.specs.Question.{Question, asked_for, passes}
 use Rattle.plan_tables_content.specs.Content.{IsOfSet}
 use Rattle.plan_tables_queries.specs.Decoding.{HasMalformed, TellsNone, TellsNot}
-use Rattle.plan_tables_queries.specs.declared.faults.LookupFault.{LookupFault}
-use Rattle.plan_tables_queries.specs.declared.faults.LookupFault.TheVariants.{Memory, Malformed, Store}
+use Rattle.plan_tables_lookups.specs.declared.faults.TableFault.{TableFault}
+use Rattle.plan_tables_lookups.specs.declared.faults.TableFault.TheVariants.{Memory, Malformed, Store}
 use Rattle.plan_tables_queries.proofs.FindLemmas.{IsOfRow}
 
 -- what rows don't tell is not the tables' fault
-pub is_of_row : {X : Type 0} (Is : X → Type 0) (values_of : X → Row) (rows : List Row) (fault : LookupFault)
+pub is_of_row : {X : Type 0} (Is : X → Type 0) (values_of : X → Row) (rows : List Row) (fault : TableFault)
     → TellsNot Is values_of rows fault → IsOfRow fault
 is_of_row Is values_of rows Memory tells = tt
 is_of_row Is values_of rows Malformed tells = tt
 is_of_row Is values_of rows (Store error) tells = tells
 
-pub none_of_row : {X : Type 0} (Is : X → Type 0) (values_of : X → Row) (row : Row) (fault : LookupFault)
+pub none_of_row : {X : Type 0} (Is : X → Type 0) (values_of : X → Row) (row : Row) (fault : TableFault)
     → TellsNone Is values_of row fault → IsOfRow fault
 none_of_row Is values_of row Memory tells = tt
 none_of_row Is values_of row Malformed tells = tt
@@ -27,12 +27,12 @@ none_of_row Is values_of row (Store error) tells = tells
 
 -- one of the rows tells nothing
 pub none_among : {X : Type 0} (Is : X → Type 0) (values_of : X → Row) (rows : List Row) (row : Row) → Contains rows row
-    → (fault : LookupFault) → TellsNone Is values_of row fault → TellsNot Is values_of rows fault
+    → (fault : TableFault) → TellsNone Is values_of row fault → TellsNot Is values_of rows fault
 none_among Is values_of rows row there Memory tells = tt
 none_among Is values_of rows row there Malformed tells = (row, there, tells)
 none_among Is values_of rows row there (Store error) tells = tells
 
-pub untold_of : {X : Type 0} (Is : X → Type 0) (values_of : X → Row) (rows : List Row) (fault : LookupFault)
+pub untold_of : {X : Type 0} (Is : X → Type 0) (values_of : X → Row) (rows : List Row) (fault : TableFault)
     → TellsNot Is values_of rows fault → fault ≡ Malformed → HasMalformed Is values_of rows
 untold_of Is values_of rows Memory tells e = absurd (let k = e in cc)
 untold_of Is values_of rows Malformed tells e = tells

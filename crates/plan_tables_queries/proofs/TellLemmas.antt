@@ -6,12 +6,13 @@ use Rattle.occurrences.specs.declared.row.Row.{Row}
 use Rattle.plan_store.specs.Listings.{Shown, AcceptsAll}
 use Rattle.plan_tables_lookups.specs.Emitting.{EmitsAll, EmitsPart}
 use Rattle.plan_tables_lookups.specs.Emitting.{AcceptsAll as AcceptsRows}
-use Rattle.plan_tables_lookups.specs.declared.emitting.EmitFault.TheVariants as emit
 use Rattle.plan_tables_queries.specs.ListedRows.{EndsTelling, RefusesRow, AcceptsRow, TellsAll, TellsPart, marked}
-use Rattle.plan_tables_queries.specs.declared.listing_faults.ListedFault.{ListedFault}
-use Rattle.plan_tables_queries.specs.declared.listing_faults.ListedFault.TheVariants.{Memory, Malformed, Sink, Store}
+use Rattle.plan_tables_lookups.specs.declared.faults.Stopped.{Stopped}
+use Rattle.plan_tables_lookups.specs.declared.faults.Stopped.TheVariants.{Fault, Sink}
+use Rattle.plan_tables_lookups.specs.declared.faults.TableFault.{TableFault}
+use Rattle.plan_tables_lookups.specs.declared.faults.TableFault.TheVariants.{Store}
 
-module _ {W K X N : Type 0} (some : W) (sink : W → K) (name : W → N) (count : W → ℕ) (why : W → ListedFault)
+module _ {W K X N : Type 0} (some : W) (sink : W → K) (name : W → N) (count : W → ℕ) (why : W → Stopped TableFault)
     (Is : X → Type 0) (values_of : X → Values) (row_of : X → Row) (letter_of : X → ℕ)
     (Accepts Refuses : K → Shown → K → Type 0) where
   abbrev AcceptsHere : W → Values → W → Type 0
@@ -41,20 +42,17 @@ module _ {W K X N : Type 0} (some : W) (sink : W → K) (name : W → N) (count 
         ),
       )
 
-  ends_by : (fault : ListedFault) (old : K) (done : List X) (rest : List Values) (last : K) (row : Values)
+  ends_by : (stopped : Stopped TableFault) (old : K) (done : List X) (rest : List Values) (last : K) (row : Values)
       (later : List Values) (new : K) → rest ≡ row ∷ later
       → AcceptsAll Accepts old (map (marked row_of letter_of) done) last
-      → RefusesRow Is values_of row_of letter_of Refuses last row new fault
-      → EndsTelling Is values_of row_of letter_of Accepts Refuses old done rest new fault
-  ends_by Memory old done rest last row later new is taken same =
-      subst (AcceptsAll Accepts old (map (marked row_of letter_of) done)) (sym same) taken
-  ends_by Malformed old done rest last row later new is taken (same, none) = (
-    subst (AcceptsAll Accepts old (map (marked row_of letter_of) done)) (sym same) taken,
-    (row, later, is, none),
-  )
-  ends_by (Sink fault) old done rest last row later new is taken (fact, tells, refused) =
+      → RefusesRow Is values_of row_of letter_of Refuses last row new stopped
+      → EndsTelling Is values_of row_of letter_of Accepts Refuses old done rest new stopped
+  ends_by Sink old done rest last row later new is taken (fact, tells, refused) =
       (last, fact, later, is ∙ ap (λ r. r ∷ later) (sym tells), taken, refused)
-  ends_by (Store error) old done rest last row later new is taken none = absurd none
+  ends_by (Fault fault) old done rest last row later new is taken (same, none) = (
+    subst (AcceptsAll Accepts old (map (marked row_of letter_of) done)) (sym same) taken,
+    λ _. (row, later, is, none),
+  )
 
   module _ (IsWhole : List Values → Type 0) (old new : W) where
     pub told_all : count old ≡ 0 → EmitsAll AcceptsHere IsWhole old new → (name new ≡ name old)
@@ -70,9 +68,9 @@ module _ {W K X N : Type 0} (some : W) (sink : W → K) (name : W → N) (count 
           },
         )
 
-    pub told_before : (error : Error) → EmitsPart AcceptsHere RefusesHere IsWhole old new (emit.Store error)
+    pub told_before : (error : Error) → EmitsPart AcceptsHere RefusesHere IsWhole old new (Fault error)
         → (name new ≡ name old)
-        × TellsPart Is values_of row_of letter_of Accepts Refuses IsWhole (sink old) (sink new) (Store error)
+        × TellsPart Is values_of row_of letter_of Accepts Refuses IsWhole (sink old) (sink new) (Fault (Store error))
     told_before error h =
         let (named, (facts, are, taken, counted)) = took h.done old new h.ends in (
           named,
@@ -80,11 +78,11 @@ module _ {W K X N : Type 0} (some : W) (sink : W → K) (name : W → N) (count 
             done = facts;
             rest = h.rest;
             whole = subst (λ l. IsWhole (l ++ h.rest)) (sym are) h.whole;
-            ends = taken;
+            ends = (taken, λ e. absurd (let k = e in cc));
           },
         )
 
-    pub told_part : EmitsPart AcceptsHere RefusesHere IsWhole old new emit.Sink → (name new ≡ name old)
+    pub told_part : EmitsPart AcceptsHere RefusesHere IsWhole old new Sink → (name new ≡ name old)
         × TellsPart Is values_of row_of letter_of Accepts Refuses IsWhole (sink old) (sink new) (why new)
     told_part h =
         let (last, row, later, is, rows, (named', refused)) = h.ends in

@@ -6,38 +6,36 @@ use Rattle.sqlite.specs.Store.{Ghosts}
 use Rattle.planner_machine.specs.Content.{Content}
 use Rattle.planner_machine.specs.Sound.{IsSound}
 use Rattle.plan_store.specs.Listings.{EmitsAll, Shown, AcceptsAll}
-use Rattle.plan_tables_schema.specs.Rows.{HaveRowids, MayFail, StaysOrIsUndone, tables_of}
+use Rattle.plan_tables_schema.specs.Rows.{HaveRowids, StaysOrIsUndone, tables_of}
 use Rattle.plan_tables_schema.specs.Schema.{HasTables}
 use Rattle.plan_tables_schema.specs.declared.tables.Table.{Table}
 use Rattle.plan_tables_content.specs.Content.{IsContentOf}
-use Rattle.plan_tables_queries.specs.declared.listing_faults.ListedFault.{ListedFault}
-use Rattle.plan_tables_queries.specs.declared.listing_faults.ListedFault.TheVariants.{Memory, Malformed, Sink, Store}
+use Rattle.plan_tables_lookups.specs.declared.faults.Stopped.{Stopped}
+use Rattle.plan_tables_lookups.specs.declared.faults.Stopped.TheVariants.{Fault, Sink}
+use Rattle.plan_tables_lookups.specs.declared.faults.TableFault.{TableFault}
+use Rattle.plan_tables_lookups.specs.declared.faults.TableFault.TheVariants.{Malformed}
+use Rattle.plan_tables_queries.specs.Finding.{FailsFor}
 
 -- the sink accepted the first items and, if it is to blame, refused the next
 abbrev pub EndsSo : {K : Type 0} → (Accepts Refuses : K → Shown → K → Type 0) → K → List Shown → List Shown → K
-    → ListedFault → Type 0
-EndsSo Accepts Refuses old done rest new Memory = AcceptsAll Accepts old done new
-EndsSo Accepts Refuses old done rest new Malformed = AcceptsAll Accepts old done new
-EndsSo {K} Accepts Refuses old done rest new (Sink _) =
+    → Stopped TableFault → Type 0
+EndsSo {K} Accepts Refuses old done rest new Sink =
     (last : K) × (item : Shown) × (later : List Shown)
     × (rest ≡ item ∷ later) × AcceptsAll Accepts old done last × Refuses last item new
-EndsSo Accepts Refuses old done rest new (Store e) = AcceptsAll Accepts old done new
+EndsSo Accepts Refuses old done rest new (Fault fault) = AcceptsAll Accepts old done new
 
 -- the sink accepted the first items of a listing
 pub record EmitsPart {K : Type 0} (Accepts Refuses : K → Shown → K → Type 0) (IsWhole : List Shown → Type 0) (old new : K)
-    (fault : ListedFault) : Type 0 where
+    (stopped : Stopped TableFault) : Type 0 where
   pub done : List Shown
   pub rest : List Shown
   pub whole : IsWhole (done ++ rest)
-  pub ends : EndsSo Accepts Refuses old done rest new fault
+  pub ends : EndsSo Accepts Refuses old done rest new stopped
 
--- why a listing ended: memory was refused as a row was decoded, a row is malformed, or the sink refused it, and
--- nothing is changed; or the tables could not be read, for one of the four general errors
-abbrev pub StopsFor : State → State → ListedFault → Type 0
-StopsFor old new Memory = IsUnchanged old new
-StopsFor old new Malformed = IsUnchanged old new
-StopsFor old new (Sink _) = IsUnchanged old new
-StopsFor old new (Store e) = MayFail old new e
+-- why a listing ended: the sink refused a row, and nothing is changed; or the rows were not fetched
+abbrev pub StopsFor : State → State → Stopped TableFault → Type 0
+StopsFor old new Sink = IsUnchanged old new
+StopsFor old new (Fault fault) = FailsFor old new fault
 
 -- the tables of the plan have the content, which is sound, and each row is in this table once
 pub record HoldsContent (s : State) (t : Table) (c : Content) : Type 0 where
@@ -56,11 +54,11 @@ OfContent old new t Is = HasCleanDisk new → (c : Content) → ∥ HoldsContent
 -- fails by the sink, for lack of memory, for a malformed row or for one of the four general errors, and at most what
 -- was not committed is undone; a crash finds what it found before.
 pub record Lists {S K : Type 0} (g : Ghosts S) (old new : Held S) (t : Table) (Accepts Refuses : K → Shown → K → Type 0)
-    (before after : K) (IsWhole : Content → List Shown → Type 0) (result : Result ℕ ListedFault) : Type 0 where
+    (before after : K) (IsWhole : Content → List Shown → Type 0) (result : Result ℕ (Stopped TableFault)) : Type 0 where
   pub all : OfContent (state g old) (state g new) t (λ c. IfOk result (EmitsAll Accepts (IsWhole c) before after))
   pub part : OfContent (state g old) (state g new) t
       (λ c. IfErr result (EmitsPart Accepts Refuses (IsWhole c) before after))
-  pub told : OfContent (state g old) (state g new) t (λ c. IfErr result (λ fault. fault ≢ Malformed))
+  pub told : OfContent (state g old) (state g new) t (λ c. IfErr result (λ stopped. stopped ≢ Fault Malformed))
   pub same : HasCleanDisk (state g new) → HasTables (state g old).now.schema
       → IfOk result (λ _. IsUnchanged (state g old) (state g new))
   pub fails : HasCleanDisk (state g new) → HasTables (state g old).now.schema

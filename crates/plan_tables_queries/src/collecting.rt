@@ -6,9 +6,8 @@ ghost use Rattle.plan_tables_schema.specs.Rows.{shown};
 ghost use Rattle.plan_tables_queries.specs.Decoding.{HasMalformed, TellsNone, TellsTables};
 
 use crate::decoding::decode_row;
-use crate::faults::LookupFault;
 use plan_tables_loading::Decode;
-use plan_tables_lookups::{EmitFault, RowRefused, ValuesSink, emit_all};
+use plan_tables_lookups::{RowRefused, Stopped, TableFault, ValuesSink, emit_all};
 use plan_tables_schema::Table;
 use sqlite::{Alter, Connection, Row};
 use std::alloc::Global;
@@ -20,20 +19,18 @@ struct Collector<X> {
     // what the rows encode that it accepted
     xs: Vec<X>,
     // why it refused a row, if it did
-    why: LookupFault,
+    why: TableFault,
 }
 
 // Appends what the row encodes.
-fn put<X: Decode + Drop>(alloc: Global, xs: &mut Vec<X>, row: &Row) -> Result<(), LookupFault>
+fn put<X: Decode + Drop>(alloc: Global, xs: &mut Vec<X>, row: &Row) -> Result<(), TableFault>
     ensures put { OnOk result (map X.values xs.new.items
         ≡ map X.values xs.old.items ++ row.now ∷ []) }
     ensures untold { IfErr result (TellsNone X.has_form X.values row.now) }
 {
     let x = decode_row(alloc, row)?;
-    match xs.push(x) {
-        Ok(()) => Ok(()),
-        Err(_) => Err(LookupFault::Memory),
-    }
+    xs.push(x)?;
+    Ok(())
 }
 
 impl<X: Decode + Drop> ValuesSink for Collector<X> {
@@ -58,7 +55,7 @@ pub(crate) fn decode_all<X: Decode + Drop, S: Alter>(
     alloc: Global,
     conn: &mut Connection<S>,
     table: Table,
-) -> Result<Vec<X>, LookupFault>
+) -> Result<Vec<X>, TableFault>
     ensures { TellsTables S.Store conn.old conn.new result
         (λ all xs. IsPermutation (map (shown table) (all table)) (map X.values xs.items))
         (λ all. HasMalformed X.has_form X.values (map (shown table) (all table))) }
@@ -66,11 +63,11 @@ pub(crate) fn decode_all<X: Decode + Drop, S: Alter>(
     let mut told: Collector<X> = Collector {
         alloc,
         xs: Vec::new(alloc),
-        why: LookupFault::Memory,
+        why: TableFault::Memory,
     };
     match emit_all(conn, table, &mut told) {
         Ok(()) => Ok(told.xs),
-        Err(EmitFault::Store(error)) => Err(LookupFault::Store(error)),
-        Err(EmitFault::Sink) => Err(told.why),
+        Err(Stopped::Fault(error)) => Err(TableFault::Store(error)),
+        Err(Stopped::Sink) => Err(told.why),
     }
 }

@@ -3,24 +3,24 @@
 ghost use Rattle.std.specs.Prelude.{◌≡◌, map, IfErr, IfOk};
 ghost use Rattle.plan_tables_queries.specs.Decoding.{TellsFound, TellsNone, TellsNot, told_by};
 
-use crate::faults::LookupFault;
 use plan_tables_loading::Decode;
+use plan_tables_lookups::TableFault;
 use sqlite::{Error, Row};
 use std::alloc::{AllocError, Global};
 
 // What was decoded of a row, or why nothing was.
-fn told_by<X>(found: Result<Option<X>, AllocError>) -> Result<X, LookupFault>
+fn told_by<X>(found: Result<Option<X>, AllocError>) -> Result<X, TableFault>
     ensures { result ≡ told_by found }
 {
     match found {
         Ok(Some(fact)) => Ok(fact),
-        Ok(None) => Err(LookupFault::Malformed),
-        Err(AllocError) => Err(LookupFault::Memory),
+        Ok(None) => Err(TableFault::Malformed),
+        Err(AllocError) => Err(TableFault::Memory),
     }
 }
 
 /// What the row encodes.
-pub(crate) fn decode_row<X: Decode>(alloc: Global, row: &Row) -> Result<X, LookupFault>
+pub(crate) fn decode_row<X: Decode>(alloc: Global, row: &Row) -> Result<X, TableFault>
     ensures told { IfOk result (λ x. X.values x ≡ row.now) }
     ensures untold { IfErr result (TellsNone X.has_form X.values row.now) }
 {
@@ -31,42 +31,28 @@ pub(crate) fn decode_row<X: Decode>(alloc: Global, row: &Row) -> Result<X, Looku
 pub(crate) fn decode_found<X: Decode>(
     alloc: Global,
     found: Result<Vec<Row>, Error>,
-) -> Result<Option<X>, LookupFault>
+) -> Result<Option<X>, TableFault>
     ensures { TellsFound X.has_form X.values found result }
 {
-    let rows = match found {
-        Ok(rows) => rows,
-        Err(error) => return Err(LookupFault::Store(error)),
-    };
+    let rows = found?;
     let Some(row) = rows.first() else {
         return Ok(None);
     };
-    match decode_row(alloc, row) {
-        Ok(fact) => Ok(Some(fact)),
-        Err(fault) => Err(fault),
-    }
+    Ok(Some(decode_row(alloc, row)?))
 }
 
 /// What the rows encode, one after another.
 pub(crate) fn decode_each<X: Decode + Drop>(
     alloc: Global,
     rows: &[Row],
-) -> Result<Vec<X>, LookupFault>
+) -> Result<Vec<X>, TableFault>
     ensures told { IfOk result (λ xs. map X.values xs.items ≡ rows.now) }
     ensures untold { IfErr result (TellsNot X.has_form X.values rows.now) }
 {
-    let Ok(mut xs) = Vec::with_capacity(alloc, rows.len()) else {
-        return Err(LookupFault::Memory);
-    };
+    let mut xs = Vec::with_capacity(alloc, rows.len())?;
     for row in rows {
-        match decode_row(alloc, row) {
-            Ok(fact) => {
-                if xs.push(fact).is_err() {
-                    return Err(LookupFault::Memory);
-                }
-            }
-            Err(fault) => return Err(fault),
-        }
+        let fact = decode_row(alloc, row)?;
+        xs.push(fact)?;
     }
     Ok(xs)
 }

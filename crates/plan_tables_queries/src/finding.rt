@@ -17,11 +17,10 @@ ghost use Rattle.plan_tables_queries.specs.OfApp.{AreAllOf};
 
 use crate::collecting::decode_all;
 use crate::decoding::{decode_each, decode_found, decode_row};
-use crate::faults::LookupFault;
 use occurrences::{Deletion, Row, Serial};
 use plan_tables_content::answer_is_small;
 use plan_tables_lookups::{
-    Look, ask, deletion_of_serial, history_of_serial, job_of_number, last_of,
+    Look, TableFault, ask, deletion_of_serial, history_of_serial, job_of_number, last_of,
     operator_deletions_from,
 };
 use plan_tables_schema::Table;
@@ -36,18 +35,17 @@ pub fn kept_job<S: Alter>(
     alloc: Global,
     conn: &mut Connection<S>,
     number: u64,
-) -> Result<Option<Job>, LookupFault>
+) -> Result<Option<Job>, TableFault>
     requires { number < 2 ^ 63 }
     ensures { FindsFact S.Store conn.old conn.new result (λ c found. found ≡ c.jobs number) }
 {
     let found = job_of_number(conn, number);
-    match decode_found::<Job>(alloc, found) {
-        Ok(Some(job)) => {
+    match decode_found::<Job>(alloc, found)? {
+        Some(job) => {
             answer_is_small(&job.reply);
             Ok(Some(job))
         }
-        Ok(None) => Ok(None),
-        Err(fault) => Err(fault),
+        None => Ok(None),
     }
 }
 
@@ -56,7 +54,7 @@ pub fn completed_row<S: Alter>(
     alloc: Global,
     conn: &mut Connection<S>,
     serial: Serial,
-) -> Result<Option<Row>, LookupFault>
+) -> Result<Option<Row>, TableFault>
     ensures { FindsFact S.Store conn.old conn.new result (λ c found.
         found ≡ c.sets.history serial) }
 {
@@ -69,7 +67,7 @@ pub fn deleted_row<S: Alter>(
     alloc: Global,
     conn: &mut Connection<S>,
     serial: Serial,
-) -> Result<Option<Deletion>, LookupFault>
+) -> Result<Option<Deletion>, TableFault>
     ensures { FindsFact S.Store conn.old conn.new result (λ c found.
         found ≡ c.sets.deletions serial) }
 {
@@ -83,21 +81,15 @@ pub fn last_completed<S: Alter>(
     conn: &mut Connection<S>,
     app: &App,
     moment: u32,
-) -> Result<Option<Row>, LookupFault>
+) -> Result<Option<Row>, TableFault>
     ensures { FindsFact S.Store conn.old conn.new result (λ c found.
         IsLastRow c.sets.history app.now moment found) }
 {
-    let found = match last_of(conn, app.as_str(), moment) {
-        Ok(found) => found,
-        Err(error) => return Err(LookupFault::Store(error)),
-    };
-    let Some(cells) = found else {
+    let Some(cells) = last_of(conn, app.as_str(), moment)? else {
         return Ok(None);
     };
-    match decode_row::<Row>(alloc, &cells) {
-        Ok(row) => Ok(Some(row)),
-        Err(fault) => Err(fault),
-    }
+    let row = decode_row::<Row>(alloc, &cells)?;
+    Ok(Some(row))
 }
 
 /// The deletions by the operator that arrive at the moment or after it, in some order.
@@ -105,14 +97,11 @@ pub fn deletions_from<S: Alter>(
     alloc: Global,
     conn: &mut Connection<S>,
     moment: u32,
-) -> Result<Vec<Deletion>, LookupFault>
+) -> Result<Vec<Deletion>, TableFault>
     ensures { FindsFact S.Store conn.old conn.new result (λ c found.
         AreGoneFrom (tables_of (state S.Store conn.old).now.trees) moment c found.items) }
 {
-    let rows = match operator_deletions_from(conn, moment) {
-        Ok(rows) => rows,
-        Err(error) => return Err(LookupFault::Store(error)),
-    };
+    let rows = operator_deletions_from(conn, moment)?;
     decode_each::<Deletion>(alloc, &rows)
 }
 
@@ -135,14 +124,11 @@ pub fn completed_of<S: Alter>(
     alloc: Global,
     conn: &mut Connection<S>,
     app: &App,
-) -> Result<Vec<Row>, LookupFault>
+) -> Result<Vec<Row>, TableFault>
     ensures { FindsFact S.Store conn.old conn.new result (λ c found.
         AreAllOf c.sets.history app.now found.items) }
 {
-    let rows = match history_of(conn, app) {
-        Ok(rows) => rows,
-        Err(error) => return Err(LookupFault::Store(error)),
-    };
+    let rows = history_of(conn, app)?;
     decode_each::<Row>(alloc, &rows)
 }
 
@@ -150,7 +136,7 @@ pub fn completed_of<S: Alter>(
 pub fn completed_rows<S: Alter>(
     alloc: Global,
     conn: &mut Connection<S>,
-) -> Result<Vec<Row>, LookupFault>
+) -> Result<Vec<Row>, TableFault>
     ensures { FindsFact S.Store conn.old conn.new result (λ c found.
         ListsAll of_row found.items c.sets.history) }
 {
@@ -161,7 +147,7 @@ pub fn completed_rows<S: Alter>(
 pub fn deleted_rows<S: Alter>(
     alloc: Global,
     conn: &mut Connection<S>,
-) -> Result<Vec<Deletion>, LookupFault>
+) -> Result<Vec<Deletion>, TableFault>
     ensures { FindsFact S.Store conn.old conn.new result (λ c found.
         ListsAll of_deletion found.items c.sets.deletions) }
 {

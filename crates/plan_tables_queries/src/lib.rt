@@ -14,16 +14,12 @@
 
 mod collecting;
 mod decoding;
-mod faults;
 mod finding;
 mod listed_rows;
 mod listing;
-mod listing_faults;
 
-pub use faults::LookupFault;
 pub use finding::{
     completed_of, completed_row, completed_rows, deleted_row, deleted_rows, deletions_from,
     kept_job, last_completed,
 };
 pub use listing::{list_deletions, list_history};
-pub use listing_faults::ListedFault;

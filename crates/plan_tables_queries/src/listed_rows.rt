@@ -13,17 +13,16 @@ ghost use Rattle.plan_tables_lookups.specs.Question.{Answers};
 ghost use Rattle.plan_tables_schema.specs.Rows.{StaysOrIsUndone, tables_of};
 ghost use Rattle.plan_tables_schema.specs.Schema.{HasTables};
 ghost use Rattle.plan_tables_queries.specs.Listing.{StopsFor};
-ghost use Rattle.plan_tables_queries.specs.ListedRows.{RefusesRow, AcceptsRow, TellsAll, TellsNone, TellsPart};
-ghost use Rattle.plan_tables_queries.specs.ListedRows.{told_by};
+ghost use Rattle.plan_tables_queries.specs.ListedRows.{RefusesRow, AcceptsRow, TellsAll, TellsPart};
 
-use crate::listing_faults::ListedFault;
+use crate::decoding::decode_row;
 use occurrences::{Deletion, Row, Status};
-use plan_store::{Item, ItemSink};
+use plan_store::{Item, ItemRefused, ItemSink};
 use plan_tables_loading::Decode;
-use plan_tables_lookups::{EmitFault, Look, RowRefused, ValuesSink, emit};
+use plan_tables_lookups::{Look, RowRefused, Stopped, TableFault, ValuesSink, emit};
 use sqlite::types::ValueRef;
 use sqlite::{Alter, Connection, Row as Cells};
-use std::alloc::{AllocError, Global};
+use std::alloc::Global;
 use std::marker::PhantomData;
 
 /// What a row encodes, and the letter with which a listing shows it.
@@ -67,25 +66,6 @@ impl Marked for Deletion {
     }
 }
 
-// What was found in a row, or why nothing was.
-fn told_by<T>(found: Result<Option<T>, AllocError>) -> Result<T, ListedFault>
-    ensures { result ≡ told_by found }
-{
-    match found {
-        Ok(Some(fact)) => Ok(fact),
-        Ok(None) => Err(ListedFault::Malformed),
-        Err(AllocError) => Err(ListedFault::Memory),
-    }
-}
-
-// What the row tells.
-fn decode_row<T: Decode>(alloc: Global, row: &Cells) -> Result<T, ListedFault>
-    ensures told { IfOk result (λ x. T.values x ≡ row.now) }
-    ensures untold { IfErr result (TellsNone T.has_form T.values row.now) }
-{
-    told_by(T::decode(alloc, row))
-}
-
 // Decodes each row that it accepts, and passes on what that encodes.
 #[derive(Drop)]
 struct Decoder<'a, T, K> {
@@ -94,7 +74,7 @@ struct Decoder<'a, T, K> {
     // how many it accepted
     count: usize,
     // why it refused a row, if it did
-    why: ListedFault,
+    why: Stopped<TableFault>,
     told: PhantomData<T>,
 }
 
@@ -110,14 +90,14 @@ impl<T: Marked + Drop, K: ItemSink> ValuesSink for Decoder<'_, T, K> {
     fn accept(&mut self, cells: &Cells) -> Result<(), RowRefused> {
         let fact = match decode_row::<T>(self.alloc, cells) {
             Ok(fact) => fact,
-            Err(why) => {
-                self.why = why;
+            Err(fault) => {
+                self.why = Stopped::Fault(fault);
                 return Err(RowRefused);
             }
         };
         // no memory has so many rows
         let Some(count) = self.count.checked_add(1) else {
-            self.why = ListedFault::Memory;
+            self.why = Stopped::Fault(TableFault::Memory);
             return Err(RowRefused);
         };
         match self
@@ -128,8 +108,8 @@ impl<T: Marked + Drop, K: ItemSink> ValuesSink for Decoder<'_, T, K> {
                 self.count = count;
                 Ok(())
             }
-            Err(fault) => {
-                self.why = ListedFault::Sink(fault);
+            Err(ItemRefused) => {
+                self.why = Stopped::Sink;
                 Err(RowRefused)
             }
         }
@@ -144,7 +124,7 @@ pub(crate) fn decode_rows<T: Marked + Drop, S: Alter, K: ItemSink>(
     look: Look,
     asked: &[ValueRef<'_>],
     sink: &mut K,
-) -> Result<usize, ListedFault>
+) -> Result<usize, Stopped<TableFault>>
     ensures all { HasCleanDisk (state S.Store conn.new)
         → HasTables (state S.Store conn.old).now.schema
         → IfOk result (TellsAll T.values T.row_of T.letter_of K.accepts
@@ -172,12 +152,12 @@ pub(crate) fn decode_rows<T: Marked + Drop, S: Alter, K: ItemSink>(
         alloc,
         sink,
         count: 0,
-        why: ListedFault::Memory,
+        why: Stopped::Fault(TableFault::Memory),
         told: PhantomData,
     };
     match emit(conn, look, asked, &mut decoder) {
         Ok(()) => Ok(decoder.count),
-        Err(EmitFault::Store(error)) => Err(ListedFault::Store(error)),
-        Err(EmitFault::Sink) => Err(decoder.why),
+        Err(Stopped::Fault(error)) => Err(Stopped::Fault(TableFault::Store(error))),
+        Err(Stopped::Sink) => Err(decoder.why),
     }
 }

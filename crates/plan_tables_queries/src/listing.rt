@@ -10,10 +10,9 @@ ghost use Rattle.plan_tables_schema.specs.declared.tables.Table.TheVariants as t
 ghost use Rattle.plan_tables_queries.specs.Listing.{Lists};
 
 use crate::listed_rows::decode_rows;
-use crate::listing_faults::ListedFault;
 use occurrences::{Deletion, Row};
 use plan_store::ItemSink;
-use plan_tables_lookups::Look;
+use plan_tables_lookups::{Look, Stopped, TableFault};
 use sqlite::types::ValueRef;
 use sqlite::{Alter, Connection};
 use std::alloc::Global;
@@ -32,7 +31,7 @@ pub fn list_deletions<S: Alter, K: ItemSink>(
     conn: &mut Connection<S>,
     app: Option<&App>,
     sink: &mut K,
-) -> Result<usize, ListedFault>
+) -> Result<usize, Stopped<TableFault>>
     ensures { Lists S.Store conn.old conn.new table.Deletion K.accepts K.refuses sink.old sink.new
         (IsListing what.Deletions (option_copied app.entry)) result }
 {
@@ -51,7 +50,7 @@ pub fn list_history<S: Alter, K: ItemSink>(
     conn: &mut Connection<S>,
     app: Option<&App>,
     sink: &mut K,
-) -> Result<usize, ListedFault>
+) -> Result<usize, Stopped<TableFault>>
     ensures { Lists S.Store conn.old conn.new table.History K.accepts K.refuses sink.old sink.new
         (IsListing what.History (option_copied app.entry)) result }
 {

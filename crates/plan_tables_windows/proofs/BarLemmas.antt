@@ -1,8 +1,8 @@
 -- Deletions from a moment on are brought into lists.
 use Rattle.std.proofs.Common.{◌≡◌, ◌++◌, ◌≤◌, ◌∷◌, ℕ, Bool, Contains, Err, List, Ok, Result, Some, [], false, inl, inr}
-use Rattle.std.proofs.Common.{refl, subst, sym, true}
+use Rattle.std.proofs.Common.{◌∙◌, refl, subst, sym, true}
 use Rattle.std.proofs.Math.Logic.{∥∥₁_elim}
-use Rattle.std.specs.Prelude.{◌&&◌, not, nat_lt}
+use Rattle.std.specs.Prelude.{◌&&◌, IsErrAnd, not, nat_lt}
 use Rattle.std.proofs.lemmas.Bool.{ltb-false}
 use Rattle.std.proofs.lemmas.List.Elements.{Contains-append_left, Contains-push, Contains-push_cases}
 use Rattle.sqlite.specs.Held.{Held, state}
@@ -18,7 +18,7 @@ use Rattle.plan_tables_schema.specs.Rows.{Tables, tables_of}
 use Rattle.plan_tables_schema.proofs.ResultLemmas.{still_ok}
 use Rattle.plan_tables_queries.specs.Deletions.{AreGoneFrom}
 use Rattle.plan_tables_queries.specs.Finding.{FindsFact}
-use Rattle.plan_tables_queries.specs.declared.faults.LookupFault.{LookupFault}
+use Rattle.plan_tables_lookups.specs.declared.faults.TableFault.{TableFault}
 use Rattle.plan_tables_windows.specs.Loading.{Loads, LoadsEach, HasGoneFrom, Stand}
 use Rattle.plan_tables_windows.specs.Fetching.{Fetches, Grows, rest_in}
 use Rattle.plan_tables_windows.proofs.LoadLemmas.{brings_either, brings_ok, deleted_grows, numbered_deletion}
@@ -37,7 +37,7 @@ brings_none c = record {
 }
 
 module _ (deletions : List Deletion) (deletion : Deletion) (was lists now : Content)
-    (result : Result (Unit {0}) LookupFault)
+    (result : Result (Unit {0}) TableFault)
     (one : LoadsEach deletions was lists (Ok tt)) (two : Loads (with_deleted deletion lists) lists now result) where
   abbrev after : Content
   after = with_deleted deletion lists
@@ -76,14 +76,16 @@ module _ (deletions : List Deletion) (deletion : Deletion) (was lists now : Cont
   }
 
 -- where memory was refused, it was refused for more
-pub brings_part : (some every : List Deletion) (was now : Content) (fault : LookupFault)
+pub brings_part : (some every : List Deletion) (was now : Content) (fault : TableFault)
     → ((deletion : Deletion) → Contains some deletion → Contains every deletion)
-    → LoadsEach some was now (Err fault) → LoadsEach every was now (Err fault)
-brings_part some every was now fault within is = record {
+    → LoadsEach some was now (Err fault) → (result : Result (Unit {0}) TableFault) → IsErrAnd result (λ f. f ≡ fault)
+    → LoadsEach every was now result
+brings_part some every was now fault within is (Ok x) passed = absurd passed
+brings_part some every was now fault within is (Err f) passed = record {
   grows = is.grows;
   part = λ rest stand. is.part rest (λ deletion there. stand deletion (within deletion there));
   ready = λ rest stand part. tt;
-  memory = is.memory;
+  memory = passed ∙ is.memory;
 }
 
 -- ---- those that were found
@@ -103,7 +105,7 @@ bars_so moment d is =
     (by_operator d.reason by, ltb-false d.row.key.ia moment late)
 
 module _ {S X : Type 0} (g : Ghosts S) (old new : Held S) (moment : ℕ) (found : X) (list_of : X → List Deletion)
-    (was now : Content) (result : Result (Unit {0}) LookupFault)
+    (was now : Content) (result : Result (Unit {0}) TableFault)
     (each : LoadsEach (list_of found) was now result) where
   abbrev tables : Tables
   tables = tables_of (state g old).now.trees

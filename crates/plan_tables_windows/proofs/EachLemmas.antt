@@ -1,15 +1,16 @@
 -- One thing after another is found out.
 use Rattle.std.proofs.Common.{◌≡◌, ◌++◌, ◌∷◌, ℕ, Contains, Err, List, None, Ok, Option, Some, [], arith, inl, inr, refl}
-use Rattle.std.proofs.Common.{subst, sym, take}
+use Rattle.std.proofs.Common.{Result, subst, sym, take}
 use Rattle.std.proofs.lemmas.List.{take-append-drop}
 use Rattle.std.proofs.lemmas.List.Elements.{Contains-append_left, Contains-push_cases}
 use Rattle.std.proofs.Common.{drop}
+use Rattle.std.specs.Prelude.{IsErrAnd}
 use Rattle.sqlite.specs.Held.{Held}
 use Rattle.sqlite.specs.Store.{Ghosts}
 use Rattle.planner_machine.specs.Content.{Content}
 use Rattle.plan_store.specs.Parts.{IsPartOf, Knows, KnowsDeletion, Rest}
 use Rattle.plan_tables_windows.specs.Unknown.{HasMore}
-use Rattle.plan_tables_queries.specs.declared.faults.LookupFault.{LookupFault}
+use Rattle.plan_tables_lookups.specs.declared.faults.TableFault.{TableFault}
 use Rattle.plan_tables_windows.specs.Fetching.{Fetches}
 use Rattle.plan_tables_windows.proofs.FetchLemmas.{gathers_none, gathers_stopped, gathers_then}
 
@@ -40,9 +41,10 @@ module _ {S X : Type 0} (g : Ghosts S) (Is : X → Rest → Content → Type 0) 
           | inr same ↦ subst (λ z. Is z rest now) same here
         ])
 
-    pub each_stops : (fault : LookupFault) (R : Rest → Content → Type 0)
+    pub each_stops : (fault : TableFault) (R : Rest → Content → Type 0)
         → Fetches {T = Unit {0}} g mid new lists now (Err fault) (Is x)
-        → Fetches {T = Unit {0}} g old new was now (Err fault) R
+        → (result : Result (Unit {0}) TableFault) → IsErrAnd result (λ f. f ≡ fault)
+        → Fetches g old new was now result R
     each_stops fault R two = gathers_stopped g old new was now fault (λ _ _. Unit {0}) R
         (gathers_then g old mid new was lists now (Err fault) (Each Is xs) (Is x) (λ _ _. Unit {0}) one two
         (λ _ _ _ _ _. tt))

@@ -1,7 +1,7 @@
 -- Calls that bring more into lists, one after another.
 use Rattle.std.proofs.Common.{◌≡◌, ◌≢◌, ◌≤◌, ◌∙◌, Err, Ok, Result, ap, arith, inl, inr, refl, subst, sym}
 use Rattle.std.proofs.Math.Logic.{∥∥₁_elim, ∥∥₁_map}
-use Rattle.std.specs.Prelude.{IfErr, OnOk}
+use Rattle.std.specs.Prelude.{IfErr, IsErrAnd, OnOk}
 use Rattle.sqlite.specs.Effect.{Database}
 use Rattle.sqlite.specs.Held.{Held, state}
 use Rattle.sqlite.specs.State.{HasCleanDisk, IsRolledBack, IsUnchanged, State, Survives}
@@ -18,9 +18,9 @@ use Rattle.plan_tables_schema.specs.Schema.{HasTables}
 use Rattle.plan_tables_schema.proofs.ResultLemmas.{if_err, still_ok}
 use Rattle.plan_tables_schema.proofs.StopLemmas.{vain_since}
 use Rattle.plan_tables_content.specs.Content.{IsContentOf}
-use Rattle.plan_tables_queries.specs.Finding.{FindsFact, StopsFor}
-use Rattle.plan_tables_queries.specs.declared.faults.LookupFault.{LookupFault}
-use Rattle.plan_tables_queries.specs.declared.faults.LookupFault.TheVariants.{Memory, Malformed, Store}
+use Rattle.plan_tables_queries.specs.Finding.{FindsFact, FailsFor}
+use Rattle.plan_tables_lookups.specs.declared.faults.TableFault.{TableFault}
+use Rattle.plan_tables_lookups.specs.declared.faults.TableFault.TheVariants.{Memory, Malformed, Store}
 use Rattle.plan_tables_windows.specs.Fetching.{AreOfTables, Fetches, Grows, rest_in, told_rest, told_with}
 use Rattle.plan_tables_windows.proofs.SetLemmas.{no_prop, rest_set}
 
@@ -82,8 +82,8 @@ module _ (a b c : State) (same : IsUnchanged a b) where
   leaves_then (inl still) = inl (unchanged_then still)
   leaves_then (inr undone) = inr (undone_then undone)
 
-  stops_then : a.faults ≤ b.faults → b.step_limit ≡ a.step_limit → (fault : LookupFault) → StopsFor b c fault
-      → StopsFor a c fault
+  stops_then : a.faults ≤ b.faults → b.step_limit ≡ a.step_limit → (fault : TableFault) → FailsFor b c fault
+      → FailsFor a c fault
   stops_then more limit Memory h = unchanged_then h
   stops_then more limit Malformed h = unchanged_then h
   stops_then more limit (Store e) h = vain_since a b c e more (λ _. same.0.is_open) limit h
@@ -106,12 +106,12 @@ sound_still : (a : State) (was now : Content) → Grows was now → ∥ AreOfTab
 sound_still a was now grows of = ∥∥₁_map of (λ (o : AreOfTables a was).
     subst IsSound (sym (grows.more (rest_in a)).same) o.sound)
 
-holds_ok : {T : Type 0} (result : Result T LookupFault) (P : Type 0) → P → OnOk result P
+holds_ok : {T : Type 0} (result : Result T TableFault) (P : Type 0) → P → OnOk result P
 holds_ok (Ok x) P is = is
 holds_ok (Err fault) P is = tt
 
 module _ {S T : Type 0} (g : Ghosts S) (old mid new : Held S) (was lists now : Content)
-    (result : Result T LookupFault) (P Q R : Rest → Content → Type 0)
+    (result : Result T TableFault) (P Q R : Rest → Content → Type 0)
     (one : Fetches {T = Unit {0}} g old mid was lists (Ok tt) P) (two : Fetches g mid new lists now result Q) where
   calm : HasCleanDisk (state g new) → HasCleanDisk (state g mid)
   calm clean = omega (arith, two.survives.clean, clean)
@@ -165,7 +165,7 @@ module _ {S T : Type 0} (g : Ghosts S) (old mid new : Held S) (was lists now : C
   }
 
 -- what was found out is as much
-pub gathers_so : {S T : Type 0} (g : Ghosts S) (old new : Held S) (was now : Content) (result : Result T LookupFault)
+pub gathers_so : {S T : Type 0} (g : Ghosts S) (old new : Held S) (was now : Content) (result : Result T TableFault)
     (P R : Rest → Content → Type 0)
     → ((rest : Rest) → IsPartOf rest now → ∥ IsSound (with_rest rest now) ∥₁ → HasMore rest was now → P rest now
     → R rest now)
@@ -184,11 +184,19 @@ gathers_so g old new was now result P R law is = record {
   survives = is.survives;
 }
 
+-- a fault that is passed on
+passes_on : {S T : Type 0} (g : Ghosts S) (old new : Held S) (was now : Content) (fault : TableFault)
+    (P : Rest → Content → Type 0) (result : Result T TableFault) → IsErrAnd result (λ f. f ≡ fault)
+    → Fetches {T = T} g old new was now (Err fault) P → Fetches g old new was now result P
+passes_on g old new was now fault P (Ok x) passed is = absurd passed
+passes_on {T} g old new was now fault P (Err f) passed is =
+    subst (λ f. Fetches {T = T} g old new was now (Err f) P) (sym passed) is
+
 -- where it failed nothing was sought
-pub gathers_stopped : {S T U : Type 0} (g : Ghosts S) (old new : Held S) (was now : Content) (fault : LookupFault)
+pub gathers_stopped : {S T U : Type 0} (g : Ghosts S) (old new : Held S) (was now : Content) (fault : TableFault)
     (P R : Rest → Content → Type 0) → Fetches {T = T} g old new was now (Err fault) P
-    → Fetches {T = U} g old new was now (Err fault) R
-gathers_stopped g old new was now fault P R is = record {
+    → (result : Result U TableFault) → IsErrAnd result (λ f. f ≡ fault) → Fetches g old new was now result R
+gathers_stopped g old new was now fault P R is result passed = passes_on g old new was now fault R result passed (record {
   ready = λ clean of. tt;
   grows = is.grows;
   part = is.part;
@@ -199,7 +207,7 @@ gathers_stopped g old new was now fault P R is = record {
   leaves = is.leaves;
   mode = is.mode;
   survives = is.survives;
-}
+})
 
 -- ---- where the tables are not asked
 
@@ -216,10 +224,10 @@ unasked s P = record {
 part_of : (a : State) (was : Content) → ∥ AreOfTables a was ∥₁ → IsPartOf (rest_in a) was
 part_of a was of = part_is (rest_in a) was (∥∥₁_map of (λ (o : AreOfTables a was). o.part))
 
-forgets : (fault : LookupFault) → fault ≡ Memory → fault ≢ Malformed
+forgets : (fault : TableFault) → fault ≡ Memory → fault ≢ Malformed
 forgets fault is untold = let no : Memory ≡ Malformed = sym is ∙ untold in let h : ⊥ = cc no in h
 
-pub gathers_none : {S T : Type 0} (g : Ghosts S) (held : Held S) (c : Content) (result : Result T LookupFault)
+pub gathers_none : {S T : Type 0} (g : Ghosts S) (held : Held S) (c : Content) (result : Result T TableFault)
     (P : Rest → Content → Type 0) → IfErr result (λ fault. fault ≡ Memory)
     → ((rest : Rest) → IsPartOf rest c → ∥ IsSound (with_rest rest c) ∥₁ → OnOk result (P rest c))
     → Fetches g held held c c result P
@@ -232,7 +240,7 @@ gathers_none g held c result P memory ready = record {
   seen = λ clean has. holds_ok result _ refl;
   same = λ clean has opens. holds_ok result _ (unchanged (state g held) opens);
   fails = λ clean has opens. if_err result _ _ (λ fault (is : fault ≡ Memory).
-      subst (StopsFor (state g held) (state g held)) (sym is) (unchanged (state g held) opens)) memory;
+      subst (FailsFor (state g held) (state g held)) (sym is) (unchanged (state g held) opens)) memory;
   leaves = λ clean has opens. inl (unchanged (state g held) opens);
   mode = λ h. h;
   survives = unasked (state g held) _;
@@ -240,8 +248,9 @@ gathers_none g held c result P memory ready = record {
 
 -- where memory was refused before
 pub gathers_refused : {S T : Type 0} (g : Ghosts S) (held : Held S) (c : Content) (P : Rest → Content → Type 0)
-    → Fetches {T = T} g held held c c (Err Memory) P
-gathers_refused g held c P = gathers_none g held c (Err Memory) P refl (λ _ _ _. tt)
+    (result : Result T TableFault) → IsErrAnd result (λ f. f ≡ Memory) → Fetches g held held c c result P
+gathers_refused g held c P (Ok x) passed = absurd passed
+gathers_refused g held c P (Err f) passed = gathers_none g held c (Err f) P passed (λ _ _ _. tt)
 
 -- ---- where they are asked once
 
@@ -249,7 +258,7 @@ module _ {S X : Type 0} (g : Ghosts S) (old new : Held S) (IsFound : Content →
     (P : Rest → Content → Type 0) where
   -- and what was found is brought into the lists
   module _ (found : X) (finds : FindsFact g old new (Ok found) IsFound) (now : Content) (grows : Grows was now)
-      (result : Result (Unit {0}) LookupFault) (memory : IfErr result (λ fault. fault ≡ Memory)) where
+      (result : Result (Unit {0}) TableFault) (memory : IfErr result (λ fault. fault ≡ Memory)) where
     is_found : HasCleanDisk (state g new) → ∥ AreOfTables (state g old) was ∥₁
         → ∥ IsFound (with_rest (rest_in (state g old)) was) found ∥₁
     is_found clean of = ∥∥₁_map of (λ (o : AreOfTables (state g old) was).
@@ -267,15 +276,15 @@ module _ {S X : Type 0} (g : Ghosts S) (old new : Held S) (IsFound : Content →
       seen = λ clean has. holds_ok result _ (finds.same clean has).0.now_is;
       same = λ clean has opens. holds_ok result _ (finds.same clean has);
       fails = λ clean has opens. if_err result _ _ (λ fault (is : fault ≡ Memory).
-          subst (StopsFor (state g old) (state g new)) (sym is) (finds.same clean has)) memory;
+          subst (FailsFor (state g old) (state g new)) (sym is) (finds.same clean has)) memory;
       leaves = λ clean has opens. finds.leaves clean has;
       mode = finds.mode;
       survives = finds.survives;
     }
 
-  pub gathers_failed : {T : Type 0} (fault : LookupFault) → FindsFact g old new (Err fault) IsFound
-      → Fetches {T = T} g old new was was (Err fault) P
-  gathers_failed fault finds = record {
+  pub gathers_failed : {T : Type 0} (fault : TableFault) → FindsFact g old new (Err fault) IsFound
+      → (result : Result T TableFault) → IsErrAnd result (λ f. f ≡ fault) → Fetches g old new was was result P
+  gathers_failed fault finds result passed = passes_on g old new was was fault P result passed (record {
     ready = λ clean of. tt;
     grows = as_before was;
     part = λ clean of. part_of (state g old) was of;
@@ -287,4 +296,4 @@ module _ {S X : Type 0} (g : Ghosts S) (old new : Held S) (IsFound : Content →
     leaves = λ clean has opens. finds.leaves clean has;
     mode = finds.mode;
     survives = finds.survives;
-  }
+  })

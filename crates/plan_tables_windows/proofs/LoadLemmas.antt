@@ -23,7 +23,7 @@ use Rattle.plan_tables_content.specs.Decoded.{deletion_of, row_of}
 use Rattle.plan_tables_content.specs.DecodedSets.{told_deletions, told_history}
 use Rattle.plan_tables_queries.specs.Finding.{FindsFact}
 use Rattle.plan_tables_queries.specs.Last.{IsLastRow}
-use Rattle.plan_tables_queries.specs.declared.faults.LookupFault.{LookupFault}
+use Rattle.plan_tables_lookups.specs.declared.faults.TableFault.{TableFault}
 use Rattle.plan_tables_windows.specs.Loading.{Loads, IsAnswered}
 use Rattle.plan_tables_windows.specs.Fetching.{Fetches, Grows, rest_in}
 use Rattle.plan_tables_windows.proofs.FetchLemmas.{as_before, gathers_found}
@@ -31,12 +31,12 @@ use Rattle.plan_tables_windows.proofs.SetLemmas.{deletion_found_set, name_set, n
 
 -- ---- what holds of both holds
 
-pub brings_either : (after was now : Content) (result : Result (Unit {0}) LookupFault) (P : Content → Type 0)
+pub brings_either : (after was now : Content) (result : Result (Unit {0}) TableFault) (P : Content → Type 0)
     → Loads after was now result → P after → P was → P now
 brings_either after was now (Ok x) P brings made stood = subst P (sym brings.ok) made
 brings_either after was now (Err fault) P brings made stood = subst P (sym brings.err) stood
 
-pub brings_ok : (after was now : Content) (result : Result (Unit {0}) LookupFault) (P : Content → Type 0)
+pub brings_ok : (after was now : Content) (result : Result (Unit {0}) TableFault) (P : Content → Type 0)
     → Loads after was now result → P after → OnOk result (P now)
 brings_ok after was now (Ok x) P brings made = subst P (sym brings.ok) made
 brings_ok after was now (Err fault) P brings made = tt
@@ -81,7 +81,7 @@ module _ {S : Type 0} (g : Ghosts S) (old new : Held S) (serial : ℕ) (was : Co
 
   module _ (row : Row)
       (finds : FindsFact {T = Option Row} g old new (Ok (Some row)) (λ c found. found ≡ c.sets.history serial))
-      (now : Content) (result : Result (Unit {0}) LookupFault)
+      (now : Content) (result : Result (Unit {0}) TableFault)
       (brings : Loads (with_completed row was) was now result) where
     pub gathers_row : Fetches g old new was now result (λ rest c. Knows rest c serial)
     gathers_row = gathers_found g old new _ was (λ rest c. Knows rest c serial) (Some row) finds now
@@ -113,7 +113,7 @@ module _ {S : Type 0} (g : Ghosts S) (old new : Held S) (serial : ℕ) (was : Co
   module _ (deletion : Deletion)
       (finds : FindsFact {T = Option Deletion} g old new (Ok (Some deletion))
       (λ c found. found ≡ c.sets.deletions serial))
-      (now : Content) (result : Result (Unit {0}) LookupFault)
+      (now : Content) (result : Result (Unit {0}) TableFault)
       (brings : Loads (with_deleted deletion was) was now result) where
     pub gathers_deletion : Fetches g old new was now result (λ rest c. KnowsDeletion rest c serial)
     gathers_deletion = gathers_found g old new _ was (λ rest c. KnowsDeletion rest c serial) (Some deletion) finds now
@@ -185,7 +185,7 @@ module _ {S : Type 0} (g : Ghosts S) (old new : Held S) (ask : LastQuery) (was :
   module _ (row : Row)
       (finds : FindsFact {T = Option Row} g old new (Ok (Some row)) (λ c found.
       IsLastRow c.sets.history ask.app ask.moment found))
-      (now : Content) (result : Result (Unit {0}) LookupFault)
+      (now : Content) (result : Result (Unit {0}) TableFault)
       (brings : Loads (with_completed row was) was now result) where
     pub gathers_last : Fetches g old new was now result (IsAnswered ask)
     gathers_last = gathers_found g old new _ was (IsAnswered ask) (Some row) finds now

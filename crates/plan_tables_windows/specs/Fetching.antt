@@ -11,9 +11,9 @@ use Rattle.plan_tables_schema.specs.Rows.{StaysOrIsUndone, Tables, tables_of}
 use Rattle.plan_tables_schema.specs.Schema.{HasTables}
 use Rattle.plan_tables_content.specs.Content.{IsContentOf}
 use Rattle.plan_tables_content.specs.DecodedSets.{told_deletions, told_history, told_jobs}
-use Rattle.plan_tables_queries.specs.Finding.{StopsFor}
-use Rattle.plan_tables_queries.specs.declared.faults.LookupFault.{LookupFault}
-use Rattle.plan_tables_queries.specs.declared.faults.LookupFault.TheVariants.{Malformed}
+use Rattle.plan_tables_queries.specs.Finding.{FailsFor}
+use Rattle.plan_tables_lookups.specs.declared.faults.TableFault.{TableFault}
+use Rattle.plan_tables_lookups.specs.declared.faults.TableFault.TheVariants.{Malformed}
 
 -- what the tables encode apart from the lists
 abbrev pub told_rest : Tables → Rest
@@ -45,7 +45,7 @@ pub record Grows (was now : Content) : Type 0 where
 -- plan an Ok sees what was seen. If the connection was open, an Ok changes nothing, it fails for lack of memory, for a
 -- malformed row or for one of the four general errors, and at most what was not committed is undone. A crash finds
 -- what it found before.
-pub record Fetches {S T : Type 0} (g : Ghosts S) (old new : Held S) (was now : Content) (result : Result T LookupFault)
+pub record Fetches {S T : Type 0} (g : Ghosts S) (old new : Held S) (was now : Content) (result : Result T TableFault)
     (IsReady : Rest → Content → Type 0) : Type 0 where
   pub ready : HasCleanDisk (state g new) → ∥ AreOfTables (state g old) was ∥₁
       → OnOk result (IsReady (rest_in (state g old)) now)
@@ -58,7 +58,7 @@ pub record Fetches {S T : Type 0} (g : Ghosts S) (old new : Held S) (was now : C
   pub same : HasCleanDisk (state g new) → HasTables (state g old).now.schema → IsTrue (state g old).is_open
       → OnOk result (IsUnchanged (state g old) (state g new))
   pub fails : HasCleanDisk (state g new) → HasTables (state g old).now.schema → IsTrue (state g old).is_open
-      → IfErr result (StopsFor (state g old) (state g new))
+      → IfErr result (FailsFor (state g old) (state g new))
   pub leaves : HasCleanDisk (state g new) → HasTables (state g old).now.schema → IsTrue (state g old).is_open
       → StaysOrIsUndone (state g old) (state g new)
   pub mode : old.in_transaction ≡ false → new.in_transaction ≡ false

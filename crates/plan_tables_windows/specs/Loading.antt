@@ -8,12 +8,12 @@ use Rattle.plan_store.specs.HistoryReads.{HasLast}
 use Rattle.plan_store.specs.Parts.{IsPartOf, Knows, KnowsDeletion, Rest}
 use Rattle.plan_store.specs.Views.{bars_from}
 use Rattle.plan_store.specs.declared.queries.LastQuery.{LastQuery}
-use Rattle.plan_tables_queries.specs.declared.faults.LookupFault.{LookupFault}
-use Rattle.plan_tables_queries.specs.declared.faults.LookupFault.TheVariants.{Memory}
+use Rattle.plan_tables_lookups.specs.declared.faults.TableFault.{TableFault}
+use Rattle.plan_tables_lookups.specs.declared.faults.TableFault.TheVariants.{Memory}
 use Rattle.plan_tables_windows.specs.Fetching.{Grows}
 
 -- the lists are these afterwards, or memory was refused, and they are as they were
-pub record Loads (after was now : Content) (result : Result (Unit {0}) LookupFault) : Type 0 where
+pub record Loads (after was now : Content) (result : Result (Unit {0}) TableFault) : Type 0 where
   pub ok : OnOk result (now ≡ after)
   pub err : OnErr result (now ≡ was)
   pub memory : IfErr result (λ fault. fault ≡ Memory)
@@ -25,7 +25,7 @@ Stand rest deletions = (deletion : Deletion) → Contains deletions deletion
 
 -- they still have what they had; if the rest, of which the lists had a part, has the deletions, they still have a part
 -- of it, and once all are loaded they have each; else memory was refused
-pub record LoadsEach (deletions : List Deletion) (was now : Content) (result : Result (Unit {0}) LookupFault) : Type 0
+pub record LoadsEach (deletions : List Deletion) (was now : Content) (result : Result (Unit {0}) TableFault) : Type 0
   where
     pub grows : Grows was now
     pub part : (rest : Rest) → Stand rest deletions → IsPartOf rest was → IsPartOf rest now

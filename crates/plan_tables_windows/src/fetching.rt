@@ -9,7 +9,8 @@ ghost use Rattle.plan_tables_windows.specs.Fetching.{Fetches};
 use crate::loading::{load_deletion, load_deletions, load_row};
 use occurrences::Serial;
 use plan_store::Content;
-use plan_tables_queries::{LookupFault, completed_row, deleted_row, deletions_from};
+use plan_tables_lookups::TableFault;
+use plan_tables_queries::{completed_row, deleted_row, deletions_from};
 use sqlite::{Alter, Connection};
 use std::alloc::Global;
 use work_calendars::Moment;
@@ -20,14 +21,13 @@ fn find_completed<S: Alter>(
     conn: &mut Connection<S>,
     lists: &mut Content,
     serial: Serial,
-) -> Result<(), LookupFault>
+) -> Result<(), TableFault>
     ensures { Fetches S.Store conn.old conn.new (content_of lists.old) (content_of lists.new)
         result (λ rest now. Knows rest now serial) }
 {
-    match completed_row(alloc, conn, serial) {
-        Ok(Some(row)) => load_row(alloc, lists, row),
-        Ok(None) => Ok(()),
-        Err(fault) => Err(fault),
+    match completed_row(alloc, conn, serial)? {
+        Some(row) => load_row(alloc, lists, row),
+        None => Ok(()),
     }
 }
 
@@ -37,14 +37,13 @@ fn find_deleted<S: Alter>(
     conn: &mut Connection<S>,
     lists: &mut Content,
     serial: Serial,
-) -> Result<(), LookupFault>
+) -> Result<(), TableFault>
     ensures { Fetches S.Store conn.old conn.new (content_of lists.old) (content_of lists.new)
         result (λ rest now. KnowsDeletion rest now serial) }
 {
-    match deleted_row(alloc, conn, serial) {
-        Ok(Some(deletion)) => load_deletion(alloc, lists, deletion),
-        Ok(None) => Ok(()),
-        Err(fault) => Err(fault),
+    match deleted_row(alloc, conn, serial)? {
+        Some(deletion) => load_deletion(alloc, lists, deletion),
+        None => Ok(()),
     }
 }
 
@@ -54,15 +53,12 @@ pub(crate) fn find_each_completed<S: Alter>(
     conn: &mut Connection<S>,
     lists: &mut Content,
     serials: &[Serial],
-) -> Result<(), LookupFault>
+) -> Result<(), TableFault>
     ensures { Fetches S.Store conn.old conn.new (content_of lists.old) (content_of lists.new)
         result (λ rest now. (serial : ℕ) → Contains serials.now serial → Knows rest now serial) }
 {
     for serial in serials {
-        match find_completed(alloc, conn, lists, *serial) {
-            Ok(()) => {}
-            Err(fault) => return Err(fault),
-        }
+        find_completed(alloc, conn, lists, *serial)?;
     }
     Ok(())
 }
@@ -73,16 +69,13 @@ pub(crate) fn find_each_deleted<S: Alter>(
     conn: &mut Connection<S>,
     lists: &mut Content,
     serials: &[Serial],
-) -> Result<(), LookupFault>
+) -> Result<(), TableFault>
     ensures { Fetches S.Store conn.old conn.new (content_of lists.old) (content_of lists.new)
         result (λ rest now. (serial : ℕ) → Contains serials.now serial
         → KnowsDeletion rest now serial) }
 {
     for serial in serials {
-        match find_deleted(alloc, conn, lists, *serial) {
-            Ok(()) => {}
-            Err(fault) => return Err(fault),
-        }
+        find_deleted(alloc, conn, lists, *serial)?;
     }
     Ok(())
 }
@@ -93,12 +86,10 @@ pub(crate) fn find_barring<S: Alter>(
     conn: &mut Connection<S>,
     lists: &mut Content,
     moment: Moment,
-) -> Result<(), LookupFault>
+) -> Result<(), TableFault>
     ensures { Fetches S.Store conn.old conn.new (content_of lists.old) (content_of lists.new)
         result (HasGoneFrom moment) }
 {
-    match deletions_from(alloc, conn, moment.number()) {
-        Ok(deletions) => load_deletions(alloc, lists, &deletions),
-        Err(fault) => Err(fault),
-    }
+    let deletions = deletions_from(alloc, conn, moment.number())?;
+    load_deletions(alloc, lists, &deletions)
 }

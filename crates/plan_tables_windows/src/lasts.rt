@@ -10,9 +10,10 @@ ghost use Rattle.plan_tables_windows.specs.Fetching.{Fetches};
 
 use crate::loading::load_row;
 use plan_store::{Content, LastQuery, Need, last_queries_of};
-use plan_tables_queries::{LookupFault, last_completed};
+use plan_tables_lookups::TableFault;
+use plan_tables_queries::last_completed;
 use sqlite::{Alter, Connection};
-use std::alloc::{AllocError, Global};
+use std::alloc::Global;
 
 // Loads the last row of the application at the moment or before it.
 fn find_last<S: Alter>(
@@ -20,14 +21,13 @@ fn find_last<S: Alter>(
     conn: &mut Connection<S>,
     lists: &mut Content,
     query: &LastQuery,
-) -> Result<(), LookupFault>
+) -> Result<(), TableFault>
     ensures { Fetches S.Store conn.old conn.new (content_of lists.old) (content_of lists.new)
         result (IsAnswered query.now) }
 {
-    match last_completed(alloc, conn, &query.app, query.moment.number()) {
-        Ok(Some(row)) => load_row(alloc, lists, row),
-        Ok(None) => Ok(()),
-        Err(fault) => Err(fault),
+    match last_completed(alloc, conn, &query.app, query.moment.number())? {
+        Some(row) => load_row(alloc, lists, row),
+        None => Ok(()),
     }
 }
 
@@ -37,16 +37,13 @@ fn find_lasts<S: Alter>(
     conn: &mut Connection<S>,
     lists: &mut Content,
     queries: &[LastQuery],
-) -> Result<(), LookupFault>
+) -> Result<(), TableFault>
     ensures { Fetches S.Store conn.old conn.new (content_of lists.old) (content_of lists.new)
         result (λ rest now. (query : LastQueryValue) → Contains queries.now query
         → IsAnswered query rest now) }
 {
     for query in queries {
-        match find_last(alloc, conn, lists, query) {
-            Ok(()) => {}
-            Err(fault) => return Err(fault),
-        }
+        find_last(alloc, conn, lists, query)?;
     }
     Ok(())
 }
@@ -57,12 +54,10 @@ pub(crate) fn find_asked<S: Alter>(
     conn: &mut Connection<S>,
     lists: &mut Content,
     need: &Need,
-) -> Result<(), LookupFault>
+) -> Result<(), TableFault>
     ensures { Fetches S.Store conn.old conn.new (content_of lists.old) (content_of lists.new)
         result (λ rest now. HasLastsOf (Asks need.now now) rest now) }
 {
-    match last_queries_of(alloc, lists, need) {
-        Ok(queries) => find_lasts(alloc, conn, lists, &queries),
-        Err(AllocError) => Err(LookupFault::Memory),
-    }
+    let queries = last_queries_of(alloc, lists, need)?;
+    find_lasts(alloc, conn, lists, &queries)
 }

@@ -6,18 +6,16 @@ ghost use Rattle.plan_tables_windows.specs.Loading.{Loads, LoadsEach};
 
 use occurrences::{Deletion, Row};
 use plan_store::Content;
-use plan_tables_queries::LookupFault;
-use std::alloc::{AllocError, Global};
+use plan_tables_lookups::TableFault;
+use std::alloc::Global;
 
 /// Loads a row of history into the lists, unless they have one of its serial.
-pub(crate) fn load_row(alloc: Global, lists: &mut Content, row: Row) -> Result<(), LookupFault>
+pub(crate) fn load_row(alloc: Global, lists: &mut Content, row: Row) -> Result<(), TableFault>
     ensures { Loads (with_completed row (content_of lists.old)) (content_of lists.old)
         (content_of lists.new) result }
 {
-    match lists.load_completed(alloc, row) {
-        Ok(()) => Ok(()),
-        Err(AllocError) => Err(LookupFault::Memory),
-    }
+    lists.load_completed(alloc, row)?;
+    Ok(())
 }
 
 /// Loads a deletion into the lists, unless they have one of its serial.
@@ -25,14 +23,12 @@ pub(crate) fn load_deletion(
     alloc: Global,
     lists: &mut Content,
     deletion: Deletion,
-) -> Result<(), LookupFault>
+) -> Result<(), TableFault>
     ensures { Loads (with_deleted deletion (content_of lists.old)) (content_of lists.old)
         (content_of lists.new) result }
 {
-    match lists.load_deleted(alloc, deletion) {
-        Ok(()) => Ok(()),
-        Err(AllocError) => Err(LookupFault::Memory),
-    }
+    lists.load_deleted(alloc, deletion)?;
+    Ok(())
 }
 
 /// Loads deletions into the lists, each unless they have one of its serial.
@@ -40,14 +36,11 @@ pub(crate) fn load_deletions(
     alloc: Global,
     lists: &mut Content,
     deletions: &[Deletion],
-) -> Result<(), LookupFault>
+) -> Result<(), TableFault>
     ensures { LoadsEach deletions.now (content_of lists.old) (content_of lists.new) result }
 {
     for deletion in deletions {
-        match load_deletion(alloc, lists, *deletion) {
-            Ok(()) => {}
-            Err(fault) => return Err(fault),
-        }
+        load_deletion(alloc, lists, *deletion)?;
     }
     Ok(())
 }

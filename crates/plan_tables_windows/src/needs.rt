@@ -14,10 +14,10 @@ use crate::lasts::find_asked;
 use crate::{Unknown, unknown_for_key, unknown_of};
 use occurrences::Key;
 use plan_store::{Change, Content, Need};
-use plan_tables_queries::LookupFault;
+use plan_tables_lookups::TableFault;
 use planner_machine::Bounds;
 use sqlite::{Alter, Connection};
-use std::alloc::{AllocError, Global};
+use std::alloc::Global;
 use work_calendars::Moment;
 
 /// Loads into the lists what a window for the need reads of history. They have the deletions that it shows.
@@ -26,7 +26,7 @@ pub fn load_for_need<S: Alter>(
     conn: &mut Connection<S>,
     lists: &mut Content,
     need: &Need,
-) -> Result<(), LookupFault>
+) -> Result<(), TableFault>
     ensures { Fetches S.Store conn.old conn.new (content_of lists.old) (content_of lists.new)
         result (λ rest now. IsReadyFor rest need.now now) }
 {
@@ -44,14 +44,12 @@ fn load_for_key<S: Alter>(
     conn: &mut Connection<S>,
     lists: &mut Content,
     key: &Key,
-) -> Result<(), LookupFault>
+) -> Result<(), TableFault>
     ensures { Fetches S.Store conn.old conn.new (content_of lists.old) (content_of lists.new)
         result (λ rest now. IsReadyFor rest (Need.Key key.now) now) }
 {
-    match find_asked(alloc, conn, lists, &Need::Key(*key)) {
-        Ok(()) => find_live(alloc, conn, lists, key),
-        Err(fault) => Err(fault),
-    }
+    find_asked(alloc, conn, lists, &Need::Key(*key))?;
+    find_live(alloc, conn, lists, key)
 }
 
 // Loads the predecessors of the key's live row, if that is in history and the lists have the last rows that a
@@ -61,15 +59,13 @@ fn find_live<S: Alter>(
     conn: &mut Connection<S>,
     lists: &mut Content,
     key: &Key,
-) -> Result<(), LookupFault>
+) -> Result<(), TableFault>
     ensures { Fetches S.Store conn.old conn.new (content_of lists.old) (content_of lists.new)
         result (λ rest now. HasLastsOf (ReadsKey (content_of lists.old) key.now) rest
         (content_of lists.old) → KnowsLive rest key.now now) }
 {
-    match unknown_for_key(alloc, lists, key) {
-        Ok(serials) => find_each_completed(alloc, conn, lists, &serials),
-        Err(AllocError) => Err(LookupFault::Memory),
-    }
+    let serials = unknown_for_key(alloc, lists, key)?;
+    find_each_completed(alloc, conn, lists, &serials)
 }
 
 // What a statement on the long-term plan reads.
@@ -77,7 +73,7 @@ fn load_for_plan<S: Alter>(
     alloc: Global,
     conn: &mut Connection<S>,
     lists: &mut Content,
-) -> Result<(), LookupFault>
+) -> Result<(), TableFault>
     ensures { Fetches S.Store conn.old conn.new (content_of lists.old) (content_of lists.new)
         result (λ rest now. IsReadyFor rest Need.LongTerm now) }
 {
@@ -90,14 +86,12 @@ pub fn load_for_change<S: Alter>(
     conn: &mut Connection<S>,
     lists: &mut Content,
     change: &Change,
-) -> Result<(), LookupFault>
+) -> Result<(), TableFault>
     ensures { Fetches S.Store conn.old conn.new (content_of lists.old) (content_of lists.new)
         result (λ rest now. KnowsNamed rest change.now now) }
 {
-    match unknown_of(alloc, lists, change) {
-        Ok(unknown) => find_named(alloc, conn, lists, change, &unknown),
-        Err(AllocError) => Err(LookupFault::Memory),
-    }
+    let unknown = unknown_of(alloc, lists, change)?;
+    find_named(alloc, conn, lists, change, &unknown)
 }
 
 // Loads the deletions that the change needs for its plan end, and what is under the serials.
@@ -107,15 +101,13 @@ fn find_named<S: Alter>(
     lists: &mut Content,
     change: &Change,
     unknown: &Unknown,
-) -> Result<(), LookupFault>
+) -> Result<(), TableFault>
     ensures { Fetches S.Store conn.old conn.new (content_of lists.old) (content_of lists.new)
         result (λ rest now. HasBars change.now.bounds rest now
         × KnowsAll unknown.now.history.items unknown.now.deletions.items rest now) }
 {
-    match find_bars(alloc, conn, lists, change.bounds) {
-        Ok(()) => find_unknown(alloc, conn, lists, unknown),
-        Err(fault) => Err(fault),
-    }
+    find_bars(alloc, conn, lists, change.bounds)?;
+    find_unknown(alloc, conn, lists, unknown)
 }
 
 // Loads the deletions that keep a planning statement from making a key once these bounds are set.
@@ -124,7 +116,7 @@ fn find_bars<S: Alter>(
     conn: &mut Connection<S>,
     lists: &mut Content,
     bounds: Option<Bounds>,
-) -> Result<(), LookupFault>
+) -> Result<(), TableFault>
     ensures { Fetches S.Store conn.old conn.new (content_of lists.old) (content_of lists.new)
         result (HasBars bounds) }
 {
@@ -140,7 +132,7 @@ fn find_bars_from<S: Alter>(
     conn: &mut Connection<S>,
     lists: &mut Content,
     bounds: Bounds,
-) -> Result<(), LookupFault>
+) -> Result<(), TableFault>
     ensures { Fetches S.Store conn.old conn.new (content_of lists.old) (content_of lists.new)
         result (HasBars (Some bounds)) }
 {
@@ -166,12 +158,10 @@ fn find_unknown<S: Alter>(
     conn: &mut Connection<S>,
     lists: &mut Content,
     unknown: &Unknown,
-) -> Result<(), LookupFault>
+) -> Result<(), TableFault>
     ensures { Fetches S.Store conn.old conn.new (content_of lists.old) (content_of lists.new)
         result (KnowsAll unknown.now.history.items unknown.now.deletions.items) }
 {
-    match find_each_completed(alloc, conn, lists, &unknown.history) {
-        Ok(()) => find_each_deleted(alloc, conn, lists, &unknown.deletions),
-        Err(fault) => Err(fault),
-    }
+    find_each_completed(alloc, conn, lists, &unknown.history)?;
+    find_each_deleted(alloc, conn, lists, &unknown.deletions)
 }

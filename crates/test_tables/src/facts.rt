@@ -3,9 +3,10 @@ ghost use Rattle.std.specs.Prelude.{⊤};
 
 use occurrences::{Origin, Reply, Serial};
 use plan_store::{Item, ItemRefused, ItemSink};
+use plan_tables_lookups::{Stopped, TableFault};
 use plan_tables_queries::{
-    ListedFault, LookupFault, completed_row, completed_rows, deleted_row, deleted_rows,
-    deletions_from, kept_job, last_completed, list_deletions, list_history,
+    completed_row, completed_rows, deleted_row, deleted_rows, deletions_from, kept_job,
+    last_completed, list_deletions, list_history,
 };
 use plan_tables_schema::make_tables;
 use sqlite::{Connection, Error, MemStore};
@@ -116,7 +117,7 @@ fn listing_may_end(rt: HostRuntime) -> Result<(), Fail> {
     let mut sink = marks_below(51);
     let is_refused = matches!(
         list_history(rt.alloc(), &mut conn, None, &mut sink),
-        Err(ListedFault::Sink(ItemRefused))
+        Err(Stopped::Sink)
     );
     assert!(rt; is_refused);
     assert_eq!(rt; sink.serials, 51);
@@ -124,7 +125,7 @@ fn listing_may_end(rt: HostRuntime) -> Result<(), Fail> {
     let mut sink = marks_below(u64::MAX);
     let is_untold = matches!(
         list_history(rt.alloc(), &mut conn, None, &mut sink),
-        Err(ListedFault::Malformed)
+        Err(Stopped::Fault(TableFault::Malformed))
     );
     assert!(rt; is_untold);
     assert_eq!(rt; sink.serials, 512);
@@ -138,7 +139,7 @@ fn kept_jobs_are_found(rt: HostRuntime) -> Result<(), Fail> {
     assert!(rt;
         matches!(
             kept_job(rt.alloc(), &mut conn, 7),
-            Err(LookupFault::Malformed)
+            Err(TableFault::Malformed)
         )
     );
     let is_found = match kept_job(rt.alloc(), &mut conn, 1)? {
@@ -180,7 +181,7 @@ fn rows_of_a_serial_are_found(rt: HostRuntime) -> Result<(), Fail> {
     conn.execute_batch("UPDATE history_row SET app = 'a' WHERE serial = 3")?;
     let serial = Serial::new(3).expect(&rt, "a serial");
     let found = completed_row(rt.alloc(), &mut conn, serial);
-    assert!(rt; matches!(found, Err(LookupFault::Malformed)));
+    assert!(rt; matches!(found, Err(TableFault::Malformed)));
     Ok(())
 }
 
@@ -228,6 +229,6 @@ fn all_rows_are_found(rt: HostRuntime) -> Result<(), Fail> {
     assert_eq!(rt; serials, 40);
     conn.execute_batch("UPDATE history_row SET app = 'a' WHERE serial = 5")?;
     let found = completed_rows(rt.alloc(), &mut conn);
-    assert!(rt; matches!(found, Err(LookupFault::Malformed)));
+    assert!(rt; matches!(found, Err(TableFault::Malformed)));
     Ok(())
 }

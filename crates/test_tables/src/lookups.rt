@@ -2,7 +2,7 @@
 ghost use Rattle.std.specs.Prelude.{⊤};
 
 use plan_tables_lookups::{
-    EmitFault, Look, RowRefused, ValuesSink, ask, deletion_of_serial, emit, emit_all,
+    Look, RowRefused, Stopped, ValuesSink, ask, deletion_of_serial, emit, emit_all,
     history_of_serial, job_of_number, last_of, operator_deletions_from,
 };
 use plan_tables_schema::{Table, make_tables};
@@ -211,7 +211,7 @@ fn sink_may_refuse(rt: HostRuntime) -> Result<(), Fail> {
     };
     let is_refused = matches!(
         &emit(&mut conn, Look::HistoryListed, &[], &mut sink),
-        Err(EmitFault::Sink)
+        Err(Stopped::Sink)
     );
     assert!(rt; is_refused);
     assert_eq!(rt; sink.number, 51);

@@ -1,124 +1,71 @@
-use Rattle.std.proofs.Common.{◌≡◌, arith, subst}
+use Rattle.std.proofs.Common.{◌≡◌}
 use Rattle.std.specs.Prelude.{option_copied}
 use Rattle.sqlite.specs.Held.{state}
-use Rattle.sqlite.specs.State.{HasCleanDisk}
-use Rattle.sqlite.proofs.StateLemmas.{survives_then}
 use Rattle.plan_store.specs.Contents.{content_of}
 use Rattle.plan_store.specs.Listings.{IsListing}
-use Rattle.plan_tables_queries.specs.Listing.{StopsFor}
-use Rattle.plan_tables_queries.specs.declared.listing_faults.ListedFault.{ListedFault}
 use Rattle.plan_tables.specs.Kept.{kept_in}
 use Rattle.plan_tables.specs.Listing.{what_of}
 use Rattle.plan_tables.specs.declared.keeping.Unmade.TheVariants.{Device}
-use Rattle.plan_tables.proofs.CauseLemmas.{failed_so}
-use Rattle.plan_tables.proofs.ListLemmas.{handed_refused, handed_short, handed_unread, handed_untold, open_so}
-use Rattle.plan_tables.proofs.LookLemmas.{put_by, put_then}
+use Rattle.plan_tables.proofs.ListLemmas.{handed_refused, handed_unread, listing_fails, open_so}
+use Rattle.plan_tables.proofs.LookLemmas.{put_by}
+use Rattle.plan_tables.proofs.WhyLemmas.{EndsFor, ends_for}
+use Rattle.plan_tables.proofs.listing.list_kept.Given.{Over}
 use Rattle.plan_tables.proofs.listing.list_kept.Goals as goal
-
-pub returns-in-Err-Memory-clause-part : goal.returns-in-Err-Memory-clause-part
-returns-in-Err-Memory-clause-part g c clean is numbered =
-    handed_short g.K.ItemSink.accepts g.K.ItemSink.refuses (IsListing (what_of c.args.asked) (option_copied c.args.app)
-    (kept_in (state g.S.Store c.args.conn.now) (content_of c.args.lists.now))) c.args.sink.now c.list_facts.new.sink
-    c.in-Err-Memory.field-0 c.in-Err-Memory.field-0-is (c.in-Err-Memory.ensures.part clean is numbered)
-
-pub returns-in-Err-Malformed-clause-part : goal.returns-in-Err-Malformed-clause-part
-returns-in-Err-Malformed-clause-part g c clean is numbered =
-    handed_untold g.K.ItemSink.accepts g.K.ItemSink.refuses (IsListing (what_of c.args.asked) (option_copied c.args.app)
-    (kept_in (state g.S.Store c.args.conn.now) (content_of c.args.lists.now))) c.args.sink.now c.list_facts.new.sink
-    c.in-Err-Malformed.field-0 c.in-Err-Malformed.field-0-is (c.in-Err-Malformed.ensures.part clean is numbered)
-
-pub returns-in-Err-Sink-clause-part : goal.returns-in-Err-Sink-clause-part
-returns-in-Err-Sink-clause-part g c clean is numbered =
-    handed_refused g.K.ItemSink.accepts g.K.ItemSink.refuses (IsListing (what_of c.args.asked) (option_copied c.args.app)
-    (kept_in (state g.S.Store c.args.conn.now) (content_of c.args.lists.now))) c.args.sink.now c.list_facts.new.sink
-    c.in-Err-Sink.field-0 c.in-Err-Sink.fault c.in-Err-Sink.field-0-is (c.in-Err-Sink.ensures.part clean is numbered)
-
-pub returns-in-Err-Store-clause-part : goal.returns-in-Err-Store-clause-part
-returns-in-Err-Store-clause-part g c clean is numbered =
-    let old = state g.S.Store c.args.conn.now in
-    let mid = state g.S.Store c.list_facts.new.conn in
-    let new = state g.S.Store c.cause_of.new.conn in
-    let calm : HasCleanDisk mid = omega (arith, c.cause_of.ensures.survives.clean, clean) in
-    handed_unread g.K.ItemSink.accepts g.K.ItemSink.refuses (IsListing (what_of c.args.asked) (option_copied c.args.app)
-    (kept_in old (content_of c.args.lists.now))) c.args.sink.now c.list_facts.new.sink
-    c.in-Err-Store.field-0 c.in-Err-Store.error c.cause_of.result c.in-Err-Store.field-0-is
-    (c.in-Err-Store.ensures.part calm is numbered)
 
 pub returns-in-Ok-clause-same : goal.returns-in-Ok-clause-same
 returns-in-Ok-clause-same g c clean kept = c.in-Ok.ensures.same clean kept.stored.plan.schema
 
 pub returns-in-Ok-clause-stays : goal.returns-in-Ok-clause-stays
 returns-in-Ok-clause-stays g c clean kept =
-    let old = state g.S.Store c.args.conn.now in
-    let mid = state g.S.Store c.list_facts.new.conn in
-    put_by old mid (c.list_facts.ensures.leaves clean kept.stored.plan.schema)
+    put_by (state g.S.Store c.args.conn.now) (state g.S.Store c.list_facts.new.conn)
+    (c.list_facts.ensures.leaves clean kept.stored.plan.schema)
+
+pub returns-in-Err-Sink-clause-part : goal.returns-in-Err-Sink-clause-part
+returns-in-Err-Sink-clause-part g c clean is numbered =
+    handed_refused g.K.ItemSink.accepts g.K.ItemSink.refuses (IsListing (what_of c.args.asked) (option_copied c.args.app)
+    (kept_in (state g.S.Store c.args.conn.now) (content_of c.args.lists.now))) c.args.sink.now c.list_facts.new.sink
+    c.in-Err-Sink.field-0 c.in-Err-Sink.field-0-is (c.in-Err-Sink.ensures.part clean is numbered)
 
 pub returns-in-Err-Sink-clause-stays : goal.returns-in-Err-Sink-clause-stays
 returns-in-Err-Sink-clause-stays g c clean kept =
-    let old = state g.S.Store c.args.conn.now in
-    let mid = state g.S.Store c.list_facts.new.conn in
-    put_by old mid (c.list_facts.ensures.leaves clean kept.stored.plan.schema)
-
-pub returns-in-Err-Memory-clause-stays : goal.returns-in-Err-Memory-clause-stays
-returns-in-Err-Memory-clause-stays g c clean kept =
-    let old = state g.S.Store c.args.conn.now in
-    let mid = state g.S.Store c.list_facts.new.conn in
-    put_by old mid (c.list_facts.ensures.leaves clean kept.stored.plan.schema)
-
-pub returns-in-Err-Malformed-clause-stays : goal.returns-in-Err-Malformed-clause-stays
-returns-in-Err-Malformed-clause-stays g c clean kept =
-    let old = state g.S.Store c.args.conn.now in
-    let mid = state g.S.Store c.list_facts.new.conn in
-    put_by old mid (c.list_facts.ensures.leaves clean kept.stored.plan.schema)
-
-pub returns-in-Err-Store-clause-stays : goal.returns-in-Err-Store-clause-stays
-returns-in-Err-Store-clause-stays g c clean kept =
-    let old = state g.S.Store c.args.conn.now in
-    let mid = state g.S.Store c.list_facts.new.conn in
-    let new = state g.S.Store c.cause_of.new.conn in
-    let calm : HasCleanDisk mid = omega (arith, c.cause_of.ensures.survives.clean, clean) in
-    put_then old mid new (put_by old mid (c.list_facts.ensures.leaves calm kept.stored.plan.schema))
-    (c.cause_of.ensures.stays clean)
+    put_by (state g.S.Store c.args.conn.now) (state g.S.Store c.list_facts.new.conn)
+    (c.list_facts.ensures.leaves clean kept.stored.plan.schema)
 
 pub returns-in-Err-Sink-clause-opens : goal.returns-in-Err-Sink-clause-opens
 returns-in-Err-Sink-clause-opens g c clean kept _ =
-    let old = state g.S.Store c.args.conn.now in
-    let mid = state g.S.Store c.list_facts.new.conn in
-    let stops = subst (λ (f : ListedFault). StopsFor old mid f) c.in-Err-Sink.field-0-is
-    (c.in-Err-Sink.ensures.fails clean kept.stored.plan.schema) in
+    let stops = rw c.in-Err-Sink.field-0-is at (c.in-Err-Sink.ensures.fails clean kept.stored.plan.schema) in
     stops.0.is_open
 
-pub returns-in-Err-Memory-clause-opens : goal.returns-in-Err-Memory-clause-opens
-returns-in-Err-Memory-clause-opens g c clean kept _ =
-    let old = state g.S.Store c.args.conn.now in
-    let mid = state g.S.Store c.list_facts.new.conn in
-    let stops = subst (λ (f : ListedFault). StopsFor old mid f) c.in-Err-Memory.field-0-is
-    (c.in-Err-Memory.ensures.fails clean kept.stored.plan.schema) in
-    stops.0.is_open
+-- ---- what is left where the tables failed
 
-pub returns-in-Err-Store-clause-opens : goal.returns-in-Err-Store-clause-opens
-returns-in-Err-Store-clause-opens g c clean kept =
-    open_so c.cause_of.result (state g.S.Store c.cause_of.new.conn).is_open
-    (λ is. (c.cause_of.ensures.open clean is).0.is_open)
+left : (g : Over) (c : goal.After-why_of g) → EndsFor g.S.Store c.args.conn.now c.list_facts.new.conn c.why_of.new.conn
+    (content_of c.args.lists.now) c.why_of.result
+left g c = ends_for g.S.Store c.args.conn.now c.list_facts.new.conn (content_of c.args.lists.now) c.why_of.new.conn
+    c.in-Err-Fault.fault c.why_of.result (listing_fails g.S.Store c.args.conn.now c.list_facts.new.conn
+    (content_of c.args.lists.now) g.K.ItemSink.accepts g.K.ItemSink.refuses c.args.sink.now c.list_facts.new.sink
+    c.args.asked (option_copied c.args.app) c.in-Err-Fault.field-0 c.in-Err-Fault.fault c.in-Err-Fault.field-0-is
+    c.in-Err-Fault.ensures) c.why_of.ensures
 
-pub returns-in-Err-Malformed-clause-failed : goal.returns-in-Err-Malformed-clause-failed
-returns-in-Err-Malformed-clause-failed g c clean kept _ =
-    absurd (c.in-Err-Malformed.ensures.told clean ∣ kept ∣₁ c.in-Err-Malformed.field-0-is)
+pub returns-in-Err-Fault-clause-part : goal.returns-in-Err-Fault-clause-part
+returns-in-Err-Fault-clause-part g c clean is numbered =
+    handed_unread g.K.ItemSink.accepts g.K.ItemSink.refuses (IsListing (what_of c.args.asked) (option_copied c.args.app)
+    (kept_in (state g.S.Store c.args.conn.now) (content_of c.args.lists.now))) c.args.sink.now c.list_facts.new.sink
+    c.in-Err-Fault.field-0 c.in-Err-Fault.fault c.why_of.result c.in-Err-Fault.field-0-is
+    (c.in-Err-Fault.ensures.part ((left g c).calm clean) is numbered)
 
-pub returns-in-Err-Store-clause-failed : goal.returns-in-Err-Store-clause-failed
-returns-in-Err-Store-clause-failed g c clean kept device =
-    let old = state g.S.Store c.args.conn.now in
-    let mid = state g.S.Store c.list_facts.new.conn in
-    let calm : HasCleanDisk mid = omega (arith, c.cause_of.ensures.survives.clean, clean) in
-    let is : c.cause_of.result ≡ Device = cc device in
-    failed_so old mid (state g.S.Store c.cause_of.new.conn) c.in-Err-Store.error _ _ kept.stored.is_open calm
-    c.list_facts.ensures.survives c.cause_of.ensures.survives
-    (subst (λ (f : ListedFault). StopsFor old mid f) c.in-Err-Store.field-0-is
-    (c.in-Err-Store.ensures.fails calm kept.stored.plan.schema))
-    (c.cause_of.ensures.shut clean is)
+pub returns-in-Err-Fault-clause-stays : goal.returns-in-Err-Fault-clause-stays
+returns-in-Err-Fault-clause-stays g c = (left g c).stays
 
-pub returns-in-Err-Store-clause-survives : goal.returns-in-Err-Store-clause-survives
-returns-in-Err-Store-clause-survives g c =
-    survives_then (state g.S.Store c.args.conn.now) (state g.S.Store c.list_facts.new.conn)
-    (state g.S.Store c.cause_of.new.conn) _ (λ _. ⊥) _ (λ _ _ none. none) (λ _ _ none. absurd none)
-    c.list_facts.ensures.survives c.cause_of.ensures.survives
+pub returns-in-Err-Fault-clause-opens : goal.returns-in-Err-Fault-clause-opens
+returns-in-Err-Fault-clause-opens g c clean kept =
+    open_so c.why_of.result (state g.S.Store c.why_of.new.conn).is_open ((left g c).memory clean kept)
+
+pub returns-in-Err-Fault-clause-failed : goal.returns-in-Err-Fault-clause-failed
+returns-in-Err-Fault-clause-failed g c clean kept device =
+    let is : c.why_of.result ≡ Device = cc device in (left g c).failed clean kept is
+
+pub returns-in-Err-Fault-clause-mode : goal.returns-in-Err-Fault-clause-mode
+returns-in-Err-Fault-clause-mode g c = (left g c).mode
+
+pub returns-in-Err-Fault-clause-survives : goal.returns-in-Err-Fault-clause-survives
+returns-in-Err-Fault-clause-survives g c = (left g c).survives

@@ -1,6 +1,6 @@
 use Rattle.std.proofs.Common.{◌≡◌, ◌∙◌, [], ◌∷◌, ◌++◌, map, refl, subst, rules, arith, append_assoc}
-use Rattle.std.specs.List.Sorted.{IsPermutation}
 use Rattle.std.proofs.lemmas.List.Sorted.{IsPermutation-refl}
+use Rattle.std.proofs.lemmas.Result.{err_from_is_err_and}
 use Rattle.sqlite.specs.State.{HasCleanDisk, Survives, CommitsShowing, FailsToQuery}
 use Rattle.sqlite.specs.Held.{state}
 use Rattle.sqlite.proofs.Callers.{unchanged_then}
@@ -13,29 +13,31 @@ use Rattle.plan_tables_loading.specs.Rowids.{pair_shown, pair_sql}
 use Rattle.plan_tables_loading.proofs.PairEmitLemmas.{ArePairs, failed, fails, fails_then, front, none_yet, quiet, whole}
 use Rattle.plan_tables_loading.proofs.pairs.emit_pairs.Goals as goal
 
-pub returns-in-Err-clause-part : goal.returns-in-Err-clause-part
-returns-in-Err-clause-part g c clean has =
+pub returns-in_err-rows-clause-part : goal.returns-in_err-rows-clause-part
+returns-in_err-rows-clause-part g c clean has =
     let all = map pair_shown (tables_of (state g.S.Store c.args.conn.now).now.trees Dependency) in
-    record { done = []; rest = all; whole = IsPermutation-refl all; ends = refl }
+    let p = err_from_is_err_and c.from_residual.result c.from_residual.ensures.1 in
+    rw (p.1, p.2) (record { done = []; rest = all; whole = IsPermutation-refl all; ends = refl })
 
-pub returns-in-Err-clause-fails : goal.returns-in-Err-clause-fails
-returns-in-Err-clause-fails g c clean has =
+pub returns-in_err-rows-clause-fails : goal.returns-in_err-rows-clause-fails
+returns-in_err-rows-clause-fails g c clean has =
     let old = state g.S.Store c.args.conn.now in
     let new = state g.S.Store c.query.follows.lender-at-none in
     let held = c.query.follows.holds-at-none in
-    let err : FailsToQuery c.pair_text.result.now [] old new c.in-Err.error = search rules in
-    fails old new has c.in-Err.error (rw c.pair_text.ensures at err)
+    let err : FailsToQuery c.pair_text.result.now [] old new c.in_err-rows.field-0.0 = search rules in
+    let p = err_from_is_err_and c.from_residual.result c.from_residual.ensures.1 in
+    rw (p.1, p.2) (fails old new has c.in_err-rows.field-0.0 (rw c.pair_text.ensures at err))
 
-pub returns-in-Err-clause-leaves : goal.returns-in-Err-clause-leaves
-returns-in-Err-clause-leaves g c clean has =
+pub returns-in_err-rows-clause-leaves : goal.returns-in_err-rows-clause-leaves
+returns-in_err-rows-clause-leaves g c clean has =
     let old = state g.S.Store c.args.conn.now in
     let new = state g.S.Store c.query.follows.lender-at-none in
     let held = c.query.follows.holds-at-none in
-    let err : FailsToQuery c.pair_text.result.now [] old new c.in-Err.error = search rules in
-    failed old new has c.in-Err.error (rw c.pair_text.ensures at err)
+    let err : FailsToQuery c.pair_text.result.now [] old new c.in_err-rows.field-0.0 = search rules in
+    failed old new has c.in_err-rows.field-0.0 (rw c.pair_text.ensures at err)
 
-pub returns-in-Err-clause-survives : goal.returns-in-Err-clause-survives
-returns-in-Err-clause-survives g c =
+pub returns-in_err-rows-clause-survives : goal.returns-in_err-rows-clause-survives
+returns-in_err-rows-clause-survives g c =
     let old = state g.S.Store c.args.conn.now in
     let new = state g.S.Store c.query.follows.lender-at-none in
     let held = c.query.follows.holds-at-none in
@@ -45,19 +47,19 @@ returns-in-Err-clause-survives g c =
 pub rows-init : goal.rows-init
 rows-init g c = (
   refl,
-  quiet (state g.S.Store c.args.conn.now) (state g.S.Store c.in-Ok.rows.conn.now)
-      (rw c.pair_text.ensures at c.in-Ok.ensures.survives),
-  c.in-Ok.ensures.mode,
+  quiet (state g.S.Store c.args.conn.now) (state g.S.Store c.in_ok-rows.rows.conn.now)
+      (rw c.pair_text.ensures at c.in_ok-rows.ensures.survives),
+  c.in_ok-rows.ensures.mode,
   (
     [],
     refl,
-    λ clean has. none_yet g.S.Store c.args.conn.now c.in-Ok.rows.conn.now has
-        (rw c.pair_text.ensures at (c.in-Ok.ensures.begun clean)),
+    λ clean has. none_yet g.S.Store c.args.conn.now c.in_ok-rows.rows.conn.now has
+        (rw c.pair_text.ensures at (c.in_ok-rows.ensures.begun clean)),
   ),
 )
 
-pub returns-in-Err-advance-clause-part : goal.returns-in-Err-advance-clause-part
-returns-in-Err-advance-clause-part g c clean has =
+pub returns-in_err-advance-clause-part : goal.returns-in_err-advance-clause-part
+returns-in_err-advance-clause-part g c clean has =
     let late : HasCleanDisk (state g.S.Store c.advance.new.self.conn.now) = search rules in
     let before : HasCleanDisk (state g.S.Store c.rows.rows.conn.now) = omega
     (arith, late, c.advance.ensures.survives.clean) in
@@ -65,41 +67,42 @@ returns-in-Err-advance-clause-part g c clean has =
     let given = c.rows.invariant.3.0 in
     let more = front g.S.Store (state g.S.Store c.args.conn.now) c.rows.rows.conn.now has
     c.schema.ensures.live was.1 given was.0 in
-    record { done = given; rest = more.0; whole = more.1; ends = c.rows.invariant.3.1 }
+    let p = err_from_is_err_and c.from_residual-in_err-advance.result c.from_residual-in_err-advance.ensures.1 in
+    rw (p.1, p.2) (record { done = given; rest = more.0; whole = more.1; ends = c.rows.invariant.3.1 })
 
-pub returns-in-Err-advance-clause-fails : goal.returns-in-Err-advance-clause-fails
-returns-in-Err-advance-clause-fails g c clean has =
+pub returns-in_err-advance-clause-fails : goal.returns-in_err-advance-clause-fails
+returns-in_err-advance-clause-fails g c clean has =
     let late : HasCleanDisk (state g.S.Store c.advance.new.self.conn.now) = search rules in
     let before : HasCleanDisk (state g.S.Store c.rows.rows.conn.now) = omega
     (arith, late, c.advance.ensures.survives.clean) in
     let was = c.rows.invariant.3.2 before has in
-    let err = c.in-Err-advance.ensures.err late pair_sql
+    let err = c.in_err-advance.ensures.err late pair_sql
     [] c.rows.invariant.3.0 was.0 in
     let failed : MayFail (state g.S.Store c.args.conn.now)
-    (state g.S.Store c.advance.new.self.conn.now) c.in-Err-advance.error =
+    (state g.S.Store c.advance.new.self.conn.now) c.in_err-advance.field-0.0 =
     fails_then g.S.Store (state g.S.Store c.args.conn.now) c.rows.rows.conn.now has
-    c.schema.ensures.live was.1 (state g.S.Store c.advance.new.self.conn.now) c.in-Err-advance.error
+    c.schema.ensures.live was.1 (state g.S.Store c.advance.new.self.conn.now) c.in_err-advance.field-0.0
     c.rows.invariant.1.counts
     c.rows.invariant.1.limit err in
     search rules
 
-pub returns-in-Err-advance-clause-survives : goal.returns-in-Err-advance-clause-survives
-returns-in-Err-advance-clause-survives g c =
+pub returns-in_err-advance-clause-survives : goal.returns-in_err-advance-clause-survives
+returns-in_err-advance-clause-survives g c =
     let all : Survives (state g.S.Store c.args.conn.now) (state g.S.Store c.advance.new.self.conn.now)
     (λ _. HasTables c.args.conn.now.schema → ⊥) = survives_then _ (state g.S.Store c.rows.rows.conn.now) _ _ (λ _. ⊥) _
     (λ _ _ h. h) (λ _ _ h. absurd h) c.rows.invariant.1 c.advance.ensures.survives in
-    let same : c.advance.new.self.conn.now ≡ c.conn-in-Err-advance-1.given.0 = search rules in
+    let same : c.advance.new.self.conn.now ≡ c.conn-in_err-advance-1.given.0 = search rules in
     subst (λ h. Survives (state g.S.Store c.args.conn.now) (state g.S.Store h)
     (λ _. HasTables c.args.conn.now.schema → ⊥)) same all
 
-pub returns-in_default-get-clause-all : goal.returns-in_default-get-clause-all
-returns-in_default-get-clause-all g c clean has =
+pub returns-in_default-clause-all : goal.returns-in_default-clause-all
+returns-in_default-clause-all g c clean has =
     let late : HasCleanDisk (state g.S.Store c.advance.new.self.conn.now) = search rules in
     let before : HasCleanDisk (state g.S.Store c.rows.rows.conn.now) = omega
     (arith, late, c.advance.ensures.survives.clean) in
     let was = c.rows.invariant.3.2 before has in
     let given = c.rows.invariant.3.0 in
-    let shown = (rw (← c.get.ensures, c.in_default-get.is) at (c.in_default.ensures.ok late)) pair_sql
+    let shown = (rw (← c.get.ensures, c.in_default.is) at (c.in_ok-advance.ensures.ok late)) pair_sql
     [] given was.0 in
     record {
       rows = given;
@@ -108,42 +111,42 @@ returns-in_default-get-clause-all g c clean has =
       taken = c.rows.invariant.3.1;
     }
 
-pub returns-in_default-get-clause-survives : goal.returns-in_default-get-clause-survives
-returns-in_default-get-clause-survives g c =
+pub returns-in_default-clause-survives : goal.returns-in_default-clause-survives
+returns-in_default-clause-survives g c =
     let all : Survives (state g.S.Store c.args.conn.now) (state g.S.Store c.advance.new.self.conn.now)
     (λ _. HasTables c.args.conn.now.schema → ⊥) = survives_then _ (state g.S.Store c.rows.rows.conn.now) _ _ (λ _. ⊥) _
     (λ _ _ h. h) (λ _ _ h. absurd h) c.rows.invariant.1 c.advance.ensures.survives in
-    let same : c.advance.new.self.conn.now ≡ c.conn-in_default-get-1.given.0 = search rules in
+    let same : c.advance.new.self.conn.now ≡ c.conn-in_default-1.given.0 = search rules in
     subst (λ h. Survives (state g.S.Store c.args.conn.now) (state g.S.Store h)
     (λ _. HasTables c.args.conn.now.schema → ⊥)) same all
 
-pub returns-in-Err-accept-clause-part : goal.returns-in-Err-accept-clause-part
-returns-in-Err-accept-clause-part g c clean has =
+pub returns-in-Err-clause-part : goal.returns-in-Err-clause-part
+returns-in-Err-clause-part g c clean has =
     let late : HasCleanDisk (state g.S.Store c.advance.new.self.conn.now) = search rules in
     let before : HasCleanDisk (state g.S.Store c.rows.rows.conn.now) = omega
     (arith, late, c.advance.ensures.survives.clean) in
     let was = c.rows.invariant.3.2 before has in
     let row = c.in-Some.row.now in
     let given = c.rows.invariant.3.0 in
-    let has_given = (rw (← c.get.ensures, c.in-Some.is) at (c.in_default.ensures.ok late)) pair_sql
+    let has_given = (rw (← c.get.ensures, c.in-Some.is) at (c.in_ok-advance.ensures.ok late)) pair_sql
     [] given was.0 in
     let more = front g.S.Store (state g.S.Store c.args.conn.now) c.advance.new.self.conn.now
-    has c.schema.ensures.live (unchanged_then _ _ _ was.1 (c.in_default.ensures.same late))
+    has c.schema.ensures.live (unchanged_then _ _ _ was.1 (c.in_ok-advance.ensures.same late))
     (given ++ row ∷ []) has_given in
     record {
       done = given;
       rest = row ∷ more.0;
       whole = subst (ArePairs (state g.S.Store c.args.conn.now))
           (append_assoc given (row ∷ []) more.0) more.1;
-      ends = (c.rows.sink, row, more.0, refl, c.rows.invariant.3.1, c.in-Err-accept.ensures.refused);
+      ends = (c.rows.sink, row, more.0, refl, c.rows.invariant.3.1, c.in-Err.ensures.refused);
     }
 
-pub returns-in-Err-accept-clause-survives : goal.returns-in-Err-accept-clause-survives
-returns-in-Err-accept-clause-survives g c =
+pub returns-in-Err-clause-survives : goal.returns-in-Err-clause-survives
+returns-in-Err-clause-survives g c =
     let all : Survives (state g.S.Store c.args.conn.now) (state g.S.Store c.advance.new.self.conn.now)
     (λ _. HasTables c.args.conn.now.schema → ⊥) = survives_then _ (state g.S.Store c.rows.rows.conn.now) _ _ (λ _. ⊥) _
     (λ _ _ h. h) (λ _ _ h. absurd h) c.rows.invariant.1 c.advance.ensures.survives in
-    let same : c.advance.new.self.conn.now ≡ c.conn-in-Err-accept-1.given.0 = search rules in
+    let same : c.advance.new.self.conn.now ≡ c.conn-in-Err-1.given.0 = search rules in
     subst (λ h. Survives (state g.S.Store c.args.conn.now) (state g.S.Store h)
     (λ _. HasTables c.args.conn.now.schema → ⊥)) same all
 
@@ -163,9 +166,9 @@ rows-preserved g c =
             let before : HasCleanDisk (state g.S.Store c.rows.rows.conn.now) = omega
             (arith, clean, c.advance.ensures.survives.clean) in
             let was = c.rows.invariant.3.2 before has in (
-              (rw (← c.get.ensures, c.in-Some.is) at (c.in_default.ensures.ok clean)) pair_sql
+              (rw (← c.get.ensures, c.in-Some.is) at (c.in_ok-advance.ensures.ok clean)) pair_sql
                   [] given was.0,
-              unchanged_then _ _ _ was.1 (c.in_default.ensures.same clean),
+              unchanged_then _ _ _ was.1 (c.in_ok-advance.ensures.same clean),
             ),
       ),
     )

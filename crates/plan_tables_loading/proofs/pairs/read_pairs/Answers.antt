@@ -1,6 +1,5 @@
 use Rattle.sqlite.specs.Held.{state}
 use Rattle.plan_tables_schema.specs.Rows.{tables_of}
-use Rattle.plan_tables_content.specs.Facts.{pair_values}
 use Rattle.plan_tables_loading.specs.Cells.{IsPair}
 use Rattle.plan_tables_loading.specs.Reading.{HasPlan}
 use Rattle.plan_tables_loading.specs.Rowids.{pair_row_values}

@@ -1,4 +1,3 @@
-use Rattle.std.proofs.Common.{refl}
 use Rattle.sqlite.specs.Held.{state}
 use Rattle.plan_tables_schema.specs.Rows.{tables_of}
 use Rattle.plan_tables_loading.specs.Reading.{HasPlan}

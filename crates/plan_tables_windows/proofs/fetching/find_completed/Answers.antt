@@ -4,18 +4,19 @@ use Rattle.plan_tables_windows.proofs.LoadLemmas.{gathers_no_row, gathers_row}
 use Rattle.plan_tables_windows.proofs.FetchLemmas.{gathers_failed}
 use Rattle.plan_tables_windows.proofs.fetching.find_completed.Goals as goal
 
-pub returns-in-Ok-Some : goal.returns-in-Ok-Some
-returns-in-Ok-Some g c =
+pub returns-in-Some : goal.returns-in-Some
+returns-in-Some g c =
     gathers_row g.S.Store c.args.conn.now c.completed_row.new.conn c.args.serial (content_of c.args.lists.now)
-    c.in-Ok-Some.row (rw c.in-Ok-Some.field-0-is at c.in-Ok-Some.ensures) (content_of c.load_row.new.lists)
+    c.in-Some.row (rw c.in-Some.is at c.in_ok-row.ensures) (content_of c.load_row.new.lists)
     c.load_row.result c.load_row.ensures
 
-pub returns-in-Ok-None : goal.returns-in-Ok-None
-returns-in-Ok-None g c =
+pub returns-in-None : goal.returns-in-None
+returns-in-None g c =
     gathers_no_row g.S.Store c.args.conn.now c.completed_row.new.conn c.args.serial (content_of c.args.lists.now)
-    (rw c.in-Ok-None.field-0-is at c.in-Ok-None.ensures)
+    (rw c.in-None.is at c.in_ok-row.ensures)
 
-pub returns-in-Err : goal.returns-in-Err
-returns-in-Err g c =
+pub returns-in_err-row : goal.returns-in_err-row
+returns-in_err-row g c =
     gathers_failed g.S.Store c.args.conn.now c.completed_row.new.conn _ (content_of c.args.lists.now)
-    (λ rest now. Knows rest now c.args.serial) c.in-Err.fault c.in-Err.ensures
+    (λ rest now. Knows rest now c.args.serial) c.in_err-row.field-0.0 c.in_err-row.ensures c.from_residual.result
+    c.from_residual.ensures.1

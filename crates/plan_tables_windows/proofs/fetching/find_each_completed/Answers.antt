@@ -25,14 +25,15 @@ loop-serial-preserved g c =
     (content_of c.args.lists.now) (content_of c.find_completed.new.lists) (Ok tt) (Each Is l)) (sym front)
     (each_more g.S.Store Is knows_still c.args.conn.now c.loop-serial.conn c.find_completed.new.conn
     (content_of c.args.lists.now) (content_of c.loop-serial.lists) (content_of c.find_completed.new.lists)
-    (take index all) serial c.loop-serial.invariant c.in-Ok.ensures)
+    (take index all) serial c.loop-serial.invariant c.in_ok-find_completed.ensures)
 
-pub returns-in-Err : goal.returns-in-Err
-returns-in-Err g c =
+pub returns-in_err-find_completed : goal.returns-in_err-find_completed
+returns-in_err-find_completed g c =
     each_stops g.S.Store Is knows_still c.args.conn.now c.loop-serial.conn c.find_completed.new.conn
     (content_of c.args.lists.now) (content_of c.loop-serial.lists) (content_of c.find_completed.new.lists)
-    (take c.loop-serial.serial-index c.args.serials.now) c.serial-item.result c.loop-serial.invariant c.in-Err.fault
-    (Each Is c.args.serials.now) c.in-Err.ensures
+    (take c.loop-serial.serial-index c.args.serials.now) c.serial-item.result c.loop-serial.invariant c.in_err-find_completed.field-0.0
+    (Each Is c.args.serials.now) c.in_err-find_completed.ensures c.from_residual.result
+    c.from_residual.ensures.1
 
 -- all serials
 pub returns : goal.returns

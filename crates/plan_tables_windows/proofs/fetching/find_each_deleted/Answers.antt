@@ -25,14 +25,15 @@ loop-serial-preserved g c =
     (content_of c.args.lists.now) (content_of c.find_deleted.new.lists) (Ok tt) (Each Is l)) (sym front)
     (each_more g.S.Store Is knows_deletion_still c.args.conn.now c.loop-serial.conn c.find_deleted.new.conn
     (content_of c.args.lists.now) (content_of c.loop-serial.lists) (content_of c.find_deleted.new.lists)
-    (take index all) serial c.loop-serial.invariant c.in-Ok.ensures)
+    (take index all) serial c.loop-serial.invariant c.in_ok-find_deleted.ensures)
 
-pub returns-in-Err : goal.returns-in-Err
-returns-in-Err g c =
+pub returns-in_err-find_deleted : goal.returns-in_err-find_deleted
+returns-in_err-find_deleted g c =
     each_stops g.S.Store Is knows_deletion_still c.args.conn.now c.loop-serial.conn c.find_deleted.new.conn
     (content_of c.args.lists.now) (content_of c.loop-serial.lists) (content_of c.find_deleted.new.lists)
-    (take c.loop-serial.serial-index c.args.serials.now) c.serial-item.result c.loop-serial.invariant c.in-Err.fault
-    (Each Is c.args.serials.now) c.in-Err.ensures
+    (take c.loop-serial.serial-index c.args.serials.now) c.serial-item.result c.loop-serial.invariant c.in_err-find_deleted.field-0.0
+    (Each Is c.args.serials.now) c.in_err-find_deleted.ensures c.from_residual.result
+    c.from_residual.ensures.1
 
 -- all serials
 pub returns : goal.returns

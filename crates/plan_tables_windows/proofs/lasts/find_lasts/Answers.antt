@@ -23,14 +23,15 @@ loop-query-preserved g c =
     (content_of c.args.lists.now) (content_of c.find_last.new.lists) (Ok tt) (Each IsAnswered l)) (sym front)
     (each_more g.S.Store IsAnswered answered_still c.args.conn.now c.loop-query.conn c.find_last.new.conn
     (content_of c.args.lists.now) (content_of c.loop-query.lists) (content_of c.find_last.new.lists)
-    (take index all) query c.loop-query.invariant c.in-Ok.ensures)
+    (take index all) query c.loop-query.invariant c.in_ok-find_last.ensures)
 
-pub returns-in-Err : goal.returns-in-Err
-returns-in-Err g c =
+pub returns-in_err-find_last : goal.returns-in_err-find_last
+returns-in_err-find_last g c =
     each_stops g.S.Store IsAnswered answered_still c.args.conn.now c.loop-query.conn c.find_last.new.conn
     (content_of c.args.lists.now) (content_of c.loop-query.lists) (content_of c.find_last.new.lists)
-    (take c.loop-query.query-index c.args.queries.now) c.query-item.result c.loop-query.invariant c.in-Err.fault
-    (Each IsAnswered c.args.queries.now) c.in-Err.ensures
+    (take c.loop-query.query-index c.args.queries.now) c.query-item.result c.loop-query.invariant c.in_err-find_last.field-0.0
+    (Each IsAnswered c.args.queries.now) c.in_err-find_last.ensures c.from_residual.result
+    c.from_residual.ensures.1
 
 -- all queries
 pub returns : goal.returns

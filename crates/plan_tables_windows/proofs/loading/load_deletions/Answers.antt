@@ -23,10 +23,10 @@ loop-deletion-preserved c =
     take_more all index deletion c.loop-deletion-test.true ∙ ap (λ x. take index all ++ x ∷ []) (sym c.deletion-item.is)
     in
     subst (λ (l : List Deletion). LoadsEach l was now (Ok tt)) (sym front)
-    (brings_more (take index all) deletion was mid now (Ok tt) c.loop-deletion.invariant c.in-Ok.ensures)
+    (brings_more (take index all) deletion was mid now (Ok tt) c.loop-deletion.invariant c.in_ok-load_deletion.ensures)
 
-pub returns-in-Err : goal.returns-in-Err
-returns-in-Err c =
+pub returns-in_err-load_deletion : goal.returns-in_err-load_deletion
+returns-in_err-load_deletion c =
     let all = c.args.deletions.now in
     let index = c.loop-deletion.deletion-index in
     let deletion = c.deletion-item.result in
@@ -36,9 +36,10 @@ returns-in-Err c =
     let front : take (index + 1) all ≡ take index all ++ deletion ∷ [] =
     take_more all index deletion c.loop-deletion-test.true ∙ ap (λ x. take index all ++ x ∷ []) (sym c.deletion-item.is)
     in
-    brings_part (take (index + 1) all) all was now c.in-Err.fault (of_front (index + 1) all)
-    (subst (λ (l : List Deletion). LoadsEach l was now (Err c.in-Err.fault)) (sym front)
-    (brings_more (take index all) deletion was mid now (Err c.in-Err.fault) c.loop-deletion.invariant c.in-Err.ensures))
+    brings_part (take (index + 1) all) all was now c.in_err-load_deletion.field-0.0 (of_front (index + 1) all)
+    (subst (λ (l : List Deletion). LoadsEach l was now (Err c.in_err-load_deletion.field-0.0)) (sym front)
+    (brings_more (take index all) deletion was mid now (Err c.in_err-load_deletion.field-0.0) c.loop-deletion.invariant
+    c.in_err-load_deletion.ensures)) c.from_residual.result c.from_residual.ensures.1
 
 -- all deletions
 pub returns : goal.returns

@@ -5,9 +5,9 @@ use Rattle.plan_tables_windows.specs.Loading.{KnowsAll}
 use Rattle.plan_tables_windows.proofs.FetchLemmas.{gathers_refused, gathers_so}
 use Rattle.plan_tables_windows.proofs.needs.load_for_change.Goals as goal
 
-pub returns-in-Ok : goal.returns-in-Ok
-returns-in-Ok g c =
-    let unknown = c.in-Ok.unknown in
+pub returns : goal.returns
+returns g c =
+    let unknown = c.in_ok-unknown.unknown in
     let bounds = c.args.change.now.bounds in
     let was = content_of c.args.lists.now in
     let now = content_of c.find_named.new.lists in
@@ -15,9 +15,10 @@ returns-in-Ok g c =
     (λ rest l. HasBars bounds rest l × KnowsAll unknown.history.items unknown.deletions.items rest l)
     (λ rest l. KnowsNamed rest c.args.change.now l)
     (λ rest part sound more (both : HasBars bounds rest now × KnowsAll unknown.history.items unknown.deletions.items rest
-    now). c.in-Ok.ensures.finds rest now more ∣ part ∣₁ sound both.1.history both.1.deletions both.0)
+    now). c.in_ok-unknown.ensures.finds rest now more ∣ part ∣₁ sound both.1.history both.1.deletions both.0)
     c.find_named.ensures
 
-pub returns-in-Err : goal.returns-in-Err
-returns-in-Err g c = gathers_refused g.S.Store c.args.conn.now (content_of c.args.lists.now)
-    (λ rest l. KnowsNamed rest c.args.change.now l)
+pub returns-in_err-unknown : goal.returns-in_err-unknown
+returns-in_err-unknown g c = gathers_refused g.S.Store c.args.conn.now (content_of c.args.lists.now)
+    (λ rest l. KnowsNamed rest c.args.change.now l) c.from_residual.result
+    c.from_residual.ensures.1

@@ -6,7 +6,7 @@ use Rattle.sqlite.specs.State.{HasCleanDisk}
 use Rattle.plan_store.specs.Contents.{content_of}
 use Rattle.plan_tables.specs.Kept.{kept_in}
 use Rattle.plan_tables.specs.Listing.{LeavesOpen}
-use Rattle.plan_tables.specs.declared.listing.Unlisted.TheVariants.{Unmade}
+use Rattle.plan_tables_lookups.specs.declared.faults.Stopped.TheVariants.{Fault}
 use Rattle.plan_tables.proofs.LookLemmas.{kept_sure, looks_still, told_kept_still}
 use Rattle.plan_tables.proofs.SetLemmas.{truth_prop}
 use Rattle.plan_tables.proofs.StoredLemmas.{keeps_still, keeps_unchanged, put_still}
@@ -29,8 +29,8 @@ invariant_of-self g c =
       told = told_kept_still before after_it c.list_kept.ensures.survives lists kept old.told;
     }
 
-pub invariant_of-self-in-Sink-1 : goal.invariant_of-self-in-Sink-1
-invariant_of-self-in-Sink-1 g c =
+pub invariant_of-self-in-Err-Sink : goal.invariant_of-self-in-Err-Sink
+invariant_of-self-in-Err-Sink g c =
     let old = c.args.self.now in
     let before = state g.S.Store old.conn in
     let after_it = state g.S.Store c.list_kept.new.conn in
@@ -48,8 +48,8 @@ invariant_of-self-in-Sink-1 g c =
       told = told_kept_still before after_it c.list_kept.ensures.survives lists kept old.told;
     }
 
-pub invariant_of-self-in-Err-Unmade-Memory : goal.invariant_of-self-in-Err-Unmade-Memory
-invariant_of-self-in-Err-Unmade-Memory g c =
+pub invariant_of-self-in-Err-Fault-Memory : goal.invariant_of-self-in-Err-Fault-Memory
+invariant_of-self-in-Err-Fault-Memory g c =
     let old = c.args.self.now in
     let before = state g.S.Store old.conn in
     let after_it = state g.S.Store c.list_kept.new.conn in
@@ -61,14 +61,14 @@ invariant_of-self-in-Err-Unmade-Memory g c =
       stored = ∥∥₁_map kept (λ h whole clean _.
           let calm : HasCleanDisk before = omega (arith, c.list_kept.ensures.survives.clean, clean) in
           let k = h calm in
-          let is_open : IsTrue after_it.is_open = c.in-Err-Unmade-Memory.ensures.opens clean k (subst LeavesOpen (sym (c.in-Err-Unmade-Memory.field-0-is ∙ ap Unmade c.in-Err-Unmade-Memory.field-0-0-is)) tt) in
+          let is_open : IsTrue after_it.is_open = c.in-Err-Fault-Memory.ensures.opens clean k (subst LeavesOpen (sym (c.in-Err-Fault-Memory.field-0-is ∙ ap Fault c.in-Err-Fault-Memory.field-0-0-is)) tt) in
           let put = put_still before after_it (kept_in before lists) k.stored (c.list_kept.ensures.stays clean k) is_open in
           keeps_still before after_it lists k is_open put.0 put.1);
       told = told_kept_still before after_it c.list_kept.ensures.survives lists kept old.told;
     }
 
-pub invariant_of-self-in-Err-Unmade-Doubt : goal.invariant_of-self-in-Err-Unmade-Doubt
-invariant_of-self-in-Err-Unmade-Doubt g c =
+pub invariant_of-self-in-Err-Fault-Doubt : goal.invariant_of-self-in-Err-Fault-Doubt
+invariant_of-self-in-Err-Fault-Doubt g c =
     let old = c.args.self.now in
     let before = state g.S.Store old.conn in
     let after_it = state g.S.Store c.list_kept.new.conn in
@@ -86,8 +86,8 @@ invariant_of-self-in-Err-Unmade-Doubt g c =
       told = told_kept_still before after_it c.list_kept.ensures.survives lists kept old.told;
     }
 
-pub invariant_of-self-in-Err-Unmade-Device : goal.invariant_of-self-in-Err-Unmade-Device
-invariant_of-self-in-Err-Unmade-Device g c =
+pub invariant_of-self-in-Err-Fault-Device : goal.invariant_of-self-in-Err-Fault-Device
+invariant_of-self-in-Err-Fault-Device g c =
     let old = c.args.self.now in
     let before = state g.S.Store old.conn in
     let after_it = state g.S.Store c.list_kept.new.conn in
@@ -118,8 +118,8 @@ returns-in-Err-Sink-clause-looks g c =
     let kept = kept_sure old.in_doubt old.failures c.requires.sure c.requires.whole old.stored in
     looks_still before after_it c.list_kept.ensures.survives lists kept c.list_kept.ensures.stays
 
-pub returns-in-Err-Unmade-Memory-clause-looks : goal.returns-in-Err-Unmade-Memory-clause-looks
-returns-in-Err-Unmade-Memory-clause-looks g c =
+pub returns-in-Err-Fault-Memory-clause-looks : goal.returns-in-Err-Fault-Memory-clause-looks
+returns-in-Err-Fault-Memory-clause-looks g c =
     let old = c.args.self.now in
     let before = state g.S.Store old.conn in
     let after_it = state g.S.Store c.list_kept.new.conn in
@@ -127,8 +127,8 @@ returns-in-Err-Unmade-Memory-clause-looks g c =
     let kept = kept_sure old.in_doubt old.failures c.requires.sure c.requires.whole old.stored in
     looks_still before after_it c.list_kept.ensures.survives lists kept c.list_kept.ensures.stays
 
-pub returns-in-Err-Unmade-Doubt-clause-looks : goal.returns-in-Err-Unmade-Doubt-clause-looks
-returns-in-Err-Unmade-Doubt-clause-looks g c =
+pub returns-in-Err-Fault-Doubt-clause-looks : goal.returns-in-Err-Fault-Doubt-clause-looks
+returns-in-Err-Fault-Doubt-clause-looks g c =
     let old = c.args.self.now in
     let before = state g.S.Store old.conn in
     let after_it = state g.S.Store c.list_kept.new.conn in
@@ -136,8 +136,8 @@ returns-in-Err-Unmade-Doubt-clause-looks g c =
     let kept = kept_sure old.in_doubt old.failures c.requires.sure c.requires.whole old.stored in
     looks_still before after_it c.list_kept.ensures.survives lists kept c.list_kept.ensures.stays
 
-pub returns-in-Err-Unmade-Device-clause-looks : goal.returns-in-Err-Unmade-Device-clause-looks
-returns-in-Err-Unmade-Device-clause-looks g c =
+pub returns-in-Err-Fault-Device-clause-looks : goal.returns-in-Err-Fault-Device-clause-looks
+returns-in-Err-Fault-Device-clause-looks g c =
     let old = c.args.self.now in
     let before = state g.S.Store old.conn in
     let after_it = state g.S.Store c.list_kept.new.conn in
@@ -175,47 +175,47 @@ returns-in-Err-Sink-clause-part g c clean numbered =
     let calm : HasCleanDisk before = omega (arith, c.list_kept.ensures.survives.clean, clean) in
     rw c.in-Err-Sink.field-0-is at (c.in-Err-Sink.ensures.part clean (∥∥₁_map kept (λ h. h calm)) numbered)
 
-pub returns-in-Err-Unmade-Memory-clause-part : goal.returns-in-Err-Unmade-Memory-clause-part
-returns-in-Err-Unmade-Memory-clause-part g c clean numbered =
+pub returns-in-Err-Fault-Memory-clause-part : goal.returns-in-Err-Fault-Memory-clause-part
+returns-in-Err-Fault-Memory-clause-part g c clean numbered =
     let old = c.args.self.now in
     let before = state g.S.Store old.conn in
     let after_it = state g.S.Store c.list_kept.new.conn in
     let lists = content_of old.lists in
     let kept = kept_sure old.in_doubt old.failures c.requires.sure c.requires.whole old.stored in
     let calm : HasCleanDisk before = omega (arith, c.list_kept.ensures.survives.clean, clean) in
-    rw c.in-Err-Unmade-Memory.field-0-0-is at (rw c.in-Err-Unmade-Memory.field-0-is at
-    (c.in-Err-Unmade-Memory.ensures.part clean (∥∥₁_map kept (λ h. h calm)) numbered))
+    rw c.in-Err-Fault-Memory.field-0-0-is at (rw c.in-Err-Fault-Memory.field-0-is at
+    (c.in-Err-Fault-Memory.ensures.part clean (∥∥₁_map kept (λ h. h calm)) numbered))
 
-pub returns-in-Err-Unmade-Doubt-clause-part : goal.returns-in-Err-Unmade-Doubt-clause-part
-returns-in-Err-Unmade-Doubt-clause-part g c clean numbered =
+pub returns-in-Err-Fault-Doubt-clause-part : goal.returns-in-Err-Fault-Doubt-clause-part
+returns-in-Err-Fault-Doubt-clause-part g c clean numbered =
     let old = c.args.self.now in
     let before = state g.S.Store old.conn in
     let after_it = state g.S.Store c.list_kept.new.conn in
     let lists = content_of old.lists in
     let kept = kept_sure old.in_doubt old.failures c.requires.sure c.requires.whole old.stored in
     let calm : HasCleanDisk before = omega (arith, c.list_kept.ensures.survives.clean, clean) in
-    rw c.in-Err-Unmade-Doubt.field-0-0-is at (rw c.in-Err-Unmade-Doubt.field-0-is at
-    (c.in-Err-Unmade-Doubt.ensures.part clean (∥∥₁_map kept (λ h. h calm)) numbered))
+    rw c.in-Err-Fault-Doubt.field-0-0-is at (rw c.in-Err-Fault-Doubt.field-0-is at
+    (c.in-Err-Fault-Doubt.ensures.part clean (∥∥₁_map kept (λ h. h calm)) numbered))
 
-pub returns-in-Err-Unmade-Device-clause-part : goal.returns-in-Err-Unmade-Device-clause-part
-returns-in-Err-Unmade-Device-clause-part g c clean numbered =
+pub returns-in-Err-Fault-Device-clause-part : goal.returns-in-Err-Fault-Device-clause-part
+returns-in-Err-Fault-Device-clause-part g c clean numbered =
     let old = c.args.self.now in
     let before = state g.S.Store old.conn in
     let after_it = state g.S.Store c.list_kept.new.conn in
     let lists = content_of old.lists in
     let kept = kept_sure old.in_doubt old.failures c.requires.sure c.requires.whole old.stored in
     let calm : HasCleanDisk before = omega (arith, c.list_kept.ensures.survives.clean, clean) in
-    rw c.in-Err-Unmade-Device.field-0-0-is at (rw c.in-Err-Unmade-Device.field-0-is at
-    (c.in-Err-Unmade-Device.ensures.part clean (∥∥₁_map kept (λ h. h calm)) numbered))
+    rw c.in-Err-Fault-Device.field-0-0-is at (rw c.in-Err-Fault-Device.field-0-is at
+    (c.in-Err-Fault-Device.ensures.part clean (∥∥₁_map kept (λ h. h calm)) numbered))
 
-pub returns-in-Err-Unmade-Device-clause-caused : goal.returns-in-Err-Unmade-Device-clause-caused
-returns-in-Err-Unmade-Device-clause-caused g c clean _ =
+pub returns-in-Err-Fault-Device-clause-caused : goal.returns-in-Err-Fault-Device-clause-caused
+returns-in-Err-Fault-Device-clause-caused g c clean _ =
     let old = c.args.self.now in
     let before = state g.S.Store old.conn in
     let kept = kept_sure old.in_doubt old.failures c.requires.sure c.requires.whole old.stored in
     let calm : HasCleanDisk before = omega (arith, c.list_kept.ensures.survives.clean, clean) in
-    ∥∥₁_map kept (λ h. c.in-Err-Unmade-Device.ensures.failed clean (h calm)
-    (c.in-Err-Unmade-Device.field-0-is ∙ ap Unmade c.in-Err-Unmade-Device.field-0-0-is))
+    ∥∥₁_map kept (λ h. c.in-Err-Fault-Device.ensures.failed clean (h calm)
+    (c.in-Err-Fault-Device.field-0-is ∙ ap Fault c.in-Err-Fault-Device.field-0-0-is))
 
 pub returns-in-Err-Sink-clause-mild : goal.returns-in-Err-Sink-clause-mild
 returns-in-Err-Sink-clause-mild g c clean _ =
@@ -228,13 +228,13 @@ returns-in-Err-Sink-clause-mild g c clean _ =
     ∥∥₁_elim kept (truth_prop after_it.is_open) (λ h. c.in-Err-Sink.ensures.opens clean (h calm)
     (subst LeavesOpen (sym c.in-Err-Sink.field-0-is) tt))
 
-pub returns-in-Err-Unmade-Memory-clause-mild : goal.returns-in-Err-Unmade-Memory-clause-mild
-returns-in-Err-Unmade-Memory-clause-mild g c clean _ =
+pub returns-in-Err-Fault-Memory-clause-mild : goal.returns-in-Err-Fault-Memory-clause-mild
+returns-in-Err-Fault-Memory-clause-mild g c clean _ =
     let old = c.args.self.now in
     let before = state g.S.Store old.conn in
     let after_it = state g.S.Store c.list_kept.new.conn in
     let lists = content_of old.lists in
     let kept = kept_sure old.in_doubt old.failures c.requires.sure c.requires.whole old.stored in
     let calm : HasCleanDisk before = omega (arith, c.list_kept.ensures.survives.clean, clean) in
-    ∥∥₁_elim kept (truth_prop after_it.is_open) (λ h. c.in-Err-Unmade-Memory.ensures.opens clean (h calm)
-    (subst LeavesOpen (sym (c.in-Err-Unmade-Memory.field-0-is ∙ ap Unmade c.in-Err-Unmade-Memory.field-0-0-is)) tt))
+    ∥∥₁_elim kept (truth_prop after_it.is_open) (λ h. c.in-Err-Fault-Memory.ensures.opens clean (h calm)
+    (subst LeavesOpen (sym (c.in-Err-Fault-Memory.field-0-is ∙ ap Fault c.in-Err-Fault-Memory.field-0-0-is)) tt))
