@@ -44,10 +44,10 @@ fn if_sound(alloc: Global, content: Content) -> Result<Option<Content>, AllocErr
         content_of same ≡ content_of content)) }
     ensures refused { IfOk result (λ found. found ≡ None → IsSound (content_of content) → ⊥) }
 {
-    match is_sound(alloc, &content) {
-        Ok(true) => Ok(Some(content)),
-        Ok(false) => Ok(None),
-        Err(error) => Err(error),
+    if is_sound(alloc, &content)? {
+        Ok(Some(content))
+    } else {
+        Ok(None)
     }
 }
 
@@ -67,10 +67,9 @@ fn sound_content(
         → HoldSound all → ⊥) }
 {
     tables_have_one_content();
-    match content_of_tables(alloc, lists, stored) {
-        Ok(Some(content)) => if_sound(alloc, content),
-        Ok(None) => Ok(None),
-        Err(error) => Err(error),
+    match content_of_tables(alloc, lists, stored)? {
+        Some(content) => if_sound(alloc, content),
+        None => Ok(None),
     }
 }
 
@@ -118,13 +117,12 @@ fn read_whole<S: Alter>(alloc: Global, conn: &mut Connection<S>) -> Result<Judge
     prove!(settled);
     // its clause says that an open connection has a database
     let _ = conn.schema();
-    match <(RowidPart, (PlanPart, DefinitionPart))>::read(alloc, conn) {
-        Ok(Some((_, (plans, definitions)))) => {
+    match <(RowidPart, (PlanPart, DefinitionPart))>::read(alloc, conn)? {
+        Some((_, (plans, definitions))) => {
             let found = sound_content(alloc, plans.lists, &definitions.stored);
             Ok(found_by(found))
         }
-        Ok(None) => Ok(Judged::Unsound),
-        Err(error) => Err(error),
+        None => Ok(Judged::Unsound),
     }
 }
 
@@ -140,10 +138,10 @@ fn read_plan<S: Alter>(alloc: Global, conn: &mut Connection<S>) -> Result<Judged
         → IfErr result (MayFail (state S.Store conn.old) (state S.Store conn.new)) }
     ensures mode { conn.new.in_transaction ≡ false }
 {
-    match has_version(conn) {
-        Ok(true) => read_whole(alloc, conn),
-        Ok(false) => Ok(Judged::Unknown),
-        Err(error) => Err(error),
+    if has_version(conn)? {
+        read_whole(alloc, conn)
+    } else {
+        Ok(Judged::Unknown)
     }
 }
 

@@ -133,10 +133,10 @@ impl<const PLACE: usize> TablePart for Rowids<PLACE> {
     ghost readable = { λ all. HaveRowids (all (table_of PLACE)) };
 
     fn read<S: Alter>(_: Global, conn: &mut Connection<S>) -> Result<Option<Rowids<PLACE>>, Error> {
-        match has_rowids(conn, table_at(PLACE)) {
-            Ok(true) => Ok(Some(Rowids {})),
-            Ok(false) => Ok(None),
-            Err(error) => Err(error),
+        if has_rowids(conn, table_at(PLACE))? {
+            Ok(Some(Rowids {}))
+        } else {
+            Ok(None)
         }
     }
 }

@@ -30,9 +30,7 @@ impl<const PLACE: usize> TablePart for Shown<PLACE> {
 
     #[tactic(auto, unfolding(plan_tables_loading::specs::Reading::HasPlan))]
     fn read<S: Alter>(_: Global, conn: &mut Connection<S>) -> Result<Option<Shown<PLACE>>, Error> {
-        match select(conn, table_at(PLACE)) {
-            Ok(rows) => Ok(Some(Shown { rows })),
-            Err(error) => Err(error),
-        }
+        let rows = select(conn, table_at(PLACE))?;
+        Ok(Some(Shown { rows }))
     }
 }

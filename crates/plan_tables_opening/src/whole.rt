@@ -60,10 +60,9 @@ impl TablePart for PlanPart {
     ghost readable = { ArePlansReadable };
 
     fn read<S: Alter>(alloc: Global, conn: &mut Connection<S>) -> Result<Option<PlanPart>, Error> {
-        match read_lists(alloc, conn) {
-            Ok(Some(lists)) => Ok(Some(PlanPart { lists })),
-            Ok(None) => Ok(None),
-            Err(error) => Err(error),
+        match read_lists(alloc, conn)? {
+            Some(lists) => Ok(Some(PlanPart { lists })),
+            None => Ok(None),
         }
     }
 }
@@ -100,12 +99,11 @@ impl TablePart for DefinitionPart {
         alloc: Global,
         conn: &mut Connection<S>,
     ) -> Result<Option<DefinitionPart>, Error> {
-        match StoredParts::read(alloc, conn) {
-            Ok(Some(parts)) => Ok(Some(DefinitionPart {
+        match StoredParts::read(alloc, conn)? {
+            Some(parts) => Ok(Some(DefinitionPart {
                 stored: stored_of(parts),
             })),
-            Ok(None) => Ok(None),
-            Err(error) => Err(error),
+            None => Ok(None),
         }
     }
 }
@@ -129,10 +127,9 @@ impl TablePart for RowidPart {
     ghost readable = { AllHaveRowids };
 
     fn read<S: Alter>(alloc: Global, conn: &mut Connection<S>) -> Result<Option<RowidPart>, Error> {
-        match HiddenRowids::read(alloc, conn) {
-            Ok(Some(parts)) => Ok(Some(are_hidden(parts))),
-            Ok(None) => Ok(None),
-            Err(error) => Err(error),
+        match HiddenRowids::read(alloc, conn)? {
+            Some(parts) => Ok(Some(are_hidden(parts))),
+            None => Ok(None),
         }
     }
 }
@@ -178,9 +175,8 @@ pub(crate) fn content_of_tables(
         → AreSoundDefinitions all
         → HaveRows stored.now lists.meta.options all → ⊥) }
 {
-    match found_definitions(alloc, &lists, stored) {
-        Ok(Some(definitions)) => some_content(alloc, definitions, lists),
-        Ok(None) => Ok(None),
-        Err(error) => Err(error),
+    match found_definitions(alloc, &lists, stored)? {
+        Some(definitions) => some_content(alloc, definitions, lists),
+        None => Ok(None),
     }
 }

@@ -8,9 +8,9 @@ use Rattle.plan_tables_loading.specs.Reading.{HasPlan}
 use Rattle.plan_tables_opening.proofs.StoredLemmas.{shows_rows}
 use Rattle.plan_tables_opening.proofs.stored.ShownTablePart.read.Goals as goal
 
-pub returns-in-Ok-clause-told : goal.returns-in-Ok-clause-told
+pub returns-clause-told : goal.returns-clause-told
 unfolding HasPlan
-returns-in-Ok-clause-told g c clean plan =
+returns-clause-told g c clean plan =
     let all = tables_of (state g.S.Store c.args.conn.now).now.trees in
-    subst (λ (t : Table). ShowsOnly all t (λ v. Contains c.in-Ok.rows.items v)) c.table_at.ensures
-    (shows_rows all c.table_at.result c.in-Ok.rows.items (c.in-Ok.ensures.rows clean plan))
+    subst (λ (t : Table). ShowsOnly all t (λ v. Contains c.in_ok-rows.rows.items v)) c.table_at.ensures
+    (shows_rows all c.table_at.result c.in_ok-rows.rows.items (c.in_ok-rows.ensures.rows clean plan))
