@@ -85,9 +85,6 @@ links_are all es app predecessor are = (
 abbrev pub ListsRise : List (List ℕ × List Predecessor) → Type 0
 ListsRise es = (e : List ℕ × List Predecessor) → Contains es e → AreRising (λ p. p.name) e.1
 
-pub rise_none : ListsRise []
-rise_none e (k, lt, is) = absurd (omega (arith, lt))
-
 pub rise_more : (es : List (List ℕ × List Predecessor)) (app : List ℕ) (listed : List Predecessor) → ListsRise es
     → AreRising (λ p. p.name) listed → ListsRise (es ++ (app, listed) ∷ [])
 rise_more es app listed before rising e there = elim (Contains-push_cases es (app, listed) e there) [
