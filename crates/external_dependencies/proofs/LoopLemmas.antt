@@ -1,8 +1,9 @@
 -- Loops of lists and walks through the graph of the lists.
-use Rattle.std.proofs.Common.{◌≡◌, ◌≢◌, ◌↔◌, ℕ, ◌<◌, ◌⊎◌, List, [], ◌∷◌, length, get_or, map, refl, sym, ap, subst}
-use Rattle.std.proofs.Common.{◌∙◌, inl, inr, arith, Some, None}
+use Rattle.std.proofs.Common.{◌≡◌, ◌≢◌, ◌↔◌, ℕ, zero, suc, ◌+◌, ◌-◌, ◌<◌, ◌⊎◌, List, [], ◌∷◌, length, get_or, map}
+use Rattle.std.proofs.Common.{refl, sym, ap, subst, ◌∙◌, inl, inr, arith, Option, Some, None, Ok, Err, Result}
 use Rattle.std.specs.declared.cmp.Ordering.TheVariants.{Less, Equal, Greater}
-use Rattle.std.specs.List.{Contains}
+use Rattle.std.specs.List.{All, Contains}
+use Rattle.std.specs.Result.{IfOk}
 use Rattle.std.specs.Cmp.Lexicographic.{slice_cmp}
 use Rattle.std.specs.Ordering.{nat_cmp}
 use Rattle.std.proofs.lemmas.Bool.{cases_lt}
@@ -11,13 +12,17 @@ use Rattle.std.proofs.lemmas.List.{get_or_default, get_or-map, length-map}
 use Rattle.std.proofs.lemmas.List.Elements.{Contains-get_or}
 use Rattle.external_dependencies.specs.declared.links.Link.{Link}
 use Rattle.external_dependencies.specs.Link.{Lists}
-use Rattle.external_dependencies.specs.Loop.{OnLoop, IsLeastOnLoop, AreApplications}
-use Rattle.external_dependencies.specs.Places.{IsGraphOf}
+use Rattle.external_dependencies.specs.Loop.{OnLoop, OnRing, IsRing, IsLeastOnLoop, AreApplications, LoopsPass}
+use Rattle.external_dependencies.specs.Places.{IsGraphOf, IsLeastAmong, LeadNowhereElse, ListsAmong}
 use Rattle.external_dependencies.specs.Walk.{Edge, IsWalk, Reaches, ReturnsTo}
 use Rattle.external_dependencies.specs.Rising.{IsRising}
 use Rattle.external_dependencies.proofs.GraphLemmas.{link_is}
 use Rattle.external_dependencies.proofs.OrderLemmas.{name_ties, rising_once, rising_at_most}
 use Rattle.external_dependencies.proofs.RingLemmas.{returns_on_ring, on_ring}
+
+pub if_ok : {T E : Type 0} (r : Result T E) (P Q : T → Type 0) → ((x : T) → P x → Q x) → IfOk r P → IfOk r Q
+if_ok (Ok x) P Q f h = f x h
+if_ok (Err e) P Q f h = tt
 
 -- two names are the same or differ
 pub decide_names : (x y : List ℕ) → (x ≡ y) ⊎ (x ≢ y)
@@ -35,94 +40,102 @@ decide_names x y = elim (slice_cmp nat_cmp x y) as (λ r. slice_cmp nat_cmp x y 
     apart_greater : Greater ≡ Equal → ⊥
     apart_greater e = cc
 
-module _ (links : List Link) (names : List (List ℕ)) (are : AreApplications links names) (graph : List (List ℕ))
-    (is : IsGraphOf links names (length names) graph) where
+module _ (links : List Link) (names : List (List ℕ)) (rising : IsRising (slice_cmp nat_cmp) names)
+    (graph : List (List ℕ)) (is : IsGraphOf links names (length names) graph) where
+  -- its edges are the lists of the names
+  edges : (from to : ℕ) → from < length names → Edge graph from to
+      ↔ ((to < length names) × ListsAmong links names (get_or names from []) (get_or names to []))
+  edges from to lt = (
+    (λ edge. let there = (is.edges from to lt).0 edge in (there.0, (Contains-get_or names from [] lt, there.1))),
+    λ there. (is.edges from to lt).1 (there.0, there.1.1),
+  )
+
   -- a walk through the graph is a walk through the lists
   names_walk : (from to : ℕ) (between : List ℕ) → from < length names → IsWalk (Edge graph) from between to
-      → Reaches (Lists links) (get_or names from []) (get_or names to [])
+      → Reaches (ListsAmong links names) (get_or names from []) (get_or names to [])
   names_walk from to [] lt walk =
-      let there = (is.edges from to lt).0 walk.0 in
-      ([], (there.1, λ same. walk.1 (rising_once nat_list_cmp_total names are.rising from to [] lt there.0 same)))
+      let there = (edges from to lt).0 walk.0 in
+      ([], (there.1, λ same. walk.1 (rising_once nat_list_cmp_total names rising from to [] lt there.0 same)))
   names_walk from to (x ∷ between) lt walk =
-      let there = (is.edges from x lt).0 walk.0.0 in
+      let there = (edges from x lt).0 walk.0.0 in
       let rest = names_walk x to between there.0 walk.1 in (
         get_or names x [] ∷ rest.0,
         (
           (
             there.1,
             λ same. walk.0.1
-                (rising_once nat_list_cmp_total names are.rising from x [] lt there.0 same),
+                (rising_once nat_list_cmp_total names rising from x [] lt there.0 same),
           ),
           rest.1,
         ),
       )
 
   -- the place of an application with a list
-  place_of : (app predecessor : List ℕ) → Lists links app predecessor → (k : ℕ) × (k < length names)
+  place_of : (app predecessor : List ℕ) → ListsAmong links names app predecessor → (k : ℕ) × (k < length names)
       × (get_or names k [] ≡ app)
   place_of app predecessor listed =
-      let here = are.all app predecessor listed in
+      let here = listed.0 in
       (here.0, here.1, get_or_default names here.0 [] app here.1 ∙ here.2)
 
   -- and the other way round, where the walk ends at an application with a list
   places_walk : (from to : ℕ) (u v : List ℕ) (between : List (List ℕ)) → from < length names → to < length names
-      → get_or names from [] ≡ u → get_or names to [] ≡ v → IsWalk (Lists links) u between v
+      → get_or names from [] ≡ u → get_or names to [] ≡ v → IsWalk (ListsAmong links names) u between v
       → Reaches (Edge graph) from to
   places_walk from to u v [] lt lt' at at' walk =
-      let listed : Lists links (get_or names from []) (get_or names to []) =
-      subst (λ a. Lists links a (get_or names to [])) (sym at) (subst (λ b. Lists links u b) (sym at') walk.0) in
-      ([], ((is.edges from to lt).1 (lt', listed), λ same. walk.1 (sym at ∙ ap (λ k. get_or names k []) same ∙ at')))
+      let listed : ListsAmong links names (get_or names from []) (get_or names to []) =
+      subst (λ a. ListsAmong links names a (get_or names to [])) (sym at) (subst (λ b. ListsAmong links names u b) (sym at') walk.0) in
+      ([], ((edges from to lt).1 (lt', listed), λ same. walk.1 (sym at ∙ ap (λ k. get_or names k []) same ∙ at')))
   places_walk from to u v (x ∷ between) lt lt' at at' walk =
       let next = listed_by x between walk.1 in
       let place = place_of x next.0 next.1 in
-      let listed : Lists links (get_or names from []) (get_or names place.0 []) =
-      subst (λ a. Lists links a (get_or names place.0 [])) (sym at)
-      (subst (λ b. Lists links u b) (sym place.2) walk.0.0) in
+      let listed : ListsAmong links names (get_or names from []) (get_or names place.0 []) =
+      subst (λ a. ListsAmong links names a (get_or names place.0 [])) (sym at)
+      (subst (λ b. ListsAmong links names u b) (sym place.2) walk.0.0) in
       let rest = places_walk place.0 to x v between place.1 lt' place.2 at' walk.1 in (
         place.0 ∷ rest.0,
         (
           (
-            (is.edges from place.0 lt).1 (place.1, listed),
+            (edges from place.0 lt).1 (place.1, listed),
             λ same. walk.0.1 (sym at ∙ ap (λ k. get_or names k []) same ∙ place.2),
           ),
           rest.1,
         ),
       )
     where
-      listed_by : (y : List ℕ) (ys : List (List ℕ)) → IsWalk (Lists links) y ys v → (predecessor : List ℕ)
-          × Lists links y predecessor
+      listed_by : (y : List ℕ) (ys : List (List ℕ)) → IsWalk (ListsAmong links names) y ys v → (predecessor : List ℕ)
+          × ListsAmong links names y predecessor
       listed_by y [] walk = (v, walk.0)
       listed_by y (z ∷ zs) walk = (z, walk.0.0)
 
   -- a node of the graph that returns to itself is an application on a loop
-  pub loop_found : (k : ℕ) → k < length names → ReturnsTo graph k → OnLoop links (get_or names k [])
-  loop_found k lt (between, walk) = on_ring (Lists links) decide_names (get_or names k [])
+  pub loop_found : (k : ℕ) → k < length names → ReturnsTo graph k → OnRing (ListsAmong links names) (get_or names k [])
+  loop_found k lt (between, walk) = on_ring (ListsAmong links names) decide_names (get_or names k [])
       (names_walk k k between lt walk)
 
   -- an application on a loop is a node that returns to itself
-  pub loop_place : (app : List ℕ) → OnLoop links app → (k : ℕ) × (k < length names) × (get_or names k [] ≡ app)
+  pub loop_place : (app : List ℕ) → OnRing (ListsAmong links names) app → (k : ℕ) × (k < length names) × (get_or names k [] ≡ app)
       × ReturnsTo graph k
   loop_place app on =
-      let back = returns_on_ring (Lists links) decide_names app on in
+      let back = returns_on_ring (ListsAmong links names) decide_names app on in
       let place = first_place back.0 back.1 in
       (place.0, place.1, place.2, places_walk place.0 place.0 app app back.0 place.1 place.1 place.2 place.2 back.1)
     where
-      first_place : (between : List (List ℕ)) → IsWalk (Lists links) app between app → (k : ℕ) × (k < length names)
+      first_place : (between : List (List ℕ)) → IsWalk (ListsAmong links names) app between app → (k : ℕ) × (k < length names)
           × (get_or names k [] ≡ app)
       first_place [] walk = place_of app app walk.0
       first_place (x ∷ between) walk = place_of app x walk.0.0
 
   -- the first node that returns to itself is the least application on a loop
   pub least_found : (k : ℕ) → k < length names → ((j : ℕ) → j < k → ReturnsTo graph j → ⊥) → ReturnsTo graph k
-      → (name : List ℕ) → name ≡ get_or names k [] → IsLeastOnLoop links (Some name)
+      → (name : List ℕ) → name ≡ get_or names k [] → IsLeastAmong links names (Some name)
   least_found k lt none_before returns name at = (
-    subst (OnLoop links) (sym at) (loop_found k lt returns),
+    subst (OnRing (ListsAmong links names)) (sym at) (loop_found k lt returns),
     λ app on greater.
         let place = loop_place app on in
         elim (cases_lt place.0 k) [
           | inl before ↦ none_before place.0 before place.3
           | inr after ↦
-              let at_most = rising_at_most nat_list_cmp_total names are.rising k place.0 [] after place.1 in
+              let at_most = rising_at_most nat_list_cmp_total names rising k place.0 [] after place.1 in
               let is_greater : slice_cmp nat_cmp (get_or names k []) (get_or names place.0 []) ≡ Greater =
               subst (λ x. slice_cmp nat_cmp x (get_or names place.0 []) ≡ Greater) at
               (subst (λ x. slice_cmp nat_cmp name x ≡ Greater) (sym place.2) greater) in
@@ -140,8 +153,80 @@ module _ (links : List Link) (names : List (List ℕ)) (are : AreApplications li
       equal_not_greater e = cc
 
   -- where no node returns to itself, no application stands on a loop
-  pub none_found : ((j : ℕ) → j < length names → ReturnsTo graph j → ⊥) → (app : List ℕ) → OnLoop links app → ⊥
+  pub none_found : ((j : ℕ) → j < length names → ReturnsTo graph j → ⊥) → (app : List ℕ) → OnRing (ListsAmong links names) app → ⊥
   none_found none app on = let place = loop_place app on in none place.0 place.1 place.3
+
+module _ (links : List Link) (names : List (List ℕ)) where
+  among : ((ring : List (List ℕ)) → IsRing (Lists links) ring → All (Contains names) ring) → (app : List ℕ)
+      → OnLoop links app → OnRing (ListsAmong links names) app
+  among within app (ring, is, here) = (
+    ring,
+    record {
+      several = is.several;
+      different = is.different;
+      next = λ k d lt. (within ring is k d (omega arith), is.next k d lt);
+      closes = λ d. (within ring is (length ring - 1) d (omega (arith, is.several)), is.closes d);
+    },
+    here,
+  )
+
+  of_all : (app : List ℕ) → OnRing (ListsAmong links names) app → OnLoop links app
+  of_all app (ring, is, here) = (
+    ring,
+    record {
+      several = is.several;
+      different = is.different;
+      next = λ k d lt. (is.next k d lt).1;
+      closes = λ d. (is.closes d).1;
+    },
+    here,
+  )
+
+  -- where all loops stay among the names, the least on a loop among them is the least on any
+  pub least_of_all : ((ring : List (List ℕ)) → IsRing (Lists links) ring → All (Contains names) ring)
+      → (found : Option (List ℕ)) → IsLeastAmong links names found → IsLeastOnLoop links found
+  least_of_all within None none = λ app on. none app (among within app on)
+  least_of_all within (Some least) (on, first) = (of_all least on, λ app on. first app (among within app on))
+
+  -- an application on a loop has a list
+  pub have_lists : AreApplications links names → (ring : List (List ℕ)) → IsRing (Lists links) ring
+      → All (Contains names) ring
+  have_lists are ring is k d lt = elim (cases_lt (k + 1) (length ring)) [
+    | inl inside ↦ are.all (get_or ring k d) (get_or ring (k + 1) d) (is.next k d inside)
+    | inr last ↦
+        let same : length ring - 1 ≡ k = omega arith in
+        are.all (get_or ring k d) (get_or ring 0 d)
+        (subst (λ n. Lists links (get_or ring n d) (get_or ring 0 d)) same (is.closes d))
+  ]
+
+  -- a loop through the application is among the names that it leads to
+  pub lie_ahead : (app : List ℕ) → LeadNowhereElse links names app → LoopsPass links app → (ring : List (List ℕ))
+      → IsRing (Lists links) ring → All (Contains names) ring
+  lie_ahead app ahead pass ring is k d lt =
+      let same : 0 + k ≡ k = omega arith in
+      subst (λ j. Contains names (get_or ring j d)) same (forth k 0 first (omega arith))
+    where
+      forth : (n i : ℕ) → Contains names (get_or ring i d) → i + n < length ring
+          → Contains names (get_or ring (i + n) d)
+      forth zero i here inside =
+          let same : i ≡ i + zero = omega arith in
+          subst (λ j. Contains names (get_or ring j d)) same here
+      forth (suc n) i here inside =
+          let before = forth n i here (omega arith) in
+          let same : i + n + 1 ≡ i + suc n = omega arith in
+          subst (λ j. Contains names (get_or ring j d)) same
+          (ahead.leads (get_or ring (i + n) d) (get_or ring (i + n + 1) d) before (is.next (i + n) d (omega arith)))
+
+      first : Contains names (get_or ring 0 d)
+      first =
+          let (i, inside, at) = pass ring is in
+          let begins : Contains names (get_or ring i d) =
+          subst (Contains names) (sym at ∙ get_or_default ring i app d inside) ahead.begins in
+          let same : i + (length ring - 1 - i) ≡ length ring - 1 = omega (arith, inside) in
+          let last : Contains names (get_or ring (length ring - 1) d) =
+          subst (λ j. Contains names (get_or ring j d)) same
+          (forth (length ring - 1 - i) i begins (omega (arith, inside))) in
+          ahead.leads (get_or ring (length ring - 1) d) (get_or ring 0 d) last (is.closes d)
 
 -- the applications of the links, as they are found
 pub applications_are : (links : List Link) (apps names : List (List ℕ)) → apps ≡ map (λ (link : Link). link.app) links

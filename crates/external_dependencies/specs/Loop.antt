@@ -34,3 +34,7 @@ pub record AreApplications (links : List Link) (names : List (List ℕ)) : Type 
   pub rising : IsRising (slice_cmp nat_cmp) names
   pub all : (app predecessor : List ℕ) → Lists links app predecessor → Contains names app
   pub only : (app : List ℕ) → Contains names app → (predecessor : List ℕ) × Lists links app predecessor
+
+-- every loop of lists passes the application
+abbrev pub LoopsPass : List Link → List ℕ → Type 0
+LoopsPass links app = (ring : List (List ℕ)) → IsRing (Lists links) ring → Contains ring app

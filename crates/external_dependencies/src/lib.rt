@@ -45,7 +45,7 @@ pub use laws::{
 };
 pub use links::{Link, Links};
 pub use live::{Arrival, Live, arrives_within, nearest};
-pub use loops::find_loop;
+pub use loops::{find_loop, find_loop_through};
 pub use pairs::{Pair, Pairs, resolve_all, resolve_some};
 pub use repair::resolve_touched;
 pub use rows::{PlacedRow, Rows};

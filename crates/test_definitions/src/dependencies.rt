@@ -1,7 +1,7 @@
 use external_dependencies::{
     Followers, Link, Links, Live, Pair, PairChange, Pairs, PlacedRow, Rows, arrival_order,
-    find_loop, link_order, nearest, nearest_arrives_last, nearest_is_unique, pair_order,
-    pairs_depend_on_set, pairs_have_no_loop, resolve_all, rising_is_unique,
+    find_loop, find_loop_through, link_order, nearest, nearest_arrives_last, nearest_is_unique,
+    pair_order, pairs_depend_on_set, pairs_have_no_loop, resolve_all, rising_is_unique,
 };
 use occurrences::{Key, Origin, Place, Reason, Row, Serial, Status};
 use std::alloc::Global;
@@ -68,6 +68,21 @@ fn loops_of_lists(rt: HostRuntime) {
     }
 }
 
+// Where every loop passes one application, the least on a loop is found from there.
+#[test]
+fn loops_through_one_application(rt: HostRuntime) {
+    for (text, name, wanted) in [
+        ("A B; B C; C A; D C", "C", Some("A")),
+        ("A B; B C C; C A B; D D", "B", Some("A")),
+        ("A A; B A", "A", None),
+        ("B C; C D", "B", None),
+    ] {
+        let links = lists(&rt, rt.alloc(), text);
+        let found = find_loop_through(rt.alloc(), &links, &app(&rt, name)).expect(&rt, "memory");
+        assert_eq!(rt; found.as_ref().map(|app| app.as_str()), wanted, "of {text}");
+    }
+}
+
 fn numbered(rt: &impl Abort, alloc: Global, number: u32) -> App {
     let name = format!(in alloc; "A{number}").expect(rt, "memory");
     app(rt, &name)
@@ -95,6 +110,9 @@ fn chain(rt: &impl Abort, alloc: Global) -> Links {
 fn long_chain_has_no_loop(rt: HostRuntime) {
     let links = chain(&rt, rt.alloc());
     assert_eq!(rt; find_loop(rt.alloc(), &links).expect(&rt, "memory"), None);
+    let first = numbered(&rt, rt.alloc(), 0);
+    let found = find_loop_through(rt.alloc(), &links, &first).expect(&rt, "memory");
+    assert_eq!(rt; found, None);
 }
 
 // The links, as `APP PREDECESSOR;`.

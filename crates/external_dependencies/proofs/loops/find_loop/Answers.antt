@@ -1,33 +1,16 @@
-use Rattle.std.proofs.Common.{◌≡◌, ◌<◌, [], length, get_or, subst, arith, ◌∙◌, None, Some}
-use Rattle.std.proofs.lemmas.List.{get_or_default}
-use Rattle.external_dependencies.specs.Falling.{IsLeastReturning}
-use Rattle.external_dependencies.specs.Places.{IsGraphOf}
-use Rattle.external_dependencies.proofs.LoopLemmas.{least_found, none_found}
+use Rattle.std.proofs.Common.{length, subst}
+use Rattle.external_dependencies.specs.Places.{IsLeastAmong}
+use Rattle.external_dependencies.proofs.LoopLemmas.{have_lists, if_ok, least_of_all}
 use Rattle.external_dependencies.proofs.loops.find_loop.Goals as goal
 
--- the first application that returns to itself
-pub returns-in-Some : goal.returns-in-Some
-returns-in-Some c =
-    let links = c.args.links.now in
-    let names = c.in_ok-names.names.items in
-    let graph = c.in_ok-graph.graph in
-    let place = c.in-Some.place in
-    let built : IsGraphOf links names (length names) graph =
-    subst (λ ns. IsGraphOf links ns (length ns) graph) c.deref.ensures.value c.in_ok-graph.ensures in
-    let least : IsLeastReturning graph (Some place) =
-    subst (IsLeastReturning graph) c.in-Some.is c.in_ok-place.ensures in
-    let lt : place < length names = omega (arith, least.0, built.same_length) in
-    let at : c.index.result.now ≡ get_or names place [] =
-    c.index.ensures ∙ get_or_default names place c.index.result.now [] lt in
-    least_found links names c.in_ok-names.ensures graph built place lt least.2 least.1 c.index.result.now at
-
--- no application returns to itself
+-- each application on a loop has a list
 pub returns : goal.returns
 returns c =
     let links = c.args.links.now in
     let names = c.in_ok-names.names.items in
-    let graph = c.in_ok-graph.graph in
-    let built : IsGraphOf links names (length names) graph =
-    subst (λ ns. IsGraphOf links ns (length ns) graph) c.deref.ensures.value c.in_ok-graph.ensures in
-    let none : IsLeastReturning graph None = subst (IsLeastReturning graph) c.in-None.is c.in_ok-place.ensures in
-    none_found links names c.in_ok-names.ensures graph built (λ j lt. none j (omega (arith, built.same_length)))
+    if_ok c.least_among.result (IsLeastAmong links c.deref.result.now) _
+    (λ found least. least_of_all links names (have_lists links names c.in_ok-names.ensures) found
+    (subst (λ ns. IsLeastAmong links ns found) c.deref.ensures.value least)) c.least_among.ensures
+
+pub least_among-requires : goal.least_among-requires
+least_among-requires c = rw (c.deref.ensures.value) c.in_ok-names.ensures.rising
