@@ -1,4 +1,4 @@
-ghost use Rattle.std.specs.Prelude.{◌≡◌, ◌↔◌, Contains, IfOk, IsTrue, map};
+ghost use Rattle.std.specs.Prelude.{◌≡◌, ◌↔◌, ◌++◌, Contains, IfOk, IsTrue, OnOk, map};
 ghost use Rattle.std.specs.Cmp.Lexicographic.{slice_cmp};
 ghost use Rattle.std.specs.FinMap.{IsAntisymmetric};
 ghost use Rattle.std.specs.Ordering.{nat_cmp};
@@ -17,8 +17,8 @@ use std::alloc::{AllocError, Global};
 use work_calendars::App;
 
 /// The applications whose rows hold what a change reaches: those with rows that were made or withdrawn, those whose
-/// lists changed, those whose lists name one with such rows, and all that the lists of these name. Looks at each link
-/// twice.
+/// lists changed, those whose lists name one with such rows, and all that the lists of these name. Looks at each link once,
+/// unless no rows were made or withdrawn.
 pub fn reached_apps(alloc: Global, links: &Links, touch: &Touch) -> Result<Vec<App>, AllocError>
     ensures { IfOk result (λ apps. HasReached touch.now links.now apps.items) }
 {
@@ -27,7 +27,7 @@ pub fn reached_apps(alloc: Global, links: &Links, touch: &Touch) -> Result<Vec<A
     reached.extend_from_slice(&touched)?;
     reached.extend_from_slice(&touch.lists)?;
     let reached = in_order(reached);
-    let mut apps = named_apps(alloc, links.as_slice(), &reached)?;
+    let mut apps = named_apps(alloc, links, &reached)?;
     apps.extend_from_slice(&reached)?;
     Ok(in_order(apps))
 }
@@ -58,6 +58,9 @@ fn naming_apps(alloc: Global, links: &[Link], apps: &[App]) -> Result<Vec<App>, 
         → Contains naming.items link.app) }
 {
     let mut naming = Vec::new(alloc);
+    if apps.is_empty() {
+        return Ok(naming);
+    }
     for link in links {
         if has_app(apps, &link.predecessor) {
             naming.push(link.app)?;
@@ -66,19 +69,28 @@ fn naming_apps(alloc: Global, links: &[Link], apps: &[App]) -> Result<Vec<App>, 
     Ok(naming)
 }
 
-// The applications that the lists of these name, which rise.
-fn named_apps(alloc: Global, links: &[Link], apps: &[App]) -> Result<Vec<App>, AllocError>
-    ensures { IsRising (slice_cmp nat_cmp) apps.now → IfOk result (λ named. (link : LinkValue)
+// The applications that the lists of these name.
+fn named_apps(alloc: Global, links: &Links, apps: &[App]) -> Result<Vec<App>, AllocError>
+    ensures { IfOk result (λ named. (link : LinkValue)
         → Contains links.now link → Contains apps.now link.app
         → Contains named.items link.predecessor) }
 {
     let mut named = Vec::new(alloc);
-    for link in links {
-        if has_app(apps, &link.app) {
-            named.push(link.predecessor)?;
-        }
+    for app in apps {
+        push_named(&mut named, links.list(app))?;
     }
     Ok(named)
+}
+
+// Adds the predecessors of a list.
+fn push_named(named: &mut Vec<App>, list: &[Link]) -> Result<(), AllocError>
+    ensures { OnOk result (named.new.items
+        ≡ named.old.items ++ map (λ (link : LinkValue). link.predecessor) list.now) }
+{
+    for link in list {
+        named.push(link.predecessor)?;
+    }
+    Ok(())
 }
 
 // Whether the application is one of these, which rise.

@@ -19,12 +19,22 @@ pub fn touch_of(
 ) -> Result<Touch, AllocError>
     ensures { IfOk result (IsTouchOf gone.now made.now before.now links.now) }
 {
+    let mut touch = touch_of_rows(alloc, gone, made)?;
+    touch.lists = changed_lists(alloc, before, links)?;
+    Ok(touch)
+}
+
+/// The same where the lists in force stay.
+pub fn touch_of_rows(alloc: Global, gone: &[Row], made: &[Row]) -> Result<Touch, AllocError>
+    ensures { IfOk result (λ touch. (links : List LinkValue)
+        → IsTouchOf gone.now made.now links links touch) }
+{
     Ok(Touch {
         made: Vec::from_slice(alloc, made)?,
         withdrawn: Vec::from_slice(alloc, gone)?,
         opened: Vec::new(alloc),
         closed: Vec::new(alloc),
-        lists: changed_lists(alloc, before, links)?,
+        lists: Vec::new(alloc),
     })
 }
 

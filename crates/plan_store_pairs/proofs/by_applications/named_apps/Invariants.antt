@@ -1,11 +1,8 @@
 use Rattle.std.proofs.Common.{Contains, take}
-use Rattle.std.specs.Cmp.Lexicographic.{slice_cmp}
-use Rattle.std.specs.Ordering.{nat_cmp}
-use Rattle.external_dependencies.specs.Rising.{IsRising}
 use Rattle.external_dependencies.specs.declared.links.Link.{Link}
 use Rattle.plan_store_pairs.proofs.by_applications.named_apps.Given as goal
 
--- of the links so far
-abbrev pub invariant-loop-link : goal.invariant-loop-link
-invariant-loop-link l = IsRising (slice_cmp nat_cmp) l.apps → (link : Link)
-    → Contains (take l.link-index l.links) link → Contains l.apps link.app → Contains l.named.items link.predecessor
+-- of the applications so far
+abbrev pub invariant-loop-app : goal.invariant-loop-app
+invariant-loop-app l = (link : Link) → Contains l.links link → Contains (take l.app-index l.apps) link.app
+    → Contains l.named.items link.predecessor

@@ -59,10 +59,7 @@ returns c = record { touched = of_moved; changed = in_lists; naming = in_naming 
       λ predecessor (within, listed). (c.in_order.ensures.same predecessor).1 (subst (λ xs. Contains xs predecessor) (sym whole)
           (Contains-append_left named reached predecessor
           (c.in_ok-apps.ensures
-          (subst (IsRising (slice_cmp nat_cmp)) (sym c.deref-4.ensures.value) c.in_order-reached.ensures.rising)
-          (record { app = app; predecessor = predecessor; within = within })
-          (subst (λ ls. Contains ls (record { app = app; predecessor = predecessor; within = within })) (sym c.as_slice-2.ensures.all)
-          listed)
+          (record { app = app; predecessor = predecessor; within = within }) listed
           (subst (λ xs. Contains xs app) (sym c.deref-4.ensures.value) there)))),
     )
 

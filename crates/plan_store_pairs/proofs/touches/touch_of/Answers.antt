@@ -1,9 +1,6 @@
 use Rattle.plan_store_pairs.proofs.touches.touch_of.Goals as goal
 
 pub returns : goal.returns
-returns c = record {
-  comes = c.in_ok-from_slice.ensures.items;
-  goes = c.in_ok-from_slice-2.ensures.items;
-  none_opened = c.new.ensures.items;
-  lists = c.in_ok-changed_lists.ensures;
-}
+returns c =
+    let rows = c.in_ok-touch.ensures c.args.before.now in
+    record { comes = rows.comes; goes = rows.goes; none_opened = rows.none_opened; lists = c.in_ok-touch-2.ensures }
