@@ -56,7 +56,7 @@ pub record IsModifying (c : Content) (links : List Link) (only : Option (List �
   pub history : MovesNothing change.history
   pub bounds : change.bounds ≡ None
   pub issued : change.issued ≡ Some (c.sets.issued + length new)
-  pub in_force : change.in_force ≡ Some links
+  pub in_force : unwrap_or change.in_force c.in_force ≡ links
   pub definitions : change.definitions ≡ AsBefore
   pub job : change.job ≡ None
   pub pairs : ArePairs c.pairs links (modified_sets only named new c.sets) (pairs_after change.pairs c.pairs)

@@ -191,7 +191,7 @@ module _ (c : Content) (sound : IsSound c) (b : Bounds) (links : List Link) (new
     cp = is.cp;
     history = is.history;
     deletions = is.deletions.changed;
-    in_force = is.in_force;
+    in_force = ap (λ o. unwrap_or o c.in_force) is.in_force;
     pairs = is.pairs;
     leads = is.leads;
     definitions = is.definitions;
@@ -203,7 +203,7 @@ pub changes_plans : (Makes : MakesOfRows) (Puts : PutsLists) (c : Content) (s : 
     (change : Change) (reply : Reply) → MakesSets c s links change → Makes c.definitions c.sets reply s
     → Puts c.definitions c.in_force links → ChangesPlans Makes Puts c reply (after change c)
 changes_plans Makes Puts c s links change reply is makes puts =
-    let lists : unwrap_or change.in_force c.in_force ≡ links = ap (λ o. unwrap_or o c.in_force) is.in_force in
+    let lists : unwrap_or change.in_force c.in_force ≡ links = is.in_force in
     record {
       rows = subst (λ (x : Sets). Makes c.definitions c.sets reply x) (sym is.sets) makes;
       lists = subst (λ (l : List Link). Puts c.definitions c.in_force l) (sym lists) puts;

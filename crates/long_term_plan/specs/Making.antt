@@ -1,5 +1,5 @@
 -- What statements that make rows of the long-term plan change.
-use Rattle.std.specs.Prelude.{◌≡◌, ◌≢◌, ℕ, suc, ◌+◌, List, [], ◌∷◌, Contains, length, Option, None, Some}
+use Rattle.std.specs.Prelude.{◌≡◌, ◌≢◌, ℕ, suc, ◌+◌, List, [], ◌∷◌, Contains, length, Option, None, Some, unwrap_or}
 use Rattle.app_occurrences.specs.Active.{HasNoCalendar, HasNoPeriod, IsLeastName}
 use Rattle.app_definitions.specs.declared.definitions.Definitions.{Definitions}
 use Rattle.occurrences.specs.declared.place.Place.TheVariants.{LongTerm}
@@ -56,7 +56,7 @@ pub record MakesSets (c : Content) (s : Sets) (links : List Link) (change : Chan
   pub cp : MovesNothing change.cp
   pub history : MovesNothing change.history
   pub deletions : change.deletions.changed.items ≡ []
-  pub in_force : change.in_force ≡ Some links
+  pub in_force : unwrap_or change.in_force c.in_force ≡ links
   pub pairs : ArePairs c.pairs links s (pairs_after change.pairs c.pairs)
   pub leads : LeadsOn c.pairs change.pairs
   pub definitions : change.definitions ≡ AsBefore

@@ -1,5 +1,5 @@
 ghost use Rattle.std.specs.Prelude.{◌≡◌, ◌↔◌, ◌+◌, ◌++◌, ◌≤◌, ℕ, List, length, map, Contains, IfOk, IsTrue};
-ghost use Rattle.std.specs.Prelude.{Option, Some, false};
+ghost use Rattle.std.specs.Prelude.{Option, Some, false, unwrap_or};
 ghost use Rattle.std.specs.List.{filter_map};
 ghost use Rattle.work_calendars.specs.Day.{last_kept_day};
 ghost use Rattle.occurrences.specs.declared.row.Row.{Row as RowValue};
@@ -17,25 +17,25 @@ ghost use Rattle.plan_store.specs.Changes.{LeadsOn, pairs_after};
 ghost use Rattle.plan_store.specs.Verdicts.{VerdictIs};
 ghost use Rattle.plan_store.specs.Views.{HoldsOfSound, HoldsOfAny, IsAny, ListsSet, Shows, ShowsDeleted, shown};
 ghost use Rattle.occurrences.specs.declared.key.Key.{Key as KeyValue};
-ghost use Rattle.plan_store_pairs.specs.Turns.{AreKnownLinks, ArePlanned};
+ghost use Rattle.plan_store_pairs.specs.Turns.{AreKnownLinks, ArePlanned, IsTouchOf};
 ghost use Rattle.long_term_plan.specs.Early.{IsRefusedEarly};
 ghost use Rattle.long_term_plan.specs.Drafting.{DraftsRise};
 ghost use Rattle.long_term_plan.specs.Modifying.{AreAsked, AreModifying, AreOf, AreTooMany, HavePlanned, Looks};
 ghost use Rattle.long_term_plan.specs.Modifying.{ModifiesPlan, ModifiesRows, modified_sets, outcome};
 
 use crate::drafts::{named_drafts, unmet_drafts};
-use crate::lists::{defined_lists, lists_of_one};
+use crate::lists::{defined_lists, lists_of_one, loop_of_one};
 use crate::making::numbered_rows;
 use crate::parting::{Parted, parted_rows, staying_rows};
 use crate::refusals::{lacking_definition, lacking_own_definition};
 use app_definitions::Definitions;
 use app_occurrences::active;
-use external_dependencies::{Links, PairChange, find_loop};
+use external_dependencies::{Links, PairChange, Touch, find_loop};
 use occurrences::{Deletion, GREATEST_SERIAL, Reason, Refusal, Reply, Row};
 use plan_store::{Change, DefinitionChange, Moves, Need, Verdict, View};
 use plan_store_pairs::{
     are_few, live_rows_of, live_rows_with, pair_change, pairs_of_apps, pairs_of_plans,
-    reached_apps, single, touch_of,
+    reached_apps, single, touch_of, touch_of_rows,
 };
 use planner_machine::{Bounds, Draft, MOST_PLANNED_ROWS};
 use std::alloc::{AllocError, Global};
@@ -58,7 +58,7 @@ pub fn modify_all(alloc: Global, view: &View<'_>) -> Result<Verdict, AllocError>
     if let Some(app) = find_loop(alloc, &links)? {
         return Ok(Verdict::Refused(Refusal::Loop { app }));
     }
-    modify(alloc, view, &bounds, &None, links)
+    modify(alloc, view, &bounds, &None, Some(links))
 }
 
 /// `ltp-modify-one`: the same for one application, whose list alone comes into force. Refused where there is no plan
@@ -77,14 +77,14 @@ pub fn modify_one(alloc: Global, view: &View<'_>, app: &App) -> Result<Verdict, 
     if let Some(refusal) = lacking_own_definition(all, app) {
         return Ok(Verdict::Refused(refusal));
     }
-    let links = lists_of_one(alloc, all, view.in_force(), app)?;
-    if let Some(least) = find_loop(alloc, &links)? {
+    let new = lists_of_one(alloc, all, view.in_force(), app)?;
+    if let Some(least) = loop_of_one(alloc, &new, app)? {
         return Ok(Verdict::Refused(Refusal::Loop { app: least }));
     }
     if active(all, app).is_none() {
         return Ok(Verdict::Refused(Refusal::NoActiveApplication));
     }
-    modify(alloc, view, &bounds, &Some(*app), links)
+    modify(alloc, view, &bounds, &Some(*app), new)
 }
 
 /// Why `ltp-modify-all` and `ltp-modify-one` are refused by the bounds, which a window of the definitions shows: there is
@@ -101,18 +101,19 @@ pub fn modify_refusal(view: &View<'_>) -> Option<Refusal>
     }
 }
 
-// The verdict if the statement looks at all applications, or at one, and these lists come into force.
+// The verdict if the statement looks at all applications, or at one, and these lists come into force, or none.
 fn modify(
     alloc: Global,
     view: &View<'_>,
     bounds: &Bounds,
     only: &Option<App>,
-    links: Links,
+    new: Option<Links>,
 ) -> Result<Verdict, AllocError>
-    ensures { IfOk result (λ verdict. HoldsOfSound Need.LongTerm view.now (λ c. AreKnownLinks c links
+    ensures { IfOk result (λ verdict. HoldsOfSound Need.LongTerm view.now
+        (λ c. AreKnownLinks c (unwrap_or new c.in_force)
         → c.sets.bounds ≡ Some bounds.now
         → ((key : KeyValue) → bounds.now.plan_end ≤ key.ia → ShowsDeleted c view.now key)
-        → ModifiesPlan c only.now links verdict)) }
+        → ModifiesPlan c only.now (unwrap_or new c.in_force) verdict)) }
 {
     let all = view.definitions();
     let apps = asked(alloc, all, only)?;
@@ -122,14 +123,14 @@ fn modify(
     let looked = looked_rows(view, only);
     let parted = parted_rows(alloc, looked, only, &named)?;
     let Parted { gone, changed, met } = parted;
-    let new = unmet_drafts(alloc, view, &named, &met)?;
+    let made = unmet_drafts(alloc, view, &named, &met)?;
     drop(met);
-    if are_too_many(view, &gone, &new) {
+    if are_too_many(view, &gone, &made) {
         return Ok(Verdict::Refused(Refusal::TooManyRows));
     }
-    let put = numbered_rows(alloc, view.issued(), &new)?;
-    let pairs = pairs_then(alloc, view, rows, only, named, &gone, &put, &links)?;
-    change_rows(alloc, view, links, pairs, gone, changed, put)
+    let put = numbered_rows(alloc, view.issued(), &made)?;
+    let pairs = pairs_then(alloc, view, rows, only, named, &gone, &put, &new)?;
+    change_rows(alloc, view, new, pairs, gone, changed, put)
 }
 
 // The rows of the long-term plan of the applications that the statement looks at.
@@ -178,18 +179,21 @@ fn pairs_then(
     named: Vec<Draft>,
     gone: &[Row],
     put: &[Row],
-    links: &Links,
+    new: &Option<Links>,
 ) -> Result<PairChange, AllocError>
     ensures { DraftsRise named.items → ListsSet of_row (shown view.now).sets.ltp IsAny rows.now
-        → IfOk result (λ change. HoldsOfSound Need.LongTerm view.now (λ c. AreKnownLinks c links.now
+        → IfOk result (λ change. HoldsOfSound Need.LongTerm view.now
+        (λ c. AreKnownLinks c (unwrap_or new.now c.in_force)
         → (s : Sets)
         → ArePlanned rows.now (filter_map (outcome only.now named.items) rows.now) gone.now put.now
         → HavePlanned c.sets (filter_map (outcome only.now named.items) rows.now ++ put.now) s
-        → ArePairs c.pairs links.now s (pairs_after change c.pairs) × LeadsOn c.pairs change)) }
+        → ArePairs c.pairs (unwrap_or new.now c.in_force) s (pairs_after change c.pairs)
+        × LeadsOn c.pairs change)) }
 {
     let current = view.cp();
     let lasts = view.lasts();
-    let touch = touch_of(alloc, gone, put, view.in_force(), links)?;
+    let links = lists_then(view, new);
+    let touch = touch_then(alloc, view, gone, put, new)?;
     let apps = reached_apps(alloc, links, &touch)?;
     let few = are_few(view, &apps);
     let live = if few {
@@ -206,6 +210,33 @@ fn pairs_then(
         pairs_of_plans(alloc, view)?
     };
     pair_change(alloc, &before, &live, links, &touch)
+}
+
+// The lists in force then.
+fn lists_then<'a>(view: &View<'a>, new: &'a Option<Links>) -> &'a Links
+    ensures { result.now ≡ unwrap_or new.now (shown view.now).in_force }
+{
+    match new {
+        Some(links) => links,
+        None => view.in_force(),
+    }
+}
+
+// What is touched where these rows are removed and made, and these lists come into force, or none.
+fn touch_then(
+    alloc: Global,
+    view: &View<'_>,
+    gone: &[Row],
+    put: &[Row],
+    new: &Option<Links>,
+) -> Result<Touch, AllocError>
+    ensures { IfOk result (IsTouchOf gone.now put.now (shown view.now).in_force
+        (unwrap_or new.now (shown view.now).in_force)) }
+{
+    match new {
+        Some(links) => touch_of(alloc, gone, put, view.in_force(), links),
+        None => touch_of_rows(alloc, gone, put),
+    }
 }
 
 // The rows of the long-term plan then of these applications, of which are all that are made.
@@ -262,7 +293,7 @@ fn asked(alloc: Global, all: &Definitions, only: &Option<App>) -> Result<Vec<App
 fn change_rows(
     alloc: Global,
     view: &View<'_>,
-    links: Links,
+    new: Option<Links>,
     pairs: PairChange,
     gone: Vec<Row>,
     changed: Vec<Row>,
@@ -270,10 +301,12 @@ fn change_rows(
 ) -> Result<Verdict, AllocError>
     requires { (shown view.now).sets.issued + length put.items ≤ GREATEST_SERIAL }
     ensures { IfOk result (λ verdict. HoldsOfAny view.now (λ c. IsSound c
-        → (only : Option (List ℕ)) (named new : List DraftValue)
-        → AreModifying c.sets only named new gone.items changed.items put.items
-        → ArePairs c.pairs links (modified_sets only named new c.sets) (pairs_after pairs c.pairs)
-        → LeadsOn c.pairs pairs → ModifiesRows c links only named new verdict)) }
+        → (only : Option (List ℕ)) (named made : List DraftValue)
+        → AreModifying c.sets only named made gone.items changed.items put.items
+        → ArePairs c.pairs (unwrap_or new c.in_force) (modified_sets only named made c.sets)
+        (pairs_after pairs c.pairs)
+        → LeadsOn c.pairs pairs
+        → ModifiesRows c (unwrap_or new c.in_force) only named made verdict)) }
 {
     let made = put.len();
     let reply = Reply::Made {
@@ -285,7 +318,7 @@ fn change_rows(
         definitions: DefinitionChange::AsBefore,
         bounds: None,
         issued: Some(view.issued() + made as u32),
-        in_force: Some(links),
+        in_force: new,
         ltp: Moves { gone, changed, put },
         cp: Moves::none(alloc),
         history: Moves::none(alloc),

@@ -1,4 +1,5 @@
 use Rattle.std.proofs.Common.{◌≡◌, ◌+◌, ◌∙◌, Some, ap, length, map, refl}
+use Rattle.std.specs.Prelude.{unwrap_or}
 use Rattle.occurrences.specs.declared.reply.Reply.TheVariants.{Made}
 use Rattle.planner_machine.specs.Modify.{withdrawn}
 use Rattle.planner_machine.proofs.SoundLemmas.{rows_sound}
@@ -9,18 +10,18 @@ use Rattle.long_term_plan.proofs.NumberLemmas.{numbered_length}
 use Rattle.long_term_plan.proofs.modification.change_rows.Goals as goal
 
 pub returns : goal.returns
-returns c h sound only named new modifying pairs leads =
+returns c h sound only named made modifying pairs leads =
     let planned = modifying.planned in
     let parts = modifying.parts in
     let put = modifying.come in
     let content = with_hidden h c.args.view.now in
-    let links = c.args.links in
+    let links = unwrap_or c.args.new content.in_force in
     let gone = c.args.gone.items in
     let changed = c.args.changed.items in
     let rows = rows_sound content sound in
-    let made : c.len-made.result ≡ length new =
-    c.len-made.ensures ∙ c.args.put.ok.0 ∙ ap length put ∙ numbered_length content.sets.issued new in (
-      modifying_is content sound links parts.rows parts.lists only named new planned gone changed parts.parts _
+    let count : c.len-made.result ≡ length made =
+    c.len-made.ensures ∙ c.args.put.ok.0 ∙ ap length put ∙ numbered_length content.sets.issued made in (
+      modifying_is content sound links parts.rows parts.lists only named made planned gone changed parts.parts _
           (record {
             gone = refl;
             changed = refl;
@@ -36,15 +37,15 @@ returns c h sound only named new modifying pairs leads =
             };
             bounds = refl;
             issued = ap (λ n. Some (n + c.len-made.result)) c.issued.ensures
-                ∙ ap (λ n. Some (content.sets.issued + n)) made;
+                ∙ ap (λ n. Some (content.sets.issued + n)) count;
             in_force = refl;
             definitions = refl;
             job = refl;
             pairs = pairs;
             leads = leads;
           }),
-      ap (λ n. Made n c.len.result) made
-          ∙ ap (λ n. Made (length new) n)
+      ap (λ n. Made n c.len.result) count
+          ∙ ap (λ n. Made (length made) n)
           (c.len.ensures ∙ c.args.gone.ok.0 ∙ count_gone content.sets rows parts.rows parts.lists only named planned
           gone
           changed parts.parts),

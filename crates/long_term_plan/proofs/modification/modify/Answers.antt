@@ -1,6 +1,6 @@
 use Rattle.std.proofs.Common.{◌≡◌, ◌≢◌, ◌+◌, ◌++◌, ◌∙◌, ℕ, List, ap, arith, filter, length, refl, sym, subst}
 use Rattle.std.proofs.Common.{Bool, Option, Result, Ok, Err}
-use Rattle.std.specs.Prelude.{IfOk, is_none}
+use Rattle.std.specs.Prelude.{IfOk, is_none, unwrap_or}
 use Rattle.std.specs.List.{AllPairs, filter_map}
 use Rattle.std.proofs.lemmas.Bool.{false≢true}
 use Rattle.occurrences.specs.declared.row.Row.{Row}
@@ -60,7 +60,7 @@ returns-then-are_too_many c h sound sees known planned deleted =
     let rows = c.ltp-rows.result.now in
     let looked = c.looked_rows-looked.result.now in
     let named = c.in_ok-named.named.items in
-    let new = c.in_ok-new.new.items in
+    let new = c.in_ok-made.made.items in
     let gone = c.in_ok-parted.parted.gone.items in
     let changed = c.in_ok-parted.parted.changed.items in
     let met = c.in_ok-parted.parted.met.items in
@@ -80,7 +80,7 @@ returns-then-are_too_many c h sound sees known planned deleted =
     let are_new : AreDrafts (IsMade (NamesThen content only) content.sets) new =
     new_are (NamesThen content only) content.sets named new are_named
     (subst (λ (ds : List Draft). AreNew content.sets ds new) c.deref-2.ensures.value
-    (c.in_ok-new.ensures h (λ draft there. deleted draft.key (named_late content sound c.definitions-all.result.now
+    (c.in_ok-made.ensures h (λ draft there. deleted draft.key (named_late content sound c.definitions-all.result.now
     c.definitions-all.ensures c.as_slice.result.now c.args.bounds.now.plan_end _ named c.deref-2.result.now
     c.in_ok-named.ensures c.deref-2.ensures.value draft there)) keys)) in
     let go : gone ≡ filter (λ (r : Row). is_none (outcome only named r)) rows =
@@ -120,7 +120,7 @@ returns c = weaker c.change_rows.result _ _ (λ verdict made h sound sees known 
     let rows = c.ltp-rows.result.now in
     let looked = c.looked_rows-looked.result.now in
     let named = c.in_ok-named.named.items in
-    let new = c.in_ok-new.new.items in
+    let new = c.in_ok-made.made.items in
     let gone = c.in_ok-parted.parted.gone.items in
     let changed = c.in_ok-parted.parted.changed.items in
     let met = c.in_ok-parted.parted.met.items in
@@ -140,7 +140,7 @@ returns c = weaker c.change_rows.result _ _ (λ verdict made h sound sees known 
     let are_new : AreDrafts (IsMade (NamesThen content only) content.sets) new =
     new_are (NamesThen content only) content.sets named new are_named
     (subst (λ (ds : List Draft). AreNew content.sets ds new) c.deref-2.ensures.value
-    (c.in_ok-new.ensures h (λ draft there. deleted draft.key (named_late content sound c.definitions-all.result.now
+    (c.in_ok-made.ensures h (λ draft there. deleted draft.key (named_late content sound c.definitions-all.result.now
     c.definitions-all.ensures c.as_slice.result.now c.args.bounds.now.plan_end _ named c.deref-2.result.now
     c.in_ok-named.ensures c.deref-2.ensures.value draft there)) keys)) in
     let go : gone ≡ filter (λ (r : Row). is_none (outcome only named r)) rows =
@@ -185,7 +185,7 @@ returns c = weaker c.change_rows.result _ _ (λ verdict made h sound sees known 
       are_named = are_named;
       new = new;
       are_new = are_new;
-      outcome = done content c.args.links only named new verdict
+      outcome = done content (unwrap_or c.args.new content.in_force) only named new verdict
           (λ over. false≢true (sym c.if-are_too_many.false ∙ tested.1 (many.1 over)))
           (made h sound only named new (record { planned = kept; parts = parts; come = put }) led.0 led.1);
     }) c.change_rows.ensures

@@ -1,5 +1,5 @@
 use Rattle.std.proofs.Common.{◌≡◌, ◌∙◌, ℕ, true, false, refl, subst, sym, List, Option, None, Some, Result, Ok, Err}
-use Rattle.std.specs.Prelude.{IfNone, IfOk, IfSome, is_some}
+use Rattle.std.specs.Prelude.{IfNone, IfOk, IfSome, is_some, unwrap_or}
 use Rattle.app_occurrences.specs.Active.{IsActive}
 use Rattle.app_definition_records.specs.declared.applications.Application.{Application}
 use Rattle.app_definitions.specs.declared.definitions.Definitions.{Definitions}
@@ -34,11 +34,11 @@ one_active : (all : Definitions) (app : List ℕ) (o : Option Application) → i
 one_active all app None is found = cc
 one_active all app (Some a) is found = (a, found)
 
-puts_in : (app : List ℕ) (all all' : Definitions) (before before' links : List Link) → all ≡ all' → before ≡ before'
-    → PutsOne app all before links → PutsOne app all' before' links
-puts_in app all all' before before' links same same' puts =
-    subst (λ (ds : Definitions). PutsOne app ds before' links) same
-    (subst (λ (ls : List Link). PutsOne app all ls links) same' puts)
+puts_in : (app : List ℕ) (all all' : Definitions) (before before' : List Link) (new : Option (List Link)) → all ≡ all'
+    → before ≡ before' → PutsOne app all before (unwrap_or new before) → PutsOne app all' before' (unwrap_or new before')
+puts_in app all all' before before' new same same' puts =
+    subst (λ (ds : Definitions). PutsOne app ds before' (unwrap_or new before')) same
+    (subst (λ (ls : List Link). PutsOne app all ls (unwrap_or new ls)) same' puts)
 
 pub returns-in-Some-lacking_own_definition : goal.returns-in-Some-lacking_own_definition
 returns-in-Some-lacking_own_definition c content shows sound =
@@ -61,11 +61,14 @@ returns-in-Some-2 c content shows sound =
     subst (λ (all : Definitions). LacksOwnDefinition all app None) c.definitions-all.ensures
     c.in_default-lacking_own_definition.ensures in
     let puts = puts_in app c.definitions-all.result.now view.definitions c.in_force.result.now view.in_force
-    c.in_ok-links.links c.definitions-all.ensures c.in_force.ensures c.in_ok-links.ensures in
-    let least : IsLeastOnLoop c.in_ok-links.links (Some c.in-Some-2.least) =
-    subst (λ (o : Option (List ℕ)). IsLeastOnLoop c.in_ok-links.links o) c.in-Some-2.is c.in_ok-least.ensures in
+    c.in_ok-new.new c.definitions-all.ensures c.in_force.ensures c.in_ok-new.ensures in
+    let links = unwrap_or c.in_ok-new.new view.in_force in
+    let sound_view : IsSound view = subst IsSound (sym (seen_is c.args.view.now content shows.is)) sound in
+    let least : IsLeastOnLoop links (Some c.in-Some-2.least) =
+    subst (λ (o : Option (List ℕ)). IsLeastOnLoop links o) c.in-Some-2.is
+    (c.in_ok-least.ensures view.definitions view.in_force puts sound_view.lists) in
     subst (λ x. VerdictIs (modify_one app) x (Refused (Loop c.in-Some-2.least))) (seen_is c.args.view.now content shows.is)
-    (loops app view c.in-Some.bounds planned defined c.in_ok-links.links puts c.in-Some-2.least least, refl)
+    (loops app view c.in-Some.bounds planned defined links puts c.in-Some-2.least least, refl)
 
 pub returns-then-is_none : goal.returns-then-is_none
 returns-then-is_none c content shows sound =
@@ -76,14 +79,17 @@ returns-then-is_none c content shows sound =
     subst (λ (all : Definitions). LacksOwnDefinition all app None) c.definitions-all.ensures
     c.in_default-lacking_own_definition.ensures in
     let puts = puts_in app c.definitions-all.result.now view.definitions c.in_force.result.now view.in_force
-    c.in_ok-links.links c.definitions-all.ensures c.in_force.ensures c.in_ok-links.ensures in
-    let none : IsLeastOnLoop c.in_ok-links.links None =
-    subst (λ (o : Option (List ℕ)). IsLeastOnLoop c.in_ok-links.links o) c.in_default-2.is c.in_ok-least.ensures in
+    c.in_ok-new.new c.definitions-all.ensures c.in_force.ensures c.in_ok-new.ensures in
+    let links = unwrap_or c.in_ok-new.new view.in_force in
+    let sound_view : IsSound view = subst IsSound (sym (seen_is c.args.view.now content shows.is)) sound in
+    let none : IsLeastOnLoop links None =
+    subst (λ (o : Option (List ℕ)). IsLeastOnLoop links o) c.in_default-2.is
+    (c.in_ok-least.ensures view.definitions view.in_force puts sound_view.lists) in
     let inactive : IsPlannedApp view.definitions app → ⊥ =
     subst (λ (all : Definitions). IsPlannedApp all app → ⊥) c.definitions-all.ensures
     (no_active c.definitions-all.result.now app c.active.result c.if-is_none.ensures c.active.ensures.none) in
     subst (λ x. VerdictIs (modify_one app) x (Refused NoActiveApplication)) (seen_is c.args.view.now content shows.is)
-    (not_active app view c.in-Some.bounds planned defined c.in_ok-links.links puts none inactive, refl)
+    (not_active app view c.in-Some.bounds planned defined links puts none inactive, refl)
 
 pub returns : goal.returns
 returns c = weaker c.modify.result _ _ (λ verdict modifies content shows sound.
@@ -95,16 +101,18 @@ returns c = weaker c.modify.result _ _ (λ verdict modifies content shows sound.
     subst (λ (all : Definitions). LacksOwnDefinition all app None) c.definitions-all.ensures
     c.in_default-lacking_own_definition.ensures in
     let puts = puts_in app c.definitions-all.result.now view.definitions c.in_force.result.now view.in_force
-    c.in_ok-links.links c.definitions-all.ensures c.in_force.ensures c.in_ok-links.ensures in
-    let none : IsLeastOnLoop c.in_ok-links.links None =
-    subst (λ (o : Option (List ℕ)). IsLeastOnLoop c.in_ok-links.links o) c.in_default-2.is c.in_ok-least.ensures in
+    c.in_ok-new.new c.definitions-all.ensures c.in_force.ensures c.in_ok-new.ensures in
+    let links = unwrap_or c.in_ok-new.new view.in_force in
+    let none : IsLeastOnLoop links None =
+    subst (λ (o : Option (List ℕ)). IsLeastOnLoop links o) c.in_default-2.is
+    (c.in_ok-least.ensures view.definitions view.in_force puts sound_view.lists) in
     let active : IsPlannedApp view.definitions app =
     subst (λ (all : Definitions). IsPlannedApp all app) c.definitions-all.ensures
     (one_active c.definitions-all.result.now app c.active.result c.if-is_none.ensures c.active.ensures.found) in
     subst (λ x. VerdictIs (modify_one app) x verdict) (seen_is c.args.view.now content shows.is)
-    (verdict_is app view c.in-Some.bounds planned defined c.in_ok-links.links puts sound_view none active verdict
+    (verdict_is app view c.in-Some.bounds planned defined links puts sound_view none active verdict
     (modifies (hidden_of content) sound_view (sees_plan c.args.view.now content shows)
-    (known_one app view c.in_ok-links.links puts) planned
+    (known_one app view links puts) planned
     (λ key. shows_deleted c.args.view.now content shows key c.in-Some.bounds
     (subst (λ (x : Content). x.sets.bounds ≡ Some c.in-Some.bounds)
     (seen_is c.args.view.now content shows.is) planned))))) c.modify.ensures

@@ -1,5 +1,5 @@
 use Rattle.std.proofs.Common.{◌≡◌, ◌↔◌, ◌++◌, ◌∙◌, ℕ, List, inl, subst, sym, Result, Ok, Err}
-use Rattle.std.specs.Prelude.{IfOk}
+use Rattle.std.specs.Prelude.{IfOk, unwrap_or}
 use Rattle.std.specs.List.{Contains, filter_map}
 use Rattle.occurrences.specs.Place.{IsOpen}
 use Rattle.occurrences.specs.declared.row.Row.{Row}
@@ -9,11 +9,13 @@ use Rattle.external_dependencies.specs.Touch.{MayReach}
 use Rattle.external_dependencies.specs.declared.links.Link.{Link}
 use Rattle.external_dependencies.specs.declared.rows.PlacedRow.{PlacedRow}
 use Rattle.planner_machine.specs.declared.content.Draft.{Draft}
+use Rattle.planner_machine.specs.Pairs.{ArePairs}
 use Rattle.plan_store_lists.specs.Rows.{of_row}
+use Rattle.plan_store.specs.Changes.{LeadsOn, pairs_after}
 use Rattle.plan_store.specs.Views.{IsAny, ListsSet, shown, with_hidden}
 use Rattle.plan_store_pairs.specs.ByApplications.{AreGathered}
 use Rattle.plan_store_pairs.specs.Planned.{IsOpenOfOne}
-use Rattle.plan_store_pairs.specs.Turns.{IsInLists, IsTouchOf}
+use Rattle.plan_store_pairs.specs.Turns.{AreKnownLinks, IsInLists, IsTouchOf}
 use Rattle.long_term_plan.specs.Drafting.{DraftsRise}
 use Rattle.long_term_plan.specs.Modifying.{AreOf, outcome}
 use Rattle.long_term_plan.proofs.HeldLemmas.{app_held, gathered_are, gone_held, held, turn_seen}
@@ -27,7 +29,7 @@ weaker (Ok a) P Q f is = f a is
 weaker (Err e) P Q f is = tt
 
 pub returns : goal.returns
-returns c order lists = weaker c.pair_change.result _ _ (λ change led h sound sees known s plan have.
+returns c order lists = weaker c.pair_change.result _ _ (λ change led h sound sees told s plan have.
     let view = c.args.view.now in
     let content = with_hidden h view in
     let rows = c.args.rows.now in
@@ -36,14 +38,16 @@ returns c order lists = weaker c.pair_change.result _ _ (λ change led h sound s
     let stay = filter_map (outcome only named) rows in
     let gone = c.args.gone.now in
     let put = c.args.put.now in
-    let links = c.args.links.now in
+    let links = c.lists_then-links.result.now in
+    let same : links ≡ unwrap_or c.args.new.now content.in_force = c.lists_then-links.ensures in
+    let known = subst (λ (ls : List Link). AreKnownLinks content ls) (sym same) told in
     let touch = c.in_ok-touch.touch in
     let apps = c.in_ok-apps.apps.items in
     let reached = c.in_ok-apps.ensures in
     let current = c.cp-current.result.now in
     let lasts = c.lasts-lasts.result.now in
     let touches : IsTouchOf gone put content.in_force links touch =
-    subst (λ (was : List Link). IsTouchOf gone put was links touch) c.in_force.ensures c.in_ok-touch.ensures in
+    subst (λ (ls : List Link). IsTouchOf gone put content.in_force ls touch) (sym same) c.in_ok-touch.ensures in
     let to = turn_seen h view sound sees links known rows lists current c.cp-current.ensures.rows lasts
     c.lasts-lasts.ensures s stay gone put have plan touch touches in
     let app_pass = app_held h view sound sees links known rows lists current c.cp-current.ensures.rows lasts
@@ -106,4 +110,6 @@ returns c order lists = weaker c.pair_change.result _ _ (λ change led h sound s
           (λ p. ((λ there. ((listed p).0 there, tt)), λ both. (listed p).1 both.0))
           (λ q there is_open reach. (tt, λ app names. tt)))
     ] in
-    led content.sets s content.in_force to.now h.pairs sound.pairs.settled to.turn holds) c.pair_change.ensures
+    subst (λ (ls : List Link). ArePairs content.pairs ls s (pairs_after change content.pairs)
+    × LeadsOn content.pairs change) same
+    (led content.sets s content.in_force to.now h.pairs sound.pairs.settled to.turn holds)) c.pair_change.ensures
