@@ -177,9 +177,10 @@ fn example_of_plan_tables_writing(rt: HostRuntime) -> Result<(), Fail> {
         rows: Vec::new(alloc),
         offsets: Vec::new(alloc),
     };
-    let (content, mut change) = (Content::new(alloc), Change::none(alloc));
+    let (mut content, mut change) = (Content::new(alloc), Change::none(alloc));
     change.history.put.push(row)?;
-    commit_change(&mut conn, alloc, &content, &[], &moves, &change, b"")?;
+    let staged = content.stage(alloc, change)?;
+    commit_change(&mut conn, alloc, &content, &moves, &staged, b"")?;
     assert_eq!(rt; select(&mut conn, Table::History)?.len(), 1);
     // end of the example
     Ok(())
@@ -198,8 +199,9 @@ fn example_of_plan_tables_constraints(rt: HostRuntime) -> Result<(), Fail> {
     // example of plan_tables_constraints
     // a change that fits the content of the tables, and leaves it sound, breaks none of their constraints
     fitting_changes_are_accepted();
-    let (content, change) = (Content::new(alloc), Change::none(alloc));
-    commit_change(&mut conn, alloc, &content, &[], &moves, &change, b"")?;
+    let mut content = Content::new(alloc);
+    let staged = content.stage(alloc, Change::none(alloc))?;
+    commit_change(&mut conn, alloc, &content, &moves, &staged, b"")?;
     assert!(rt; conn.is_autocommit());
     // end of the example
     Ok(())

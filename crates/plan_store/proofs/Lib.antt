@@ -22,5 +22,6 @@ mod ShownLemmas
 mod SliceLemmas
 mod SomeListing
 pub mod SpanLemmas
+pub mod StagedLemmas
 pub mod ViewLemmas
 pub mod WindowLemmas

@@ -1,7 +1,7 @@
 -- Lists of rows as parts of a set.
 use Rattle.std.proofs.Common.{◌≡◌, ◌≢◌, ◌↔◌, ℕ, zero, suc, ◌+◌, ◌<◌, ◌≤◌, true, false, Bool, List, [], ◌∷◌, length}
 use Rattle.std.proofs.Common.{get_or, refl, sym, ap, ap₂, subst, ◌∙◌, inl, inr, arith, Some, None, Option}
-use Rattle.std.specs.Prelude.{nat_eq, if◌then◌else◌, filter, is_some, IsTrue, MatchOption}
+use Rattle.std.specs.Prelude.{nat_eq, if◌then◌else◌, filter, is_some, MatchOption}
 use Rattle.std.specs.List.{Contains}
 use Rattle.std.specs.declared.cmp.Ordering.TheVariants.{Less, Equal}
 use Rattle.std.proofs.lemmas.Bool.{cases_lt, cases_eq, eq-eqb, ne_eqb}
@@ -9,8 +9,6 @@ use Rattle.std.proofs.lemmas.Cmp.{tied_itself}
 use Rattle.std.proofs.lemmas.List.Kept.{AllPairs-filter}
 use Rattle.plan_store_lists.proofs.KeyLemmas.{contains_filter, filter_contains}
 use Rattle.occurrences.specs.declared.key.Key.{Key}
-use Rattle.occurrences.specs.declared.place.Deletion.{Deletion}
-use Rattle.occurrences.specs.declared.place.Reason.TheVariants.{Operator}
 use Rattle.occurrences.specs.declared.status.Status.TheVariants.{D}
 use Rattle.std.proofs.lemmas.List.Elements.{Contains-get_or}
 use Rattle.occurrences.specs.declared.row.Row.{Row}
@@ -21,8 +19,8 @@ use Rattle.planner_machine.specs.Content.{Seat, Sets, empty_seat, seat}
 use Rattle.planner_machine.specs.Moves.{bit, keep, size}
 use Rattle.planner_machine.specs.Sound.{AreNumbered}
 use Rattle.plan_store_lists.specs.Keyed.{IsKeyed}
-use Rattle.plan_store_lists.specs.Rows.{AreRows, HasEachOnce, OneEach, look_up, of_current, of_deletion, of_row}
-use Rattle.plan_store.specs.Views.{IsAny, IsCurrentRow, IsDeletedKey, IsPlannedRow, ListsSet}
+use Rattle.plan_store_lists.specs.Rows.{AreRows, HasEachOnce, OneEach, look_up, of_current, of_row}
+use Rattle.plan_store.specs.Views.{IsAny, IsCurrentRow, IsPlannedRow, ListsSet}
 use Rattle.plan_store_lists.proofs.LookLemmas.{look_some, look_none, look_lacks, look_has, look_at}
 use Rattle.plan_store.proofs.OrderLemmas.{arrival_total}
 
@@ -189,34 +187,6 @@ module _ (key : Key) where
             (same serial ∙ stands)).0,
         keyed,
       )))
-
-  pub deleted_key : (rows part : List Deletion) → AreRows of_deletion rows
-      → ((deletion : Deletion) → Contains part deletion ↔ (Contains rows deletion × (deletion.row.key ≡ key)))
-      → (answer : Bool) → (IsTrue answer ↔ ((deletion : Deletion) × Contains part deletion
-      × (deletion.reason ≡ Operator))) → (s : Sets)
-      → ((serial : ℕ) → look_up (λ (deletion : Deletion). deletion.row.serial) rows serial ≡ s.deletions serial)
-      → IsTrue answer ↔ IsDeletedKey s key
-  deleted_key rows part are is answer tells s same = (
-    (λ yes.
-        let (deletion, there, reason) = tells.0 yes in
-        let both = (is deletion).0 there in (
-          deletion.row.serial,
-          deletion,
-          sym (same deletion.row.serial)
-              ∙ look_has (λ (deletion : Deletion). deletion.row.serial) rows are.one_each deletion both.0,
-          reason,
-          both.1,
-        )),
-    λ (serial, deletion, stands, reason, keyed). tells.1 (
-      deletion,
-      (is deletion).1 (
-        (look_some (λ (deletion : Deletion). deletion.row.serial) rows serial deletion
-            (same serial ∙ stands)).0,
-        keyed,
-      ),
-      reason,
-    ),
-  )
 
 module _ {X : Type 0} (row_of : X → Row) (p : X → Bool) (xs : List X) (rows : AreRows row_of xs) where
   pub filter_rows : AreRows row_of (filter p xs)

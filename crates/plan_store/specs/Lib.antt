@@ -15,6 +15,7 @@ pub mod Room
 pub mod Parts
 pub mod Slices
 pub mod Spans
+pub mod Staged
 pub mod Stores
 pub mod Verdicts
 pub mod Views

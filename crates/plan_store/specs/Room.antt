@@ -1,5 +1,6 @@
 -- Room for a change.
-use Rattle.std.specs.Prelude.{◌≡◌, ℕ, ◌+◌, ◌≤◌, List, Option, None, length, vec_len, vec_capacity}
+use Rattle.std.specs.Prelude.{◌≡◌, ℕ, ◌+◌, ◌≤◌, List, Option, None, Vec, length, vec_len, vec_capacity}
+use Rattle.std.specs.declared.alloc.Global.{Global}
 use Rattle.app_definitions.specs.declared.definitions.Definitions.{Definitions}
 use Rattle.external_dependencies.specs.declared.pairs.Pair.{Pair}
 use Rattle.planner_machine.specs.Content.{Content}
@@ -8,7 +9,6 @@ use Rattle.plan_store_lists.specs.Rows.{of_current, of_deletion, of_row}
 use Rattle.plan_store_lists.specs.Seats.{HasSeats}
 use Rattle.plan_store.specs.declared.changes.Change.{Change}
 use Rattle.plan_store.specs.declared.contents.Content.{Content as Kept}
-use Rattle.plan_store.specs.declared.room.Room.{Room}
 
 -- the content with these pairs
 abbrev pub with_pairs_of : List Pair → Content → Content
@@ -76,7 +76,7 @@ pub record HasRowRoom (change : Change) (kept : Kept) : Type 0 where
   pub history_seats : HasSeats of_row change.history.put.items kept.seats.items
   pub deletion_seats : HasSeats of_deletion change.deletions.put.items kept.seats.items
 
--- there is room for all that the change puts
-pub record HasRoom (change : Change) (kept : Kept) (room : Room) : Type 0 where
+-- there is room for all that the change puts, for its pairs among those that are taken out
+pub record HasRoom (change : Change) (kept : Kept) (taken : Vec Pair Global) : Type 0 where
   pub rows : HasRowRoom change kept
-  pub pairs : vec_len room.pairs + length change.pairs.added ≤ vec_capacity room.pairs
+  pub pairs : vec_len taken + length change.pairs.added ≤ vec_capacity taken

@@ -7,12 +7,14 @@ use crate::lasts::{fill_lasts, key_of};
 use crate::moving::move_rows;
 use crate::pairs::change_pairs;
 use crate::queries::last_queries_of;
-use crate::room::{Room, grow};
+use crate::redefining::{begin, end, undo};
+use crate::room::grow;
 use crate::slices::arriving_before;
+use crate::staged::Staged;
 use crate::stores::Need;
 use crate::views::View;
 use app_definitions::Definitions;
-use external_dependencies::{Links, Pairs};
+use external_dependencies::{Links, Pair, Pairs};
 use occurrences::{CurrentRow, Deletion, Row};
 use plan_store_lists::{Seat, note_rows};
 use planner_machine::{Bounds, Job};
@@ -60,13 +62,14 @@ pub struct Content {
 
 ghost use Rattle.plan_store_lists.specs.Rows.{AreRows, of_row, of_current, of_deletion};
 ghost use Rattle.planner_machine.specs.Moves.{keep, or_else};
-ghost use Rattle.plan_store.specs.Changes.{redefined};
 ghost use Rattle.plan_store.specs.Jobs.{AreJobs};
 ghost use Rattle.plan_store_lists.specs.Rows.{HasEachOnce};
 ghost use Rattle.plan_store_lists.specs.Seats.{AreSeats, HasSeats};
 ghost use Rattle.plan_store_lists.specs.declared.seats.Seat.{Seat as SeatValue};
 ghost use Rattle.plan_store.specs.declared.changes.Change.{Change as ChangeValue};
-ghost use Rattle.plan_store.specs.declared.room.Room.{Room as RoomValue};
+ghost use Rattle.planner_machine.specs.Content.{Content as ContentValue};
+ghost use Rattle.external_dependencies.specs.Pair.{pair_cmp};
+ghost use Rattle.external_dependencies.specs.Rising.{IsRising};
 
 impl Content {
     ghost use Rattle.plan_store.specs.Changes.{Fits, after};
@@ -78,8 +81,9 @@ impl Content {
     ghost use Rattle.plan_store.specs.Views.{IsPrepared, IsFilled, Shows, TellsSizes, bars, current_serial};
     ghost use Rattle.plan_store.specs.Views.{deletion_serial, row_serial, shown, with_part, with_plans_alone};
     ghost use Rattle.occurrences.specs.declared.row.Row.{Row as RowValue};
-    ghost use Rattle.plan_store.specs.Room.{HasPutSeats, HasRoom, HasRowRoom, HasSame, with_definitions, with_pairs_of};
+    ghost use Rattle.plan_store.specs.Room.{HasPutSeats, HasRoom, HasRowRoom, HasSame, with_pairs_of};
     ghost use Rattle.plan_store.specs.Room.{no_jobs, with_job_set};
+    ghost use Rattle.plan_store.specs.Staged.{IsReady, IsStagedFor};
     ghost use Rattle.plan_store.specs.declared.changes.DefinitionChange.TheVariants.{AsBefore};
 
     /// The content before the first statement.
@@ -232,13 +236,13 @@ impl Content {
         self.jobs.reserve(1)
     }
 
-    /// The first half of a change: room for all that it puts. It takes the pairs out of the content, which `finish` or
-    /// `put_back` puts back. Where memory is refused, the content is as it was.
-    pub fn make_room(&mut self, alloc: Global, change: &Change) -> Result<Room, AllocError>
+    // Makes room for all that the change puts, and takes the pairs out of the content. If memory is refused, the content
+    // is as it was.
+    fn make_room(&mut self, alloc: Global, change: &Change) -> Result<Vec<Pair>, AllocError>
         requires { Fits change.now (content_of self.old) }
-        ensures taken { IfOk result (λ room. (room.pairs.items ≡ (content_of self.old).pairs)
-            × HasRoom change.now
-            self.new room) }
+        ensures taken { IfOk result (λ pairs. (pairs.items ≡ (content_of self.old).pairs)
+            × HasRoom change.now self.new pairs) }
+        ensures rising { IfOk result (λ pairs. IsRising pair_cmp pairs.items) }
         ensures ok { OnOk result (content_of self.new ≡ with_pairs_of [] (content_of self.old)) }
         ensures err { OnErr result (content_of self.new ≡ content_of self.old) }
     {
@@ -246,7 +250,7 @@ impl Content {
         self.reserve(change)?;
         let mut pairs = replace(&mut self.pairs, Pairs::new(alloc)).into_vec();
         match pairs.reserve(change.pairs.added.as_slice().len()) {
-            Ok(()) => Ok(Room { pairs }),
+            Ok(()) => Ok(pairs),
             Err(error) => {
                 self.pairs = Pairs::from_rising(pairs);
                 Err(error)
@@ -254,36 +258,72 @@ impl Content {
         }
     }
 
-    /// Puts the pairs back where the change is not made.
-    pub fn put_back(&mut self, room: Room)
-        ensures { content_of self.new ≡ with_pairs_of room.pairs.items (content_of self.old) }
+    /// Stages a change: makes room for all that it puts, takes the pairs out, and adds the definitions of a block. If
+    /// memory is refused, the content is as it was.
+    pub fn stage(&mut self, alloc: Global, change: Change) -> Result<Staged, AllocError>
+        requires { Fits change (content_of self.old) }
+        ensures ready { IfOk result (IsReady self.new) }
+        ensures staged { IfOk result
+            (IsStagedFor change (content_of self.old) (content_of self.new)) }
+        ensures err { OnErr result (content_of self.new ≡ content_of self.old) }
     {
-        let Room { pairs } = room;
+        let mut rest = change;
+        let definitions = replace(&mut rest.definitions, DefinitionChange::AsBefore);
+        let pairs = self.make_room(alloc, &rest)?;
+        match begin(&mut self.definitions, definitions) {
+            Ok(redefining) => Ok(Staged {
+                rest,
+                pairs,
+                redefining,
+            }),
+            Err(error) => {
+                self.pairs = Pairs::from_rising(pairs);
+                Err(error)
+            }
+        }
+    }
+
+    /// Makes the rest of a change that is staged. It needs no memory.
+    pub fn finish(&mut self, staged: Staged)
+        requires { IsReady self.old staged }
+        ensures { (change : ChangeValue) (before : ContentValue)
+            → IsStagedFor change before (content_of self.old) staged
+            → content_of self.new ≡ after change before }
+    {
+        let Staged {
+            rest,
+            pairs,
+            redefining,
+        } = staged;
+        self.make(rest, pairs);
+        end(&mut self.definitions, redefining);
+    }
+
+    /// Takes back a change that is staged. It needs no memory.
+    pub fn cancel(&mut self, staged: Staged)
+        requires { IsReady self.old staged }
+        ensures { (change : ChangeValue) (before : ContentValue)
+            → IsStagedFor change before (content_of self.old) staged
+            → content_of self.new ≡ before }
+    {
+        let Staged {
+            rest: _,
+            pairs,
+            redefining,
+        } = staged;
+        undo(&mut self.definitions, redefining);
         self.pairs = Pairs::from_rising(pairs);
     }
 
-    /// Changes the definitions; if memory is refused, nothing.
-    pub fn redefine(&mut self, change: DefinitionChange) -> Result<(), AllocError>
-        ensures ok { OnOk result (content_of self.new
-            ≡ with_definitions (redefined change (content_of self.old).definitions)
-            (content_of self.old)) }
-        ensures err { OnErr result (content_of self.new ≡ content_of self.old) }
-        ensures room { (next : ChangeValue) (room : RoomValue)
-            → HasRoom next self.old room → HasRoom next self.new room }
-    {
-        redefine(&mut self.definitions, change)
-    }
-
-    /// The second half of a change: makes it in the room that was made for it, and puts the pairs back. It cannot
-    /// fail. `redefine` has changed the definitions before.
-    pub fn finish(&mut self, room: Room, change: Change)
+    // Makes a change, but that of the definitions, in the room that was made for it, and puts the pairs back.
+    fn make(&mut self, change: Change, taken: Vec<Pair>)
         requires fits { Fits change (content_of self.old) }
-        requires room { HasRoom change self.old room }
+        requires room { HasRoom change self.old taken }
+        requires rising { IsRising pair_cmp taken.items }
         requires defined { change.definitions ≡ AsBefore }
         ensures { content_of self.new
-            ≡ after change (with_pairs_of room.pairs.items (content_of self.old)) }
+            ≡ after change (with_pairs_of taken.items (content_of self.old)) }
     {
-        let Room { mut pairs } = room;
         let Change {
             definitions: _,
             bounds,
@@ -296,6 +336,7 @@ impl Content {
             pairs: moves,
             job,
         } = change;
+        let mut pairs = taken;
         change_pairs(&mut pairs, moves);
         self.pairs = Pairs::from_rising(pairs);
         self.bounds = new_or_old(bounds, self.bounds);
@@ -314,19 +355,9 @@ impl Content {
         ensures ok { OnOk result (content_of self.new ≡ after change (content_of self.old)) }
         ensures err { OnErr result (content_of self.new ≡ content_of self.old) }
     {
-        let mut rest = change;
-        let room = self.make_room(alloc, &rest)?;
-        let definitions = replace(&mut rest.definitions, DefinitionChange::AsBefore);
-        match self.redefine(definitions) {
-            Ok(()) => {
-                self.finish(room, rest);
-                Ok(())
-            }
-            Err(error) => {
-                self.put_back(room);
-                Err(error)
-            }
-        }
+        let staged = self.stage(alloc, change)?;
+        self.finish(staged);
+        Ok(())
     }
 }
 
@@ -350,24 +381,6 @@ fn note_puts(alloc: Global, seats: &mut Vec<Seat>, change: &Change) -> Result<()
     note_rows(alloc, seats, &change.cp.put)?;
     note_rows(alloc, seats, &change.history.put)?;
     note_rows(alloc, seats, &change.deletions.put)
-}
-
-// Makes the change of the definitions; if memory is refused, none.
-fn redefine(definitions: &mut Definitions, change: DefinitionChange) -> Result<(), AllocError>
-    ensures ok { OnOk result (definitions.new ≡ redefined change definitions.old) }
-    ensures err { OnErr result (definitions.new ≡ definitions.old) }
-{
-    match change {
-        DefinitionChange::AsBefore => Ok(()),
-        DefinitionChange::Merged(block) => {
-            definitions.merge(block)?;
-            Ok(())
-        }
-        DefinitionChange::Removed { kind, name } => {
-            definitions.remove(kind, &name);
-            Ok(())
-        }
-    }
 }
 
 // Puts new lists into force, if there are any.

@@ -30,6 +30,7 @@ mod redefining;
 mod room;
 mod slices;
 mod spans;
+mod staged;
 mod stores;
 mod views;
 
@@ -39,8 +40,7 @@ pub use list_store::ListStore;
 pub use listings::{Item, ItemRefused, ItemSink, ListFault, What};
 pub use planner_machine::{Answer, Bounds, Job, JobText};
 pub use queries::{LastQuery, last_queries_of};
-pub use redefining::Redefining;
-pub use room::Room;
 pub use spans::between;
+pub use staged::Staged;
 pub use stores::{Need, PlanStore, StoreFault};
 pub use views::View;

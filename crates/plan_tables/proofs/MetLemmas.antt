@@ -8,13 +8,14 @@ use Rattle.plan_tables_windows.proofs.ChangeLemmas.{change_fits, change_part}
 use Rattle.plan_store.specs.Changes.{Fits, after}
 use Rattle.plan_store.specs.Parts.{IsPartOf, Rest, rest_of}
 use Rattle.plan_store.specs.Room.{no_jobs}
+use Rattle.plan_store.specs.Staged.{jobless}
 use Rattle.plan_store.specs.declared.changes.Change.{Change}
 use Rattle.plan_tables_schema.specs.Rows.{tables_of}
 use Rattle.plan_tables_content.specs.DecodedSets.{AllRepresentSets}
 use Rattle.plan_tables_windows.specs.Fetching.{told_rest}
 use Rattle.plan_tables_opening.specs.Opened.{IsStored}
 use Rattle.plan_tables_writing.specs.declared.redefining.DefinitionMoves.{DefinitionMoves}
-use Rattle.plan_tables.specs.Kept.{CanRead, IsKept, IsMet, jobless, kept_in}
+use Rattle.plan_tables.specs.Kept.{CanRead, IsKept, IsMet, kept_in}
 use Rattle.plan_tables.specs.Representable.{BringMoves}
 use Rattle.plan_tables.proofs.StorableMoves.{told_moves}
 use Rattle.plan_tables.proofs.StoredLemmas.{kept_after, kept_still, told_kept}

@@ -17,6 +17,7 @@ use Rattle.plan_store.specs.Changes.{after, Fits, redefined}
 use Rattle.plan_store.specs.Redefining.{half_redefined}
 use Rattle.plan_store.specs.Parts.{IsPartOf, Rest, rest_of, with_rest}
 use Rattle.plan_store.specs.Room.{with_definitions, with_pairs_of}
+use Rattle.plan_store.specs.Staged.{jobless}
 use Rattle.plan_store.specs.declared.changes.Change.{Change}
 use Rattle.plan_store.specs.declared.changes.DefinitionChange.TheVariants.{AsBefore}
 use Rattle.plan_tables_content.specs.Content.{HaveOneContent, IsContentOf}
@@ -25,7 +26,7 @@ use Rattle.plan_tables_windows.specs.Fetching.{Grows, told_rest, told_with}
 use Rattle.plan_tables_opening.specs.Opened.{IsStored}
 use Rattle.plan_tables_opening.specs.Stored.{AllHaveRowids}
 use Rattle.plan_tables.specs.Found.{Tells}
-use Rattle.plan_tables.specs.Kept.{IsKept, LooksOn, StaysPut, jobless, kept_in}
+use Rattle.plan_tables.specs.Kept.{IsKept, LooksOn, StaysPut, kept_in}
 use Rattle.plan_tables.specs.Stored.{LeavesSound, MayLeave}
 use Rattle.plan_tables_writing.specs.Redefining.{AreMovesOf, definitions_moved, written}
 use Rattle.plan_tables_writing.specs.Writing.{HoldsWritten, IsRepresentableChange}
@@ -52,19 +53,6 @@ written_alike : (c : Content) (a b : Definitions) (moves : DefinitionMoves) (cha
     → written (with_definitions a c) moves change all ≡ written (with_definitions b c) moves change all
 written_alike c a b moves change all same =
     λ i. written (with_definitions (record a { options = same i }) c) moves change all
-
--- what is left, without its job, fits the lists once the definitions are changed and the pairs are out
-pub left_fits : (c : Content) (change : Change) → Fits change c → (left : Change)
-    → left ≡ record change { definitions = AsBefore; job = None } → (d : Content)
-    → d ≡ with_definitions (half_redefined change.definitions c.definitions) (with_pairs_of [] c) → Fits left d
-left_fits c change fits left is_left d is = subst (λ (k : Change). Fits k d) (sym is_left)
-    (subst (λ (k : Content). Fits (record change { definitions = AsBefore; job = None }) k) (sym is) (record {
-      ltp = fits.ltp;
-      cp = fits.cp;
-      history = fits.history;
-      deletions = fits.deletions;
-      job = λ job some. absurd (let no : None ≡ Some job = some in let h : ⊥ = cc no in h);
-    }))
 
 module _ (c : Content) (change : Change) (moves : DefinitionMoves) (fits : Fits change c)
     (are : AreMovesOf change.definitions moves) (told : IsRepresentableChange change) where

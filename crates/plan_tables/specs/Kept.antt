@@ -1,6 +1,6 @@
 -- What a store over tables keeps: history, the deletions and the kept jobs in their tables alone, all else in lists in
 -- memory too, with what was loaded of the rest.
-use Rattle.std.specs.Prelude.{◌≡◌, ◌⊎◌, IsTrue, None}
+use Rattle.std.specs.Prelude.{◌≡◌, ◌⊎◌, IsTrue}
 use Rattle.sqlite.specs.State.{HasCleanDisk, State}
 use Rattle.planner_machine.specs.Content.{Content}
 use Rattle.planner_machine.specs.Sound.{IsSound}
@@ -32,10 +32,6 @@ CanRead s = HasCleanDisk s × IsTrue s.is_open
 abbrev pub StaysPut : State → State → Type 0
 StaysPut old new = IsTrue new.is_open → IsTrue old.is_open
     × ((new.now ≡ old.now) ⊎ (new.now ≡ old.committed)) × (new.committed ≡ old.committed)
-
--- the change without its job, as the lists make it
-abbrev pub jobless : Change → Change
-jobless change = record change { job = None }
 
 -- the database keeps the content of the lists with this rest, and the change with these moves fits it
 pub record IsMet (s : State) (lists : Content) (change : Change) (moves : DefinitionMoves) (rest : Rest) : Type 0 where

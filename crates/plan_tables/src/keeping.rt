@@ -1,17 +1,14 @@
 // The lists and the tables of a content change together.
 
-ghost use Rattle.std.specs.Prelude.{◌≡◌, ◌⊎◌, ◌<◌, ◌^◌, false, [], Some, OnOk, OnErr, IfOk, IfErr, IsTrue, IfSome};
+ghost use Rattle.std.specs.Prelude.{◌≡◌, ◌⊎◌, ◌<◌, ◌^◌, false, Some, OnOk, OnErr, IfErr, IsTrue, IfSome};
 ghost use Rattle.sqlite.specs.State.{HasCleanDisk, IsRolledBack, IsUnchanged, Survives};
 ghost use Rattle.sqlite.specs.Held.{state};
 ghost use Rattle.sqlite_disk.specs.Disk.{MoreFaults};
 ghost use Rattle.plan_tables_schema.specs.Rows.{tables_of};
 ghost use Rattle.planner_machine.specs.declared.job.Job.{Job as JobValue};
-ghost use Rattle.plan_store.specs.Changes.{Fits, after, redefined};
+ghost use Rattle.plan_store.specs.Changes.{Fits, after};
 ghost use Rattle.plan_store.specs.Contents.{content_of};
-ghost use Rattle.plan_store.specs.Redefining.{CanUndo, ended, half_redefined, undone};
 ghost use Rattle.plan_store.specs.Parts.{Rest, with_rest};
-ghost use Rattle.plan_store.specs.Room.{HasRoom, with_definitions, with_pairs_of};
-ghost use Rattle.plan_store.specs.declared.changes.DefinitionChange.TheVariants.{AsBefore};
 ghost use Rattle.plan_store.specs.declared.stores.StoreFault.TheVariants.{Device, Memory};
 ghost use Rattle.plan_tables_content.specs.Content.{answer_text};
 ghost use Rattle.plan_tables_opening.specs.Opened.{IsStored};
@@ -20,15 +17,15 @@ ghost use Rattle.plan_tables_writing.specs.Redefining.{AreStorableMoves};
 ghost use Rattle.plan_tables_writing.specs.Writing.{IsRepresentableChange};
 ghost use Rattle.plan_tables.specs.Causes.{CanAccept, HasFailed, fault_in};
 ghost use Rattle.plan_tables.specs.Found.{Tells};
-ghost use Rattle.plan_tables.specs.Kept.{IsMet, StaysPut, jobless};
+ghost use Rattle.plan_store.specs.Staged.{jobless};
+ghost use Rattle.plan_tables.specs.Kept.{IsMet, StaysPut};
 ghost use Rattle.plan_tables.specs.Whys.{IsWhyOf};
 
-use plan_store::{Change, Content, DefinitionChange, Redefining, Room, StoreFault};
+use plan_store::{Change, Content, StoreFault};
 use plan_tables_lookups::TableFault;
 use plan_tables_writing::{DefinitionMoves, commit_change};
 use sqlite::{Alter, Connection, Error, ErrorCode};
-use std::alloc::{AllocError, Global};
-use std::mem::replace;
+use std::alloc::Global;
 
 /// Why something is not done.
 #[derive(Clone, Copy)]
@@ -119,107 +116,6 @@ pub(crate) fn why_of<S: Alter>(conn: &mut Connection<S>, fault: &TableFault) -> 
     }
 }
 
-// What a change has begun in the lists: room for it, and the change of their definitions.
-#[derive(Drop)]
-struct PendingChange {
-    room: Room,
-    redefining: Redefining,
-}
-
-// A change under way: what it has begun in the lists, and what is left of it.
-#[derive(Drop)]
-struct Underway {
-    begun: PendingChange,
-    rest: Change,
-}
-
-// Makes room in the lists for a change, and begins that of their definitions; if memory is refused, changes nothing.
-fn begin(
-    lists: &mut Content,
-    alloc: Global,
-    change: &Change,
-    definitions: DefinitionChange,
-) -> Result<PendingChange, AllocError>
-    requires { Fits change.now (content_of lists.old) }
-    ensures pairs { IfOk result (λ begun. begun.room.pairs.items ≡ (content_of lists.old).pairs) }
-    ensures room { IfOk result (λ begun. HasRoom change.now lists.new begun.room) }
-    ensures ends { IfOk result (λ begun. ended begun.redefining (content_of lists.new).definitions
-        ≡ redefined definitions (content_of lists.old).definitions) }
-    ensures can_undo { IfOk result (λ begun.
-        CanUndo begun.redefining (content_of lists.new).definitions) }
-    ensures undoes { IfOk result (λ begun.
-        undone begun.redefining (content_of lists.new).definitions
-        ≡ (content_of lists.old).definitions) }
-    ensures ok { OnOk result (content_of lists.new
-        ≡ with_definitions (half_redefined definitions (content_of lists.old).definitions)
-        (with_pairs_of [] (content_of lists.old))) }
-    ensures err { OnErr result (content_of lists.new ≡ content_of lists.old) }
-{
-    let room = lists.make_room(alloc, change)?;
-    match lists.begin_redefining(definitions) {
-        Ok(redefining) => Ok(PendingChange { room, redefining }),
-        Err(error) => {
-            lists.put_back(room);
-            Err(error)
-        }
-    }
-}
-
-// Begins a change in the lists; if memory is refused, changes nothing.
-fn start(lists: &mut Content, alloc: Global, change: Change) -> Result<Underway, AllocError>
-    requires { Fits change (content_of lists.old) }
-    ensures rest { IfOk result (λ underway.
-        underway.rest ≡ record change { definitions = AsBefore }) }
-    ensures pairs { IfOk result (λ underway. underway.begun.room.pairs.items ≡
-        (content_of lists.old).pairs) }
-    ensures room { IfOk result (λ underway. HasRoom underway.rest lists.new underway.begun.room) }
-    ensures ends { IfOk result (λ underway.
-        ended underway.begun.redefining (content_of lists.new).definitions
-        ≡ redefined change.definitions (content_of lists.old).definitions) }
-    ensures can_undo { IfOk result (λ underway.
-        CanUndo underway.begun.redefining (content_of lists.new).definitions) }
-    ensures undoes { IfOk result (λ underway.
-        undone underway.begun.redefining (content_of lists.new).definitions
-        ≡ (content_of lists.old).definitions) }
-    ensures ok { OnOk result (content_of lists.new
-        ≡ with_definitions (half_redefined change.definitions (content_of lists.old).definitions)
-        (with_pairs_of [] (content_of lists.old))) }
-    ensures err { OnErr result (content_of lists.new ≡ content_of lists.old) }
-{
-    let mut rest = change;
-    let definitions = replace(&mut rest.definitions, DefinitionChange::AsBefore);
-    let begun = begin(lists, alloc, &rest, definitions)?;
-    Ok(Underway { begun, rest })
-}
-
-// Rolls back what was begun.
-fn undo(lists: &mut Content, underway: Underway)
-    requires { CanUndo underway.begun.redefining (content_of lists.old).definitions }
-    ensures { content_of lists.new ≡ with_pairs_of underway.begun.room.pairs.items
-        (with_definitions (undone underway.begun.redefining (content_of lists.old).definitions)
-        (content_of lists.old)) }
-{
-    let PendingChange { room, redefining } = underway.begun;
-    lists.undo_redefining(redefining);
-    lists.put_back(room);
-}
-
-// Changes the lists by what is left of the change.
-fn complete(lists: &mut Content, underway: Underway)
-    requires fits { Fits underway.rest (content_of lists.old) }
-    requires room { HasRoom underway.rest lists.old underway.begun.room }
-    requires defined { underway.rest.definitions ≡ AsBefore }
-    ensures { content_of lists.new
-        ≡ with_definitions (ended underway.begun.redefining (content_of lists.old).definitions)
-        (after underway.rest (with_pairs_of underway.begun.room.pairs.items
-        (content_of lists.old))) }
-{
-    let Underway { begun, rest } = underway;
-    let PendingChange { room, redefining } = begun;
-    lists.finish(room, rest);
-    lists.end_redefining(redefining);
-}
-
 /// Makes a change in the lists and in the tables, all of it or nothing, even over a crash; its job in the tables
 /// alone. The line is that of the reply of its job.
 pub(crate) fn change_both<S: Alter>(
@@ -266,19 +162,18 @@ pub(crate) fn change_both<S: Alter>(
         → Tells db (after change (with_rest rest (content_of lists.old)))
         × AllHaveRowids (tables_of db)) }
 {
-    let mut underway = match start(lists, alloc, change) {
-        Ok(underway) => underway,
+    let mut staged = match lists.stage(alloc, change) {
+        Ok(staged) => staged,
         Err(_) => return Err(Unmade::Memory),
     };
-    let pairs = underway.begun.room.pairs();
-    match commit_change(conn, alloc, lists, pairs, moves, &underway.rest, line) {
+    match commit_change(conn, alloc, lists, moves, &staged, line) {
         Ok(()) => {
-            underway.rest.job = None;
-            complete(lists, underway);
+            staged.forget_job();
+            lists.finish(staged);
             Ok(())
         }
         Err(error) => {
-            undo(lists, underway);
+            lists.cancel(staged);
             Err(cause_of(conn, &error))
         }
     }

@@ -3,8 +3,9 @@
 //! ```text
 //! // a change that fits the content of the tables, and leaves it sound, breaks none of their constraints
 //! fitting_changes_are_accepted();
-//! let (content, change) = (Content::new(alloc), Change::none(alloc));
-//! commit_change(&mut conn, alloc, &content, &[], &moves, &change, b"")?;
+//! let mut content = Content::new(alloc);
+//! let staged = content.stage(alloc, Change::none(alloc))?;
+//! commit_change(&mut conn, alloc, &content, &moves, &staged, b"")?;
 //! assert!(rt; conn.is_autocommit());
 //! ```
 #![tactic(auto)]

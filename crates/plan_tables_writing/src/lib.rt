@@ -8,9 +8,10 @@
 //!     rows: Vec::new(alloc),
 //!     offsets: Vec::new(alloc),
 //! };
-//! let (content, mut change) = (Content::new(alloc), Change::none(alloc));
+//! let (mut content, mut change) = (Content::new(alloc), Change::none(alloc));
 //! change.history.put.push(row)?;
-//! commit_change(&mut conn, alloc, &content, &[], &moves, &change, b"")?;
+//! let staged = content.stage(alloc, change)?;
+//! commit_change(&mut conn, alloc, &content, &moves, &staged, b"")?;
 //! assert_eq!(rt; select(&mut conn, Table::History)?.len(), 1);
 //! ```
 #![tactic(auto)]

@@ -2,7 +2,7 @@ use Rattle.std.proofs.Common.{◌∙◌, ap, sym}
 use Rattle.plan_store_lists.specs.Rows.{of_current, of_deletion, of_row}
 use Rattle.plan_store.specs.Changes.{redefined}
 use Rattle.plan_store.proofs.SeatedLemmas.{seats_after}
-use Rattle.plan_store.proofs.contents.Content.finish.Goals as goal
+use Rattle.plan_store.proofs.contents.Content.make.Goals as goal
 
 pub invariant_of-self : goal.invariant_of-self
 invariant_of-self c =
