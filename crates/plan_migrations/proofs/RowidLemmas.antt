@@ -25,7 +25,6 @@ use Rattle.plan_migrations_remaking.specs.declared.rows.FirstRows.{FirstRows}
 use Rattle.plan_tables_opening.specs.Foreign.{RefusesToShow}
 use Rattle.plan_tables_opening.specs.Rowids.{rowid_shown, rowid_sql, rowid_terms}
 use Rattle.plan_tables_opening.proofs.RowidTexts.{rowid_name, rowids}
-use Rattle.plan_migrations.specs.Asking.{IsFailure}
 use Rattle.plan_migrations.specs.Migrating.{AreRead, ChecksAllRowids, ChecksRowids, HaveOtherRowids, IsUnrenewed}
 use Rattle.plan_migrations.specs.declared.faults.MigrateFault.{MigrateFault}
 use Rattle.plan_migrations.specs.declared.faults.MigrateFault.TheVariants.{UnknownVersion, OtherTable, Rows, Memory, Device}
@@ -69,15 +68,6 @@ module _ (t : Table) (old new : State) (other : is_changed t ≡ false) (has : H
     tells,
     shown.fails old.now.schema (rowid_sql t) (has.trees t) rowid_terms (rowid_name t ∷ []) means old new e refl fails,
   )
-
--- or it fails
-pub failed_rowids : (t : Table) (old new : State) (f : MigrateFault) → IsFailure (rowid_sql t) old new f
-    → ChecksRowids old new t (Err f)
-failed_rowids t old new Memory h = h
-failed_rowids t old new Device h = h
-failed_rowids t old new UnknownVersion h = h
-failed_rowids t old new OtherTable h = absurd h
-failed_rowids t old new Rows h = absurd h
 
 -- ---- one after the other
 

@@ -70,14 +70,13 @@ fn read_table<S: Alter>(conn: &mut Connection<S>, table: Table) -> Result<FirstR
     ensures mode { conn.new.in_transaction ≡ false }
     ensures crash { Survives (state S.Store conn.old) (state S.Store conn.new) (λ _. ⊥) }
 {
-    match ask(conn, first_select_text(table)) {
-        Ok(Some(rows)) => if are_first(table, &rows) {
+    match ask(conn, first_select_text(table))? {
+        Some(rows) => if are_first(table, &rows) {
             Ok(FirstRows { table, rows })
         } else {
             Err(MigrateFault::OtherTable)
         },
-        Ok(None) => Err(MigrateFault::OtherTable),
-        Err(fault) => Err(fault),
+        None => Err(MigrateFault::OtherTable),
     }
 }
 
@@ -106,12 +105,10 @@ pub(crate) fn read_tables<S: Alter>(
 {
     let mut reads = Vec::new(alloc);
     for table in tables {
-        match read_table(conn, *table) {
-            Ok(read) => match reads.push(read) {
-                Ok(()) => {}
-                Err(_) => return Err(MigrateFault::Memory),
-            },
-            Err(fault) => return Err(fault),
+        let read = read_table(conn, *table)?;
+        match reads.push(read) {
+            Ok(()) => {}
+            Err(_) => return Err(MigrateFault::Memory),
         }
     }
     Ok(reads)

@@ -78,13 +78,9 @@ fn read_first<S: Alter>(
 {
     // its clause says that an open connection has a database
     let _ = conn.schema();
-    match read_tables(alloc, conn, &TABLES) {
-        Ok(reads) => match check_rowids(conn, &TABLES) {
-            Ok(()) => Ok(reads),
-            Err(fault) => Err(fault),
-        },
-        Err(fault) => Err(fault),
-    }
+    let reads = read_tables(alloc, conn, &TABLES)?;
+    check_rowids(conn, &TABLES)?;
+    Ok(reads)
 }
 
 // The same with the rows that the tables have, if their content is sound.
@@ -107,13 +103,9 @@ fn renew_first<S: Alter>(alloc: Global, conn: &mut Connection<S>) -> Result<(), 
 {
     // its clause says that an open connection has a database
     let _ = conn.schema();
-    match read_first(alloc, conn) {
-        Ok(reads) => match check_content(alloc, &reads) {
-            Ok(()) => remake(alloc, conn, &reads),
-            Err(fault) => Err(fault),
-        },
-        Err(fault) => Err(fault),
-    }
+    let reads = read_first(alloc, conn)?;
+    check_content(alloc, &reads)?;
+    remake(alloc, conn, &reads)
 }
 
 /// Makes the tables of schema 1 those of the current schema, with their rows, all of them or none, where their content

@@ -92,10 +92,7 @@ pub(crate) fn check_rowids<S: Alter>(
     ensures crash { Survives (state S.Store conn.old) (state S.Store conn.new) (λ _. ⊥) }
 {
     for table in tables {
-        match check_table(conn, *table) {
-            Ok(()) => {}
-            Err(fault) => return Err(fault),
-        }
+        check_table(conn, *table)?;
     }
     Ok(())
 }

@@ -22,14 +22,13 @@ fn check_table<S: Alter>(conn: &mut Connection<S>, table: &Table) -> Result<(), 
     ensures mode { conn.new.in_transaction ≡ false }
     ensures crash { Survives (state S.Store conn.old) (state S.Store conn.new) (λ _. ⊥) }
 {
-    match ask(conn, select_text(*table)) {
-        Ok(Some(rows)) => if are_typed(*table, &rows) {
+    match ask(conn, select_text(*table))? {
+        Some(rows) => if are_typed(*table, &rows) {
             Ok(())
         } else {
             Err(MigrateFault::OtherTable)
         },
-        Ok(None) => Err(MigrateFault::OtherTable),
-        Err(fault) => Err(fault),
+        None => Err(MigrateFault::OtherTable),
     }
 }
 
@@ -49,10 +48,7 @@ pub(crate) fn check_tables<S: Alter>(
     ensures crash { Survives (state S.Store conn.old) (state S.Store conn.new) (λ _. ⊥) }
 {
     for table in tables {
-        match check_table(conn, table) {
-            Ok(()) => {}
-            Err(fault) => return Err(fault),
-        }
+        check_table(conn, table)?;
     }
     Ok(())
 }

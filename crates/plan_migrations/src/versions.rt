@@ -44,16 +44,15 @@ fn shown_version<S: Alter>(conn: &mut Connection<S>) -> Result<Option<u32>, Migr
     ensures mode { conn.new.in_transaction ≡ false }
     ensures crash { Survives (state S.Store conn.old) (state S.Store conn.new) (λ _. ⊥) }
 {
-    match ask(conn, version_text()) {
-        Ok(Some(rows)) => if is_known(&rows) {
+    match ask(conn, version_text())? {
+        Some(rows) => if is_known(&rows) {
             Ok(Some(SCHEMA_VERSION))
         } else if is_first(&rows) {
             Ok(Some(FIRST_VERSION))
         } else {
             Err(MigrateFault::UnknownVersion)
         },
-        Ok(None) => Ok(None),
-        Err(fault) => Err(fault),
+        None => Ok(None),
     }
 }
 
