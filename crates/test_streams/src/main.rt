@@ -117,7 +117,7 @@ fn go_on<R: AllocGlobal + Print>(
     match stream.stores {
         Stores::Stops => stop_one(rt, name, text, replies),
         Stores::Migrated => {
-            Ok(stop_one(rt, name, text, replies)? && migrate_one(rt, name, text, replies)?)
+            Ok(migrate_one(rt, name, text, replies)? && stop_one(rt, name, text, replies)?)
         }
         Stores::Lists | Stores::Both => {
             println!(rt; "{name} holds")?;
