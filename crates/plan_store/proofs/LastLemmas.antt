@@ -172,26 +172,43 @@ lasts_more history old new done query has adds = record {
   ];
 }
 
--- what was filled in where memory was not refused
-pub has_asked : {T E : Type 0} (need : Need) (kept : Kept) (queries : List LastQuery) (r : Result T E)
+-- the last rows of queries that ask for what is read are those that are read
+pub lasts_asked : (Asked : List ℕ → ℕ → Type 0) (history shown : ℕ → Option Row) (queries : List LastQuery)
+    → ((app : List ℕ) (minute : ℕ) → Asked app minute → IsQueriedIn queries app minute)
+    → ((query : LastQuery) → Contains queries query → Asked query.app (query.moment + 1))
+    → HasLasts (IsQueriedIn queries) history shown → HasLasts Asked history shown
+lasts_asked Asked history shown queries found only has = record {
+  only = λ serial row at.
+      let (there, (app, minute, (query, among, is_app, is_minute), last)) = has.only serial row at in
+      let asked : Asked app minute =
+      subst (λ a. Asked a minute) is_app (subst (Asked query.app) (sym is_minute) (only query among)) in
+      (there, (app, minute, asked, last));
+  lasts = λ app minute asked. has.lasts app minute (found app minute asked);
+}
+
+-- so what was filled in is what a need needs
+pub prepared : (need : Need) (kept : Kept) (lasts : List Row) (queries : List LastQuery)
     → ((app : List ℕ) (minute : ℕ) → Asks need (content_of kept) app minute → IsQueriedIn queries app minute)
     → ((query : LastQuery) → Contains queries query → Asks need (content_of kept) query.app (query.moment + 1))
-    → kept.buffer.key ≡ key_of need → OnOk r (AreRows of_row kept.buffer.lasts.items)
-    → OnOk r (HasLasts (IsQueriedIn queries) (content_of kept).sets.history
-    (look_up row_serial kept.buffer.lasts.items)) → OnOk r (IsPrepared need kept)
-has_asked need kept queries (Err e) found only key rows has = tt
-has_asked need kept queries (Ok t) found only key rows has = record {
+    → kept.buffer.key ≡ key_of need → AreRows of_row lasts
+    → HasLasts (IsQueriedIn queries) (content_of kept).sets.history (look_up row_serial lasts)
+    → IsPrepared need lasts kept
+prepared need kept lasts queries found only key rows has = record {
   key = key;
   rows = rows;
   part = λ row there. (look_some row_serial kept.history.items row.serial row
-      (has.only row.serial row (look_has row_serial kept.buffer.lasts.items rows.one_each row there)).0).0;
-  lasts = record {
-    only = λ serial row shown.
-        let (there, (app, minute, (query, among, is_app, is_minute), last)) = has.only serial row shown in
-        let asked : Asks need (content_of kept) app minute =
-        subst (λ a. Asks need (content_of kept) a minute) is_app
-        (subst (Asks need (content_of kept) query.app) (sym is_minute) (only query among)) in
-        (there, (app, minute, asked, last));
-    lasts = λ app minute asked. has.lasts app minute (found app minute asked);
-  };
+      (has.only row.serial row (look_has row_serial lasts rows.one_each row there)).0).0;
+  lasts = lasts_asked (Asks need (content_of kept)) (content_of kept).sets.history (look_up row_serial lasts) queries
+      found only has;
 }
+
+-- where memory was not refused
+pub has_asked : {T E : Type 0} (need : Need) (kept : Kept) (lasts : List Row) (queries : List LastQuery) (r : Result T E)
+    → ((app : List ℕ) (minute : ℕ) → Asks need (content_of kept) app minute → IsQueriedIn queries app minute)
+    → ((query : LastQuery) → Contains queries query → Asks need (content_of kept) query.app (query.moment + 1))
+    → kept.buffer.key ≡ key_of need → OnOk r (AreRows of_row lasts)
+    → OnOk r (HasLasts (IsQueriedIn queries) (content_of kept).sets.history (look_up row_serial lasts))
+    → OnOk r (IsPrepared need lasts kept)
+has_asked need kept lasts queries (Err e) found only key rows has = tt
+has_asked need kept lasts queries (Ok t) found only key rows has =
+    prepared need kept lasts queries found only key rows has

@@ -3,6 +3,7 @@ mod AppPairLemmas
 mod ArrivalLemmas
 mod ReadLemmas
 pub mod EndLemmas
+mod KeptLastLemmas
 mod LackLemmas
 pub mod FitLemmas
 mod FittingLemmas

@@ -153,10 +153,10 @@ module _ (c : Content) (numbered : AreNumbered c.sets) (own : HaveOwnKeys c.sets
       subst (λ n. shown n ≡ Some row) one (subst (λ x. shown r.serial ≡ Some x) is is_shown)
 
 -- a window that has the rows of history that were asked for, and all of history, shows what the need names
-module _ (need : Need) (view : View) (kept : Kept) (whole : view.content.now ≡ kept) (asked : IsPrepared need kept)
-    (history : view.history.now ≡ kept.history.items) where
-  shows_lasts : shown view ≡ named need (look_up row_serial kept.buffer.lasts.items) (content_of kept)
-      → (shown view).sets.history ≡ look_up row_serial kept.buffer.lasts.items
+module _ (need : Need) (view : View) (kept : Kept) (lasts : List Row) (whole : view.content.now ≡ kept)
+    (asked : IsPrepared need lasts kept) (history : view.history.now ≡ kept.history.items) where
+  shows_lasts : shown view ≡ named need (look_up row_serial lasts) (content_of kept)
+      → (shown view).sets.history ≡ look_up row_serial lasts
       → (AreNumbered (content_of kept).sets → HaveOwnKeys (content_of kept).sets
       → ShowsLive (key_of need) (content_of kept).sets.history view) → Shows need view (content_of kept)
   shows_lasts is lasts_are live = record {
@@ -167,28 +167,27 @@ module _ (need : Need) (view : View) (kept : Kept) (whole : view.content.now ≡
     sizes = tells_sizes (rest_of (content_of kept)) view kept whole;
   }
 
-pub shows_key : (key : KeyValue) (view : View) (kept : Kept) → view.content.now ≡ kept → IsPrepared (Key key) kept
-    → view.history.now ≡ kept.history.items
-    → shown view ≡ with_part kept.buffer.key (look_up row_serial kept.buffer.lasts.items) (λ _. None) (content_of kept)
+pub shows_key : (key : KeyValue) (view : View) (kept : Kept) (lasts : List Row) → view.content.now ≡ kept
+    → IsPrepared (Key key) lasts kept → view.history.now ≡ kept.history.items
+    → shown view ≡ with_part kept.buffer.key (look_up row_serial lasts) (λ _. None) (content_of kept)
     → Shows (Key key) view (content_of kept)
-shows_key key view kept whole asked history is =
+shows_key key view kept lasts whole asked history is =
     let c = content_of kept in
-    let lasts_are : (shown view).sets.history ≡ look_up row_serial kept.buffer.lasts.items =
-    ap (λ (x : Content). x.sets.history) is in
-    let lasts = subst (HasLasts (ReadsKey c key) c.sets.history) (sym lasts_are) asked.lasts in
-    shows_lasts (Key key) view kept whole asked history
-    (is ∙ ap (λ (k : Option KeyValue). with_part k (look_up row_serial kept.buffer.lasts.items) (λ _. None) c) asked.key)
+    let lasts_are : (shown view).sets.history ≡ look_up row_serial lasts = ap (λ (x : Content). x.sets.history) is in
+    let has = subst (HasLasts (ReadsKey c key) c.sets.history) (sym lasts_are) asked.lasts in
+    shows_lasts (Key key) view kept lasts whole asked history
+    (is ∙ ap (λ (k : Option KeyValue). with_part k (look_up row_serial lasts) (λ _. None) c) asked.key)
     lasts_are (λ numbered own serial row stands same.
-    live_is_last c numbered own key (shown view).sets.history lasts serial row stands (let is : key ≡ row.key = cc in is))
+    live_is_last c numbered own key (shown view).sets.history has serial row stands (let is : key ≡ row.key = cc in is))
 
 -- a window of the long-term plan has all deletions, and shows those that keep keys from being made
-pub shows_plan : (view : View) (kept : Kept) → view.content.now ≡ kept → IsPrepared LongTerm kept
-    → view.history.now ≡ kept.history.items
-    → shown view ≡ with_part kept.buffer.key (look_up row_serial kept.buffer.lasts.items)
+pub shows_plan : (view : View) (kept : Kept) (lasts : List Row) → view.content.now ≡ kept
+    → IsPrepared LongTerm lasts kept → view.history.now ≡ kept.history.items
+    → shown view ≡ with_part kept.buffer.key (look_up row_serial lasts)
     (λ serial. keep (bars kept.bounds) (look_up deletion_serial kept.deletions.items serial)) (content_of kept)
     → Shows LongTerm view (content_of kept)
-shows_plan view kept whole asked history is = shows_lasts LongTerm view kept whole asked history
-    (is ∙ ap (λ (k : Option KeyValue). with_part k (look_up row_serial kept.buffer.lasts.items)
+shows_plan view kept lasts whole asked history is = shows_lasts LongTerm view kept lasts whole asked history
+    (is ∙ ap (λ (k : Option KeyValue). with_part k (look_up row_serial lasts)
     (λ serial. keep (bars kept.bounds) (look_up deletion_serial kept.deletions.items serial)) (content_of kept)) asked.key)
     (ap (λ (x : Content). x.sets.history) is)
     (λ _ _ serial row _ same. absurd (let no : None ≡ Some row.key = same in cc))

@@ -113,6 +113,14 @@ pub record MovesNothing {X : Type 0} (moves : Moves X) : Type 0 where
   pub changed : moves.changed.items ≡ []
   pub put : moves.put.items ≡ []
 
+-- it leaves the bounds, the lists in force, the current plan and history, so of all that a statement on the long-term
+-- plan reads of history only the definitions may change
+pub record KeepsReads (change : Change) : Type 0 where
+  pub bounds : change.bounds ≡ None
+  pub in_force : change.in_force ≡ None
+  pub cp : MovesNothing change.cp
+  pub history : MovesNothing change.history
+
 -- nothing changes
 pub record ChangesNothing (change : Change) : Type 0 where
   pub definitions : change.definitions ≡ AsBefore

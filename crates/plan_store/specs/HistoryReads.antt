@@ -1,15 +1,17 @@
 -- What a statement reads of history: of an application the row that arrives last at a moment or before it, which is
 -- before the next minute.
-use Rattle.std.specs.Prelude.{◌≡◌, ◌≢◌, ◌⊎◌, ℕ, ◌+◌, ◌<◌, ◌≤◌, List, Option, Some}
+use Rattle.std.specs.Prelude.{◌≡◌, ◌≢◌, ◌⊎◌, ℕ, ◌+◌, ◌<◌, ◌≤◌, List, [], Option, None, Some}
 use Rattle.app_definitions.specs.declared.definitions.Definitions.{Definitions}
 use Rattle.occurrences.specs.declared.key.Key.{Key}
 use Rattle.occurrences.specs.declared.place.CurrentRow.{CurrentRow}
 use Rattle.occurrences.specs.declared.row.Row.{Row}
 use Rattle.occurrences.specs.declared.status.Status.TheVariants.{D, W}
 use Rattle.external_dependencies.specs.Link.{Lists}
+use Rattle.external_dependencies.specs.declared.links.Link.{Link}
 use Rattle.planner_machine.specs.Content.{Content, Sets}
 use Rattle.planner_machine.specs.InForce.{IsDefinedLink}
 use Rattle.planner_machine.specs.declared.content.Bounds.{Bounds}
+use Rattle.plan_store_lists.specs.Rows.{AreRows, look_up, of_row}
 
 -- the first arrives earlier, or at the same moment under no greater serial
 abbrev pub IsNoLater : Row → Row → Type 0
@@ -75,3 +77,29 @@ pub record HasLasts (Asked : List ℕ → ℕ → Type 0) (history shown : ℕ �
   pub only : (serial : ℕ) (row : Row) → shown serial ≡ Some row → (history serial ≡ Some row)
       × ((app : List ℕ) × (minute : ℕ) × Asked app minute × IsLastOf history app minute row)
   pub lasts : (app : List ℕ) (minute : ℕ) → Asked app minute → HasLast history shown app minute
+
+-- what a statement on the long-term plan reads depends on these alone: the definitions, the bounds, the lists in force
+-- and the current plan
+abbrev pub ReadsPlanOf : Definitions → Option Bounds → List Link → (ℕ → Option CurrentRow) → List ℕ → ℕ → Type 0
+ReadsPlanOf definitions bounds in_force cp = ReadsPlan (record {
+  definitions = definitions;
+  sets = record {
+    bounds = bounds;
+    issued = 0;
+    ltp = λ _. None;
+    cp = cp;
+    history = λ _. None;
+    deletions = λ _. None;
+  };
+  in_force = in_force;
+  pairs = [];
+  jobs = λ _. None;
+})
+
+-- where these rows are in history, exactly those of them are at hand that it reads
+pub record HasPlanLasts (definitions : Definitions) (bounds : Option Bounds) (in_force : List Link) (cp : List CurrentRow)
+    (history found : List Row) : Type 0 where
+  pub rows : AreRows of_row found
+  pub lasts : ∥ HasLasts
+      (ReadsPlanOf definitions bounds in_force (look_up (λ (current : CurrentRow). current.row.serial) cp))
+      (look_up (λ (row : Row). row.serial) history) (look_up (λ (row : Row). row.serial) found) ∥₁

@@ -2,8 +2,10 @@
 use Rattle.std.specs.Prelude.{◌≡◌, ℕ, ◌+◌, ◌≤◌, List, Option, None, Vec, length, vec_len, vec_capacity}
 use Rattle.std.specs.declared.alloc.Global.{Global}
 use Rattle.app_definitions.specs.declared.definitions.Definitions.{Definitions}
+use Rattle.external_dependencies.specs.declared.links.Link.{Link}
 use Rattle.external_dependencies.specs.declared.pairs.Pair.{Pair}
 use Rattle.planner_machine.specs.Content.{Content}
+use Rattle.planner_machine.specs.declared.content.Bounds.{Bounds}
 use Rattle.planner_machine.specs.declared.job.Job.{Job}
 use Rattle.plan_store_lists.specs.Rows.{of_current, of_deletion, of_row}
 use Rattle.plan_store_lists.specs.Seats.{HasSeats}
@@ -26,6 +28,33 @@ with_definitions definitions c = record {
   definitions = definitions;
   sets = c.sets;
   in_force = c.in_force;
+  pairs = c.pairs;
+  jobs = c.jobs;
+}
+
+-- the content with these bounds
+abbrev pub with_bounds_of : Option Bounds → Content → Content
+with_bounds_of bounds c = record {
+  definitions = c.definitions;
+  sets = record {
+    bounds = bounds;
+    issued = c.sets.issued;
+    ltp = c.sets.ltp;
+    cp = c.sets.cp;
+    history = c.sets.history;
+    deletions = c.sets.deletions;
+  };
+  in_force = c.in_force;
+  pairs = c.pairs;
+  jobs = c.jobs;
+}
+
+-- the content with these lists in force
+abbrev pub with_in_force : List Link → Content → Content
+with_in_force links c = record {
+  definitions = c.definitions;
+  sets = c.sets;
+  in_force = links;
   pairs = c.pairs;
   jobs = c.jobs;
 }

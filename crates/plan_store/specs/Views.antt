@@ -264,18 +264,17 @@ abbrev pub HoldsOfPairs : View → (Content → Type 0) → Type 0
 HoldsOfPairs view Is = (h : Hidden) → AreNumbered (with_hidden h view).sets → HasPredecessors h.history view
     → Is (with_hidden h view)
 
--- what a window for the need shows that is no part of a list was prepared
-pub record IsPrepared (need : Need) (kept : Kept) : Type 0 where
+-- what a window for the need shows that is no part of a list was prepared, of history these rows
+pub record IsPrepared (need : Need) (found : List Row) (kept : Kept) : Type 0 where
   pub key : kept.buffer.key ≡ key_of need
-  pub rows : AreRows of_row kept.buffer.lasts.items
-  pub part : (row : Row) → Contains kept.buffer.lasts.items row → Contains kept.history.items row
-  pub lasts : HasLasts (Asks need (content_of kept)) (content_of kept).sets.history
-      (look_up row_serial kept.buffer.lasts.items)
+  pub rows : AreRows of_row found
+  pub part : (row : Row) → Contains found row → Contains kept.history.items row
+  pub lasts : HasLasts (Asks need (content_of kept)) (content_of kept).sets.history (look_up row_serial found)
 
 abbrev pub IsFilled : Need → Kept → Type 0
 IsFilled need.Definitions kept = Unit {0}
-IsFilled (need.Key key) kept = IsPrepared (need.Key key) kept
-IsFilled need.LongTerm kept = IsPrepared need.LongTerm kept
+IsFilled (need.Key key) kept = IsPrepared (need.Key key) kept.buffer.lasts.items kept
+IsFilled need.LongTerm kept = IsPrepared need.LongTerm kept.buffer.plan_lasts.items kept
 IsFilled (need.Daily t) kept = kept.buffer.early.items ≡ filter (arrives_before t) kept.ltp.items
 
 -- the list has exactly the rows of the set that pass, by application, input arrival and serial

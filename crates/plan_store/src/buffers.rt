@@ -1,4 +1,4 @@
-ghost use Rattle.std.specs.Prelude.{◌≡◌, []};
+ghost use Rattle.std.specs.Prelude.{◌≡◌, [], false, true};
 
 use external_dependencies::Pairs;
 use occurrences::{Key, Row};
@@ -9,9 +9,13 @@ use std::alloc::Global;
 pub(crate) struct Buffer {
     // the rows of the long-term plan that the latest daily window shows
     pub(crate) early: Vec<Row>,
-    // the rows of history that the latest window on a key or of the long-term plan shows
+    // the rows of history that the latest window on a key shows
     pub(crate) lasts: Vec<Row>,
-    // its key, if it is on one
+    // the rows of history that the latest window on the long-term plan showed
+    pub(crate) plan_lasts: Vec<Row>,
+    // whether those are what such a window on the content as it is now shows
+    pub(crate) has_plan_lasts: bool,
+    // the key of the latest window, if it is on one
     pub(crate) key: Option<Key>,
     // the pairs of a window that shows none
     pub(crate) no_pairs: Pairs,
@@ -20,12 +24,24 @@ pub(crate) struct Buffer {
 
 impl Buffer {
     // An empty buffer.
-    pub(crate) fn new(alloc: Global) -> Buffer {
+    pub(crate) fn new(alloc: Global) -> Buffer
+        ensures { result.has_plan_lasts ≡ false }
+    {
         Buffer {
             early: Vec::new(alloc),
             lasts: Vec::new(alloc),
+            plan_lasts: Vec::new(alloc),
+            has_plan_lasts: false,
             key: None,
             no_pairs: Pairs::new(alloc),
         }
+    }
+    // Forgets the rows of the window on the long-term plan, unless what they depend on stays.
+    pub(crate) fn keep_plan_lasts(&mut self, stays: bool)
+        ensures was { self.new.has_plan_lasts ≡ true → self.old.has_plan_lasts ≡ true }
+        ensures stays { self.new.has_plan_lasts ≡ true → stays ≡ true }
+        ensures rows { self.new.plan_lasts.items ≡ self.old.plan_lasts.items }
+    {
+        self.has_plan_lasts = self.has_plan_lasts && stays;
     }
 }

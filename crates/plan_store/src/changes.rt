@@ -1,5 +1,5 @@
-ghost use Rattle.std.specs.Prelude.{◌≡◌, []};
-ghost use Rattle.plan_store.specs.Changes.{ChangesNothing};
+ghost use Rattle.std.specs.Prelude.{◌≡◌, [], true};
+ghost use Rattle.plan_store.specs.Changes.{ChangesNothing, KeepsReads, MovesNothing};
 
 use app_definitions::{DefinitionBlock, Kind};
 use external_dependencies::{Links, PairChange, Pairs};
@@ -17,6 +17,20 @@ pub enum DefinitionChange {
     Merged(DefinitionBlock),
     /// The definition of one kind and name is removed.
     Removed { kind: Kind, name: Name },
+}
+
+impl DefinitionChange {
+    ghost use Rattle.plan_store.specs.declared.changes.DefinitionChange.TheVariants.{AsBefore};
+
+    // Whether the definitions stay.
+    pub(crate) fn is_as_before(&self) -> bool
+        ensures { result ≡ true → self.now ≡ AsBefore }
+    {
+        match self {
+            DefinitionChange::AsBefore => true,
+            DefinitionChange::Merged(_) | DefinitionChange::Removed { .. } => false,
+        }
+    }
 }
 
 /// What a change makes of one set of rows. Each list may be given in any order.
@@ -42,6 +56,13 @@ impl<T> Moves<T> {
             changed: Vec::new(alloc),
             put: Vec::new(alloc),
         }
+    }
+
+    // Whether nothing moves.
+    pub(crate) fn is_nothing(&self) -> bool
+        ensures { result ≡ true → MovesNothing self.now }
+    {
+        self.gone.is_empty() && self.changed.is_empty() && self.put.is_empty()
     }
 }
 
@@ -90,6 +111,17 @@ impl Change {
             },
             job: None,
         }
+    }
+
+    // Whether it leaves all that a window on the long-term plan depends on to show rows of history, the definitions
+    // aside.
+    pub(crate) fn keeps_reads(&self) -> bool
+        ensures { result ≡ true → KeepsReads self.now }
+    {
+        self.bounds.is_none()
+            && self.in_force.is_none()
+            && self.cp.is_nothing()
+            && self.history.is_nothing()
     }
 }
 

@@ -1,4 +1,4 @@
-ghost use Rattle.std.specs.Prelude.{◌≡◌, [], Contains, OnOk, OnErr, IfOk, option_copied, unwrap_or};
+ghost use Rattle.std.specs.Prelude.{◌≡◌, [], Contains, OnOk, OnErr, IfOk, option_copied, true, unwrap_or};
 
 use crate::buffers::Buffer;
 use crate::changes::{Change, DefinitionChange};
@@ -58,11 +58,14 @@ pub struct Content {
     ghost cp_seats: { HasSeats of_current cp.items seats.items },
     ghost history_seats: { HasSeats of_row history.items seats.items },
     ghost deletion_seats: { HasSeats of_deletion deletions.items seats.items },
+    ghost plan_lasts: { buffer.has_plan_lasts ≡ true
+        → HasPlanLasts definitions bounds in_force cp.items history.items buffer.plan_lasts.items },
 }
 
 ghost use Rattle.plan_store_lists.specs.Rows.{AreRows, of_row, of_current, of_deletion};
 ghost use Rattle.planner_machine.specs.Moves.{keep, or_else};
 ghost use Rattle.plan_store.specs.Jobs.{AreJobs};
+ghost use Rattle.plan_store.specs.HistoryReads.{HasPlanLasts};
 ghost use Rattle.plan_store_lists.specs.Rows.{HasEachOnce};
 ghost use Rattle.plan_store_lists.specs.Seats.{AreSeats, HasSeats};
 ghost use Rattle.plan_store_lists.specs.declared.seats.Seat.{Seat as SeatValue};
@@ -82,9 +85,10 @@ impl Content {
     ghost use Rattle.plan_store.specs.Views.{deletion_serial, row_serial, shown, with_part, with_plans_alone};
     ghost use Rattle.occurrences.specs.declared.row.Row.{Row as RowValue};
     ghost use Rattle.plan_store.specs.Room.{HasPutSeats, HasRoom, HasRowRoom, HasSame, with_pairs_of};
-    ghost use Rattle.plan_store.specs.Room.{no_jobs, with_job_set};
+    ghost use Rattle.plan_store.specs.Room.{no_jobs, with_bounds_of, with_definitions, with_in_force, with_job_set};
     ghost use Rattle.plan_store.specs.Staged.{IsReady, IsStagedFor};
     ghost use Rattle.plan_store.specs.declared.changes.DefinitionChange.TheVariants.{AsBefore};
+    ghost use Rattle.plan_store.specs.declared.stores.Need.TheVariants.{LongTerm};
 
     /// The content before the first statement.
     pub fn new(alloc: Global) -> Content
@@ -116,19 +120,35 @@ impl Content {
         match need {
             Need::Daily(moment) => arriving_before(&mut self.buffer.early, &self.ltp, *moment),
             Need::Key(_) => self.fill_for(need),
-            Need::LongTerm => self.fill_for(need),
+            Need::LongTerm => self.fill_plan(),
             Need::Definitions => Ok(()),
         }
     }
 
-    // Fills the buffer with the rows of history that a statement with the need reads.
+    // Fills the buffer with the rows of history that a statement with the need reads, which is of a key.
     fn fill_for(&mut self, need: &Need) -> Result<(), AllocError>
         ensures same { content_of self.new ≡ content_of self.old }
-        ensures filled { OnOk result (IsPrepared need.now self.new) }
+        ensures filled { OnOk result (IsPrepared need.now self.new.buffer.lasts.items self.new) }
     {
         self.buffer.key = key_of(need);
         let queries = last_queries_of(*self.buffer.lasts.allocator(), self, need)?;
         fill_lasts(&mut self.buffer.lasts, &self.history, &queries)
+    }
+
+    // Fills the buffer with the rows of history that a statement on the long-term plan reads, unless it has them still.
+    fn fill_plan(&mut self) -> Result<(), AllocError>
+        ensures same { content_of self.new ≡ content_of self.old }
+        ensures filled { OnOk result (IsPrepared LongTerm self.new.buffer.plan_lasts.items self.new) }
+    {
+        self.buffer.key = None;
+        if self.buffer.has_plan_lasts {
+            return Ok(());
+        }
+        let alloc = *self.buffer.plan_lasts.allocator();
+        let queries = last_queries_of(alloc, self, &Need::LongTerm)?;
+        fill_lasts(&mut self.buffer.plan_lasts, &self.history, &queries)?;
+        self.buffer.has_plan_lasts = true;
+        Ok(())
     }
 
     /// Lends a window that shows what the need names, which `fill_window` prepared. It has the sizes of the plans even
@@ -142,8 +162,8 @@ impl Content {
         match need {
             Need::Definitions => self.window_of_plans(&[], &[]),
             Need::Daily(_) => self.window_of_plans(&self.buffer.early, &self.cp),
-            Need::Key(_) => self.window_of_lasts(&[]),
-            Need::LongTerm => self.window_of_lasts(&self.deletions),
+            Need::Key(_) => self.window_of_lasts(&self.buffer.lasts, &[]),
+            Need::LongTerm => self.window_of_lasts(&self.buffer.plan_lasts, &self.deletions),
         }
     }
 
@@ -169,17 +189,16 @@ impl Content {
         }
     }
 
-    // A window of both plans and the pairs that are asked for, with both their rows, of the rows of history that were
+    // A window of both plans and the pairs that are asked for, with both their rows, of these rows of history, which were
     // asked for, and of these deletions what keeps keys from being made. On which key it is was noted where it was
     // filled.
-    fn window_of_lasts<'a>(&'a self, deletions: &'a [Deletion]) -> View<'a>
-        requires lasts { AreRows of_row self.now.buffer.lasts.items }
-        requires part { (row : RowValue) → Contains self.now.buffer.lasts.items row
+    fn window_of_lasts<'a>(&'a self, lasts: &'a [Row], deletions: &'a [Deletion]) -> View<'a>
+        requires lasts { AreRows of_row lasts.now }
+        requires part { (row : RowValue) → Contains lasts.now row
             → Contains self.now.history.items row }
         requires rows { AreRows of_deletion deletions.now }
         requires seats { HasSeats of_deletion deletions.now self.now.seats.items }
-        ensures shown { shown result ≡ with_part self.now.buffer.key
-            (look_up row_serial self.now.buffer.lasts.items)
+        ensures shown { shown result ≡ with_part self.now.buffer.key (look_up row_serial lasts.now)
             (λ serial. keep (bars self.now.bounds) (look_up deletion_serial deletions.now serial))
             (content_of self.now) }
         ensures history { result.history.now ≡ self.now.history.items }
@@ -189,7 +208,7 @@ impl Content {
             content: self,
             ltp: &self.ltp,
             cp: &self.cp,
-            lasts: &self.buffer.lasts,
+            lasts,
             deletions,
             pairs: &self.pairs,
             key: &self.buffer.key,
@@ -212,6 +231,30 @@ impl Content {
         ensures { content_of self.new ≡ with_job_set no_jobs (content_of self.old) }
     {
         self.jobs = Vec::new(alloc);
+    }
+
+    /// Replaces the definitions.
+    pub fn set_definitions(&mut self, definitions: Definitions)
+        ensures { content_of self.new ≡ with_definitions definitions (content_of self.old) }
+    {
+        self.buffer.has_plan_lasts = false;
+        self.definitions = definitions;
+    }
+
+    /// Replaces the bounds.
+    pub fn set_bounds(&mut self, bounds: Option<Bounds>)
+        ensures { content_of self.new ≡ with_bounds_of bounds (content_of self.old) }
+    {
+        self.buffer.has_plan_lasts = false;
+        self.bounds = bounds;
+    }
+
+    /// Replaces the lists in force.
+    pub fn set_in_force(&mut self, links: Links)
+        ensures { content_of self.new ≡ with_in_force links (content_of self.old) }
+    {
+        self.buffer.has_plan_lasts = false;
+        self.in_force = links;
     }
 
     // Notes the serials of all rows that the change puts.
@@ -270,6 +313,7 @@ impl Content {
         let mut rest = change;
         let definitions = replace(&mut rest.definitions, DefinitionChange::AsBefore);
         let pairs = self.make_room(alloc, &rest)?;
+        self.buffer.keep_plan_lasts(definitions.is_as_before());
         match begin(&mut self.definitions, definitions) {
             Ok(redefining) => Ok(Staged {
                 rest,
@@ -296,6 +340,7 @@ impl Content {
             redefining,
         } = staged;
         self.make(rest, pairs);
+        self.buffer.keep_plan_lasts(redefining.is_nothing());
         end(&mut self.definitions, redefining);
     }
 
@@ -311,6 +356,7 @@ impl Content {
             pairs,
             redefining,
         } = staged;
+        self.buffer.keep_plan_lasts(redefining.is_nothing());
         undo(&mut self.definitions, redefining);
         self.pairs = Pairs::from_rising(pairs);
     }
@@ -324,6 +370,7 @@ impl Content {
         ensures { content_of self.new
             ≡ after change (with_pairs_of taken.items (content_of self.old)) }
     {
+        self.buffer.keep_plan_lasts(change.keeps_reads());
         let Change {
             definitions: _,
             bounds,

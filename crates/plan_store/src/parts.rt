@@ -172,6 +172,8 @@ impl Content {
         ensures ok { OnOk result (content_of self.new ≡ with_completed row (content_of self.old)) }
         ensures err { OnErr result (content_of self.new ≡ content_of self.old) }
     {
+        self.buffer
+            .keep_plan_lasts(has_serial(&self.history, &self.seats, row.serial));
         load(alloc, &mut self.history, &mut self.seats, &row)
     }
 
@@ -244,6 +246,7 @@ impl Content {
         let history = self.followed_rows(alloc)?;
         let deletions = self.barring_rows(alloc)?;
         let seats = seats_for(alloc, &self.ltp, &self.cp, &history, &deletions)?;
+        self.buffer.has_plan_lasts = false;
         self.history = history;
         self.deletions = deletions;
         self.seats = seats;

@@ -48,29 +48,17 @@ fn content_of_rows(alloc: Global, rows: PlanRows) -> Result<Content, AllocError>
     Ok(content)
 }
 
-fn replace_definitions(old: &mut Definitions, new: Definitions)
-    ensures { old.new ≡ new }
-{
-    *old = new;
-}
-
 fn put_definitions(content: &mut Content, definitions: Definitions)
     ensures { content_of content.new ≡ with_definitions definitions (content_of content.old) }
 {
-    replace_definitions(&mut content.definitions, definitions);
+    content.set_definitions(definitions);
 }
 
 fn put_bounds(content: &mut Content, bounds: Option<Bounds>, issued: u32)
     ensures { content_of content.new ≡ with_bounds bounds issued (content_of content.old) }
 {
-    content.bounds = bounds;
+    content.set_bounds(bounds);
     content.issued = issued;
-}
-
-fn replace_links(old: &mut Links, new: Links)
-    ensures { old.new ≡ new }
-{
-    *old = new;
 }
 
 fn put_links(content: &mut Content, links: Links)
@@ -78,7 +66,7 @@ fn put_links(content: &mut Content, links: Links)
     ensures rising { IsRising link_cmp links }
 {
     let _rising = links.as_slice();
-    replace_links(&mut content.in_force, links);
+    content.set_in_force(links);
 }
 
 fn replace_pairs(old: &mut Pairs, new: Pairs)

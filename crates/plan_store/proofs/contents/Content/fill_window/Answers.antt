@@ -9,5 +9,5 @@ returns-in-Key-clause-filled c =
 
 pub returns-in-LongTerm-clause-filled : goal.returns-in-LongTerm-clause-filled
 returns-in-LongTerm-clause-filled c =
-    subst (λ n. OnOk c.fill_for-in-LongTerm.result (IsFilled n c.fill_for-in-LongTerm.new.self)) (sym c.in-LongTerm.is)
-    (rw c.in-LongTerm.is at c.fill_for-in-LongTerm.ensures.filled)
+    subst (λ n. OnOk c.fill_plan.result (IsFilled n c.fill_plan.new.self)) (sym c.in-LongTerm.is)
+    c.fill_plan.ensures.filled

@@ -1,9 +1,9 @@
 use Rattle.std.proofs.Common.{◌≡◌, ◌∙◌, List, ap, filter, subst, sym}
+use Rattle.std.proofs.lemmas.Bool.{false≢true}
 use Rattle.occurrences.specs.declared.place.CurrentRow.{CurrentRow}
 use Rattle.occurrences.specs.declared.place.Deletion.{Deletion}
 use Rattle.occurrences.specs.declared.row.Row.{Row}
 use Rattle.plan_store_lists.specs.Rows.{AreRows, look_up, of_current, of_deletion, of_row}
-use Rattle.plan_store_lists.specs.Seats.{HasSeats}
 use Rattle.plan_store.specs.Contents.{content_of}
 use Rattle.plan_store.specs.Parts.{is_followed}
 use Rattle.plan_store.specs.declared.contents.Content.{Content as Kept}
@@ -44,8 +44,8 @@ seats_for-requires-clause-deletions c =
     let rows = c.in_ok-deletions.deletions.items in
     rw c.deref-4.ensures.value (once_from_rows of_deletion rows (barring c.args.self.now rows c.in_ok-deletions.ensures))
 
-pub invariant_of-self-2 : goal.invariant_of-self-2
-invariant_of-self-2 c =
+pub invariant_of-self-3 : goal.invariant_of-self-3
+invariant_of-self-3 c =
     let kept = c.args.self.now in
     record {
       ltp_rows = kept.ltp_rows;
@@ -58,6 +58,7 @@ invariant_of-self-2 c =
       cp_seats = rw c.deref-2.ensures.value at c.in_ok-seats.ensures.cp;
       history_seats = rw c.deref-3.ensures.value at c.in_ok-seats.ensures.history;
       deletion_seats = rw c.deref-4.ensures.value at c.in_ok-seats.ensures.deletions;
+      plan_lasts = λ on. absurd (false≢true on);
     }
 
 pub returns-clause-ok : goal.returns-clause-ok

@@ -19,4 +19,5 @@ invariant_of-self c =
           kept.history_seats stay;
       deletion_seats = seats_stay of_deletion kept.deletions.items kept.seats.items c.note_puts.new.seats.items
           kept.deletion_seats stay;
+      plan_lasts = kept.plan_lasts;
     }

@@ -17,11 +17,11 @@ window_of_plans-requires-in-Daily-clause-ltp_seats c =
 
 pub window_of_lasts-requires-in-LongTerm-clause-rows : goal.window_of_lasts-requires-in-LongTerm-clause-rows
 window_of_lasts-requires-in-LongTerm-clause-rows c =
-    rw c.deref-in-LongTerm.ensures.value c.args.self.now.deletion_rows
+    rw c.deref-in-LongTerm-2.ensures.value c.args.self.now.deletion_rows
 
 pub window_of_lasts-requires-in-LongTerm-clause-seats : goal.window_of_lasts-requires-in-LongTerm-clause-seats
 window_of_lasts-requires-in-LongTerm-clause-seats c =
-    rw c.deref-in-LongTerm.ensures.value c.args.self.now.deletion_seats
+    rw c.deref-in-LongTerm-2.ensures.value c.args.self.now.deletion_seats
 
 pub returns-in-Definitions-clause-shows : goal.returns-in-Definitions-clause-shows
 returns-in-Definitions-clause-shows c =
@@ -33,18 +33,20 @@ pub returns-in-Key-clause-shows : goal.returns-in-Key-clause-shows
 returns-in-Key-clause-shows c =
     let kept = c.args.self.now in
     let filled = rw c.in-Key.is at c.requires in
+    let shows = rw c.deref-in-Key.ensures.value at c.window_of_lasts.ensures.shown in
     subst (λ n. Shows n c.window_of_lasts.result (content_of kept)) (sym c.in-Key.is)
-    (shows_key c.in-Key.field-0 c.window_of_lasts.result kept c.window_of_lasts.ensures.whole filled
-    c.window_of_lasts.ensures.history c.window_of_lasts.ensures.shown)
+    (shows_key c.in-Key.field-0 c.window_of_lasts.result kept kept.buffer.lasts.items c.window_of_lasts.ensures.whole
+    filled c.window_of_lasts.ensures.history shows)
 
 pub returns-in-LongTerm-clause-shows : goal.returns-in-LongTerm-clause-shows
 returns-in-LongTerm-clause-shows c =
     let kept = c.args.self.now in
     let filled = rw c.in-LongTerm.is at c.requires in
-    let shows = rw c.deref-in-LongTerm.ensures.value at c.window_of_lasts-in-LongTerm.ensures.shown in
+    let shows = rw (c.deref-in-LongTerm.ensures.value, c.deref-in-LongTerm-2.ensures.value)
+    at c.window_of_lasts-in-LongTerm.ensures.shown in
     subst (λ n. Shows n c.window_of_lasts-in-LongTerm.result (content_of kept)) (sym c.in-LongTerm.is)
-    (shows_plan c.window_of_lasts-in-LongTerm.result kept c.window_of_lasts-in-LongTerm.ensures.whole filled
-    c.window_of_lasts-in-LongTerm.ensures.history shows)
+    (shows_plan c.window_of_lasts-in-LongTerm.result kept kept.buffer.plan_lasts.items
+    c.window_of_lasts-in-LongTerm.ensures.whole filled c.window_of_lasts-in-LongTerm.ensures.history shows)
 
 pub returns-in-Daily-clause-shows : goal.returns-in-Daily-clause-shows
 returns-in-Daily-clause-shows c =
