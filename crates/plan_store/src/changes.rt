@@ -1,4 +1,4 @@
-ghost use Rattle.std.specs.Prelude.{◌≡◌, [], true};
+ghost use Rattle.std.specs.Prelude.{◌≡◌, ◌↔◌, [], IsTrue};
 ghost use Rattle.plan_store.specs.Changes.{ChangesNothing, KeepsReads, MovesNothing};
 
 use app_definitions::{DefinitionBlock, Kind};
@@ -22,9 +22,9 @@ pub enum DefinitionChange {
 impl DefinitionChange {
     ghost use Rattle.plan_store.specs.declared.changes.DefinitionChange.TheVariants.{AsBefore};
 
-    // Whether the definitions stay.
-    pub(crate) fn is_as_before(&self) -> bool
-        ensures { result ≡ true → self.now ≡ AsBefore }
+    /// Whether the definitions stay.
+    pub fn is_as_before(&self) -> bool
+        ensures { IsTrue result ↔ (self.now ≡ AsBefore) }
     {
         match self {
             DefinitionChange::AsBefore => true,
@@ -58,9 +58,9 @@ impl<T> Moves<T> {
         }
     }
 
-    // Whether nothing moves.
-    pub(crate) fn is_nothing(&self) -> bool
-        ensures { result ≡ true → MovesNothing self.now }
+    /// Whether nothing moves.
+    pub fn is_nothing(&self) -> bool
+        ensures { IsTrue result ↔ MovesNothing self.now }
     {
         self.gone.is_empty() && self.changed.is_empty() && self.put.is_empty()
     }
@@ -113,10 +113,10 @@ impl Change {
         }
     }
 
-    // Whether it leaves all that a window on the long-term plan depends on to show rows of history, the definitions
-    // aside.
-    pub(crate) fn keeps_reads(&self) -> bool
-        ensures { result ≡ true → KeepsReads self.now }
+    /// Whether it leaves all that a window on the long-term plan depends on to show rows of history, the definitions
+    /// aside.
+    pub fn keeps_reads(&self) -> bool
+        ensures { IsTrue result ↔ KeepsReads self.now }
     {
         self.bounds.is_none()
             && self.in_force.is_none()

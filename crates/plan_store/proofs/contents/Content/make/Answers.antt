@@ -30,7 +30,7 @@ invariant_of-self c =
           kept.deletion_seats room.deletion_seats;
       plan_lasts = λ on. subst (HasPlanLasts kept.definitions c.new_or_old-self.result c.put_in_force.new.links
           c.move_rows-2.new.list.items c.move_rows-3.new.list.items) (sym c.keep_plan_lasts.ensures.rows)
-          (plan_stays change (c.keeps_reads.ensures (c.keep_plan_lasts.ensures.stays on)) kept.definitions kept.bounds
+          (plan_stays change (c.keeps_reads.ensures.0 (c.keep_plan_lasts.ensures.stays on)) kept.definitions kept.bounds
           c.new_or_old-self.result kept.in_force c.put_in_force.new.links kept.cp.items c.move_rows-2.new.list.items
           kept.history.items c.move_rows-3.new.list.items kept.buffer.plan_lasts.items c.new_or_old-self.ensures
           c.put_in_force.ensures c.move_rows-2.ensures.moved c.move_rows-3.ensures.moved
