@@ -35,7 +35,7 @@ pub struct Ended<D: Disk> {
 // Whether no failure of the device was counted.
 fn is_unfailed<S: Alter + Drop>(store: &mut TableStore<S>) -> bool
     ensures same { store.new ≡ store.old }
-    ensures unfailed { IsTrue result → store.old.failures ≡ 0 }
+    ensures unfailed { IsTrue result → store.old.session.failures ≡ 0 }
 {
     store.bounds().is_ok()
 }
@@ -53,13 +53,13 @@ pub(crate) fn run_and_close<D: Disk + Drop, R: BufRead, W: Write>(
     reader: &mut R,
     writer: &mut W,
 ) -> Ended<D>
-    requires kept { HasCleanDisk (file_state store.conn)
-        → IsKept (file_state store.conn) (content_of store.lists) }
-    requires alone { LeavesOne (file_state store.conn)
-        (kept_in (file_state store.conn) (content_of store.lists)) }
-    ensures honest { AreHonest D.Disk result.closed.files → HasCleanDisk (file_state store.conn) }
+    requires kept { HasCleanDisk (file_state store.session.conn)
+        → IsKept (file_state store.session.conn) (content_of store.lists) }
+    requires alone { LeavesOne (file_state store.session.conn)
+        (kept_in (file_state store.session.conn) (content_of store.lists)) }
+    ensures honest { AreHonest D.Disk result.closed.files → HasCleanDisk (file_state store.session.conn) }
     ensures runs { (after : Content) × RunsFiles D.Disk (ends_of
-        (kept_in (file_state store.conn) (content_of store.lists)) after
+        (kept_in (file_state store.session.conn) (content_of store.lists)) after
         (W.contents writer.old) (W.contents writer.new) (R.remaining reader.old)) result.outcome result.is_whole result.closed }
 {
     streams();

@@ -12,8 +12,6 @@ use Rattle.sqlite_trees.specs.declared.error.StoreError.{StoreError}
 use Rattle.sqlite_trees.specs.declared.error.StoreError.TheVariants.{OutOfMemory, Io, Corrupt, Full, Broken, Unstorable}
 use Rattle.external_dependencies.specs.declared.pairs.Pair.{Pair}
 use Rattle.planner_machine.specs.Content.{Content}
-use Rattle.plan_store.specs.declared.listings.ListFault.{ListFault}
-use Rattle.plan_store.specs.declared.listings.ListFault.TheVariants as list
 use Rattle.plan_store.specs.declared.stores.StoreFault.{StoreFault}
 use Rattle.plan_store.specs.declared.stores.StoreFault.TheVariants.{Device, Memory}
 use Rattle.plan_tables_opening.specs.Opened.{IsStored}
@@ -168,17 +166,6 @@ caused_since (Err fault) old mid new on h = λ is. ∥∥₁_map (h is) since
     since (inl more) = inl (inl (omega (arith, on.counts, more)))
     since (inr limit) = inl (inr (subst IsSome on.limit limit))
 
--- so it is of a listing
-pub listed_since : {T : Type 0} (r : Result T ListFault) (old mid new : State) → CountsOn old mid
-    → IfErr r (λ fault. fault ≡ list.Device → ∥ HasFailed mid new ∥₁)
-    → IfErr r (λ fault. fault ≡ list.Device → ∥ HasFailed old new ⊎ (old.is_open ≡ false) ∥₁)
-listed_since (Ok v) old mid new on h = tt
-listed_since (Err fault) old mid new on h = λ is. ∥∥₁_map (h is) since
-  where
-    since : HasFailed mid new → HasFailed old new ⊎ (old.is_open ≡ false)
-    since (inl more) = inl (inl (omega (arith, on.counts, more)))
-    since (inr limit) = inl (inr (subst IsSome on.limit limit))
-
 -- a connection that was found shut, or whose device failed as it was asked
 pub shut_so : (old new : State) → MoreFaults old.faults new.faults ⊎ (old.is_open ≡ false)
     → ∥ HasFailed old new ⊎ (old.is_open ≡ false) ∥₁
@@ -196,17 +183,6 @@ pub merely_err : {T : Type 0} (X : Type 0) (r : Result T StoreFault) → ∥ (If
     → IfErr r (λ fault. fault ≡ Device → ∥ X ∥₁)
 merely_err X (Ok v) h = tt
 merely_err X (Err fault) h = λ is. ∥∥₁_elim h squash₁ (λ k. k is)
-
--- where it was shut when it was asked
-pub told_shut : {T : Type 0} (r : Result T StoreFault) (e : StoreFault) (old new : State) → IsErrAnd r (λ told. told ≡ e)
-    → (e ≡ Device → MoreFaults old.faults new.faults ⊎ (old.is_open ≡ false))
-    → IfErr r (λ fault. fault ≡ Device → ∥ HasFailed old new ⊎ (old.is_open ≡ false) ∥₁)
-told_shut (Ok v) e old new is h = tt
-told_shut (Err told) e old new is h = λ device. ∣ (go (h (sym is ∙ device))) ∣₁
-  where
-    go : MoreFaults old.faults new.faults ⊎ (old.is_open ≡ false) → HasFailed old new ⊎ (old.is_open ≡ false)
-    go (inl more) = inl (inl more)
-    go (inr shut) = inr shut
 
 -- where the device is never told
 pub never_told : {T : Type 0} (P : Type 0) (r : Result T StoreFault) (e : StoreFault) → IsErrAnd r (λ told. told ≡ e)

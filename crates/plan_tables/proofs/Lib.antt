@@ -6,6 +6,9 @@ mod WindowLemmas
 mod ListLemmas
 mod EndLemmas
 pub mod LookLemmas
+pub mod ReadyLemmas
+pub mod SessionLemmas
+mod CommitLemmas
 pub mod MetLemmas
 pub mod SetLemmas
 pub mod StorableMoves

@@ -1,10 +1,10 @@
 -- Rows that are read one table after another, and listings for which the tables of a kept content are asked.
-use Rattle.std.proofs.Common.{◌≡◌, ◌≢◌, ◌≤◌, ℕ, List, [], Err, Ok, Option, Result, arith, inl, inr, refl}
-use Rattle.std.proofs.Common.{Bool, ap, subst, sym}
+use Rattle.std.proofs.Common.{◌≡◌, ◌≢◌, ◌≤◌, ◌∙◌, ℕ, List, [], Err, Ok, Option, Result, arith, inl, inr, refl}
+use Rattle.std.proofs.Common.{ap, subst, sym}
 use Rattle.std.proofs.Math.Logic.{∥∥₁_elim, ∥∥₁_map}
 use Rattle.std.specs.List.Sorted.{IsSortedByKey}
 use Rattle.std.specs.Ordering.{nat_cmp}
-use Rattle.std.specs.Prelude.{IfOk, IsErrAnd, IsTrue, OnOk}
+use Rattle.std.specs.Prelude.{IfOk, IsErrAnd, OnOk}
 use Rattle.sqlite.specs.Effect.{Database}
 use Rattle.sqlite.specs.Held.{Held, state}
 use Rattle.sqlite.specs.State.{HasCleanDisk, IsUnchanged, State}
@@ -23,6 +23,9 @@ use Rattle.plan_store.specs.Parts.{ListsAll}
 use Rattle.plan_store.specs.Views.{row_serial}
 use Rattle.plan_store.specs.declared.listings.ListFault.{ListFault}
 use Rattle.plan_store.specs.declared.listings.ListFault.TheVariants as list
+use Rattle.plan_store.specs.declared.stores.StoreFault.{StoreFault}
+use Rattle.plan_store.specs.declared.stores.StoreFault.TheVariants as store
+use Rattle.plan_store.specs.Faults.{IsMild, IsMildListing}
 use Rattle.plan_store.proofs.EndLemmas.{has_ends}
 use Rattle.plan_tables_schema.specs.Rows.{StaysOrIsUndone, tables_of}
 use Rattle.plan_tables_schema.specs.Schema.{HasTables}
@@ -39,7 +42,7 @@ use Rattle.plan_tables_lookups.specs.declared.faults.Stopped.TheVariants.{Fault,
 use Rattle.plan_tables_queries.specs.Listing.{EmitsPart, HoldsContent, Lists, StopsFor}
 use Rattle.plan_tables_queries.proofs.FindLemmas.{passes_on}
 use Rattle.plan_tables.specs.Kept.{IsKept, kept_in}
-use Rattle.plan_tables.specs.Listing.{LeavesOpen, ListsKept, ended_so, fault_so, what_of}
+use Rattle.plan_tables.specs.Listing.{ListsKept, ended_so, fault_so, listing_fault, what_of}
 use Rattle.plan_tables.specs.declared.listing.ListedTable.{ListedTable}
 use Rattle.plan_tables.specs.declared.keeping.Unmade.{Unmade}
 use Rattle.plan_tables.specs.declared.keeping.Unmade.TheVariants as unmade
@@ -350,8 +353,37 @@ listing_fails g old new lists Accepts Refuses before after what app stopped faul
       survives = d.survives;
     }
 
-pub open_so : (why : Unmade) (opens : Bool) → (why ≡ unmade.Memory → IsTrue opens) → LeavesOpen (Fault why)
-    → IsTrue opens
-open_so unmade.Memory opens is leaves = is refl
-open_so unmade.Doubt opens is leaves = absurd leaves
-open_so unmade.Device opens is leaves = absurd leaves
+-- ---- the fault of a store
+
+pub store_device : (fault : StoreFault) → listing_fault fault ≡ list.Device → fault ≡ store.Device
+store_device store.Memory is = absurd (let h : ⊥ = cc is in h)
+store_device store.Device is = refl
+
+pub store_memory : (fault : StoreFault) → listing_fault fault ≡ list.Memory → fault ≡ store.Memory
+store_memory store.Memory is = refl
+store_memory store.Device is = absurd (let h : ⊥ = cc is in h)
+
+pub mild_listed : (fault : StoreFault) (told : ListFault) (W : Type 0) → told ≡ listing_fault fault
+    → IsMildListing W told → IsMild W fault
+mild_listed fault told W is mild = (
+  λ device. mild.0 (is ∙ ap listing_fault device),
+  λ memory. mild.1 (is ∙ ap listing_fault memory),
+)
+
+-- nothing was passed to the sink
+pub emits_none : {K : Type 0} (Accepts Refuses : K → Shown → K → Type 0) (IsWhole : List Shown → Type 0) (k : K)
+    (items : List Shown) (fault : StoreFault) (told : ListFault) → told ≡ listing_fault fault → IsWhole items
+    → EmitsSome Accepts Refuses IsWhole k k told
+emits_none Accepts Refuses IsWhole k items fault told is whole =
+    subst (EmitsSome Accepts Refuses IsWhole k k) (sym is) (go fault)
+  where
+    go : (f : StoreFault) → EmitsSome Accepts Refuses IsWhole k k (listing_fault f)
+    go store.Memory = record { done = []; rest = items; whole = whole; ends = refl }
+    go store.Device = record { done = []; rest = items; whole = whole; ends = refl }
+
+-- a sink that refuses is neither
+pub no_device : (told : ListFault) → told ≡ list.Sink (record {}) → told ≡ list.Device → ⊥
+no_device told is device = cc (is, device)
+
+pub no_memory : (told : ListFault) → told ≡ list.Sink (record {}) → told ≡ list.Memory → ⊥
+no_memory told is memory = cc (is, memory)

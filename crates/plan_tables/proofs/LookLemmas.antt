@@ -1,19 +1,14 @@
 -- A connection that is asked.
-use Rattle.std.proofs.Common.{◌≡◌, ◌∙◌, ◌<◌, ◌≤◌, ◌^◌, ℕ, Bool, Err, Ok, Result, false, true, None, Option, Some, inl, inr, ap, arith, refl, subst, sym, true≢false}
+use Rattle.std.proofs.Common.{◌≡◌, ◌∙◌, ◌≤◌, ◌^◌, ℕ, Bool, Err, Ok, Result, false, None, Option, Some, inl, inr, arith, refl}
 use Rattle.std.proofs.Math.Logic.{∥∥₁_elim, ∥∥₁_map}
-use Rattle.std.specs.Prelude.{IfErr, IfOk, IsErrAnd, IsTrue, OnOk}
-use Rattle.sqlite.specs.Effect.{Database}
-use Rattle.sqlite.specs.State.{HasCleanDisk, IsUnchanged, State, Survives}
+use Rattle.std.specs.Prelude.{IfErr, IsTrue, OnOk}
+use Rattle.sqlite.specs.State.{HasCleanDisk, State, Survives}
 use Rattle.sqlite.specs.Tree.{Trees}
 use Rattle.planner_machine.specs.Content.{Content}
 use Rattle.planner_machine.specs.Sound.{IsSound}
 use Rattle.planner_machine.specs.declared.job.Job.{Job}
-use Rattle.plan_store.specs.Contents.{content_of}
-use Rattle.plan_store.specs.Faults.{IsMild, IsMildListing, MoreFailures}
-use Rattle.plan_store.specs.declared.contents.Content.{Content as Kept}
+use Rattle.plan_store.specs.Faults.{IsMild}
 use Rattle.plan_store.specs.Stores.{ReadsStore}
-use Rattle.plan_store.specs.declared.listings.ListFault.{ListFault}
-use Rattle.plan_store.specs.declared.listings.ListFault.TheVariants as list
 use Rattle.plan_store.specs.declared.stores.StoreFault.{StoreFault}
 use Rattle.plan_store.specs.declared.stores.StoreFault.TheVariants.{Device, Memory}
 use Rattle.plan_tables_schema.specs.Rows.{StaysOrIsUndone}
@@ -21,7 +16,6 @@ use Rattle.plan_tables_schema.specs.Schema.{HasTables}
 use Rattle.plan_tables_windows.specs.Fetching.{Grows}
 use Rattle.plan_tables.specs.Kept.{CanRead, IsKept, LooksOn, StaysPut, kept_in}
 use Rattle.plan_tables.specs.Stored.{LeavesSound, MayLeave}
-use Rattle.plan_tables.specs.Accepted.{KeepsSchema}
 use Rattle.plan_tables.proofs.CauseLemmas.{certain}
 use Rattle.plan_tables.proofs.SetLemmas.{content_set, no_prop, truth_prop}
 use Rattle.plan_tables.proofs.StoredLemmas.{kept_more, kept_still, put_still}
@@ -71,10 +65,6 @@ module _ (old new : State) (survives : Survives old new (λ _. HasTables old.now
   none_made : ∥ (HasCleanDisk old → (db : Trees) → (HasTables old.now.schema → ⊥) → ⊥) ∥₁
   none_made = ∥∥₁_map kept (λ h clean db none. none (h clean).stored.plan.schema)
 
-  pub looks_kept : (HasCleanDisk new → (l : Content) → IsKept old l → StaysPut old new) → LooksOn old new lists lists
-  looks_kept puts = looks_on old new _ survives lists (∥∥₁_map kept (λ h clean _. h clean))
-      (∥∥₁_map kept (λ h clean. puts clean lists (h (before old new _ survives clean)))) none_made
-
   pub looks_still : (HasCleanDisk new → IsKept old lists → StaysPut old new) → LooksOn old new lists lists
   looks_still puts = looks_on old new _ survives lists (∥∥₁_map kept (λ h clean _. h clean))
       (∥∥₁_map kept (λ h clean. puts clean (h (before old new _ survives clean)))) none_made
@@ -113,13 +103,16 @@ put_then old mid new one two opens =
       later.2 ∙ first.2,
     )
 
--- a connection that is open, and was not asked
-pub unasked : (s : State) → IsTrue s.is_open → IsUnchanged s s
-unasked s opens = (
-  record { was_open = opens; is_open = opens; now_is = refl; committed_is = refl; mode = refl },
-  record { changes = refl; last_rowid = refl },
-  refl,
-)
+-- a connection that is not asked
+pub unmoved : (s : State) (P : Trees → Type 0) → Survives s s P
+unmoved s P = record {
+  clean = omega arith;
+  shield = λ h. h;
+  counts = omega arith;
+  limit = refl;
+  closes = λ _ opens. inl opens;
+  crash = λ _ _ left. inl left;
+}
 
 -- no job of a sound content has so great a number
 pub none_so_great : (c : Content) (number : ℕ) → IsSound c → 2 ^ 63 ≤ number → c.jobs number ≡ None
@@ -130,99 +123,6 @@ none_so_great c number sound great = go (c.jobs number) refl
     go (Some job) is = let greatest = (sound.jobs number job is).greatest in absurd (let h : ⊥ = omega (arith, greatest, great) in h)
 
 -- ---- what a call does that reads
-
-module _ {S T : Type 0} {is_honest : S → Type 0} {content : S → Content} {failures : S → ℕ}
-    {may_leave : S → Content → Type 0} {is_clean is_whole : S → Type 0} {has_failed : S → S → Type 0} where
-  -- by a store that had not failed
-  pub read_so : (before now : S) (result : Result T StoreFault) (IsRight : T → Type 0)
-      → (is_honest now → IfOk result IsRight) → (is_honest now → content now ≡ content before)
-      → ((c : Content) → may_leave now c → may_leave before c)
-      → IfErr result (λ fault. fault ≡ Device → MoreFailures (failures before) (failures now))
-      → failures before ≡ 0 → OnOk result (failures now ≡ failures before)
-      → IfErr result (λ fault. fault ≡ Memory → failures now ≡ failures before)
-      → (is_clean now → IfErr result (λ fault. fault ≡ Device → has_failed before now))
-      → (is_honest now → is_honest before) → (is_clean now → is_clean before)
-      → (is_honest before → is_clean now → IfErr result (IsMild (is_whole now)) → is_honest now)
-      → OnOk result (is_whole before → is_whole now)
-      → ReadsStore is_honest content failures may_leave is_clean is_whole has_failed before now result IsRight
-  read_so before now (Ok v) IsRight right same crash blames none still steady caused honest clean stays whole
-      = record {
-        right = right;
-        same = same;
-        crash = crash;
-        blames = tt;
-        broken = λ some. absurd (let h : ⊥ = omega (arith, none, some) in h);
-        counts = omega (arith, none);
-        still = still;
-        steady = tt;
-        caused = λ _ _. tt;
-        honest = honest;
-        clean = clean;
-        stays_honest = stays;
-        whole = whole;
-      }
-  read_so before now (Err fault) IsRight right same crash blames none still steady caused honest clean stays whole
-      = record {
-        right = right;
-        same = same;
-        crash = crash;
-        blames = λ device. inl (blames device);
-        broken = λ some. absurd (let h : ⊥ = omega (arith, none, some) in h);
-        counts = omega (arith, none);
-        still = tt;
-        steady = steady;
-        caused = λ _. caused;
-        honest = honest;
-        clean = clean;
-        stays_honest = stays;
-        whole = whole;
-      }
-
-  -- where it could not be asked
-  pub read_not : (before now : S) (result : Result T StoreFault) (fault : StoreFault) (IsRight : T → Type 0)
-      → IsErrAnd result (λ told. told ≡ fault) → (is_honest now → content now ≡ content before)
-      → ((c : Content) → may_leave now c → may_leave before c)
-      → (fault ≡ Device → MoreFailures (failures before) (failures now)) → failures before ≡ 0
-      → (fault ≡ Memory → failures now ≡ failures before)
-      → (is_clean now → fault ≡ Device → has_failed before now)
-      → (is_honest now → is_honest before) → (is_clean now → is_clean before)
-      → (is_honest before → is_clean now → IsMild (is_whole now) fault → is_honest now)
-      → ReadsStore is_honest content failures may_leave is_clean is_whole has_failed before now result IsRight
-  read_not before now (Ok v) fault IsRight is same crash blames none steady caused honest clean stays = absurd is
-  read_not before now (Err told) fault IsRight is same crash blames none steady caused honest clean stays = record {
-    right = λ _. tt;
-    same = same;
-    crash = crash;
-    blames = λ device. inl (blames (sym is ∙ device));
-    broken = λ some. absurd (let h : ⊥ = omega (arith, none, some) in h);
-    counts = omega (arith, none);
-    still = tt;
-    steady = λ memory. steady (sym is ∙ memory);
-    caused = λ _ calm device. caused calm (sym is ∙ device);
-    honest = honest;
-    clean = clean;
-    stays_honest = λ was calm mild. stays was calm (subst (IsMild (is_whole now)) is mild);
-    whole = tt;
-  }
-
-  -- of a store that had failed
-  pub read_failed : (before : S) (IsRight : T → Type 0) → 0 < failures before
-      → ReadsStore is_honest content failures may_leave is_clean is_whole has_failed before before (Err Device) IsRight
-  read_failed before IsRight some = record {
-    right = λ _. tt;
-    same = λ _. refl;
-    crash = λ _ leaves. leaves;
-    blames = λ _. inr some;
-    broken = λ _. refl;
-    counts = omega arith;
-    still = tt;
-    steady = λ memory. absurd (let h : ⊥ = cc memory in h);
-    caused = λ none _ _. absurd (let h : ⊥ = omega (arith, none, some) in h);
-    honest = λ honest. honest;
-    clean = λ clean. clean;
-    stays_honest = λ was _ _. was;
-    whole = tt;
-  }
 
 -- an answer that comes of another
 pub read_lent : {S T U : Type 0} {is_honest : S → Type 0} {content : S → Content} {failures : S → ℕ}
@@ -254,32 +154,9 @@ mild_open (Ok v) b doubt W opens memory mild = opens
 mild_open (Err Memory) b doubt W opens memory mild = memory refl (mild.1 refl).1
 mild_open (Err Device) b doubt W opens memory mild = absurd (mild.0 refl)
 
-pub no_mild : (fault : StoreFault) (doubt : Bool) (W : Type 0) → (fault ≡ Memory → doubt ≡ true)
-    → IsMild (W × (doubt ≡ false)) fault → ⊥
-no_mild Memory doubt W told mild = true≢false (sym (told refl) ∙ (mild.1 refl).1)
-no_mild Device doubt W told mild = mild.0 refl
-
--- where the lists are the same, too
-pub looks_listed : (old new : State) (l k : Kept) → LooksOn old new (content_of l) (content_of l) → k ≡ l → CanRead new
-    → kept_in new (content_of k) ≡ kept_in old (content_of l)
-looks_listed old new l k looks is can = ap (λ (x : Kept). kept_in new (content_of x)) is ∙ looks.same can
-
-pub ok_if : {A : Type 0} (r : Result A StoreFault) (P Q : Type 0) → (P → Q) → OnOk r P → IfOk r (λ _. Q)
-ok_if (Ok v) P Q so h = so h
-ok_if (Err e) P Q so h = tt
-
 pub ok_since : {A E : Type 0} (r : Result A E) (P Q : Type 0) → (P → Q) → OnOk r P → OnOk r Q
 ok_since (Ok v) P Q so h = so h
 ok_since (Err e) P Q so h = tt
-
--- what was seen before a call is what is seen since
-pub schema_since : {T : Type 0} (r : Result T StoreFault) (old mid new : State)
-    → (HasCleanDisk new → mid.now ≡ old.now) → KeepsSchema mid new r → KeepsSchema old new r
-schema_since (Ok v) old mid new same kept =
-    λ clean. subst (λ (db : Database). ∥ new.now.schema ≡ db.schema ∥₁) (same clean) (kept clean)
-schema_since (Err e) old mid new same kept =
-    λ memory clean opens. subst (λ (db : Database). ∥ new.now.schema ≡ db.schema ∥₁) (same clean)
-    (kept memory clean opens)
 
 -- a store that was read looks on
 pub looks_read : (old new : State) (was now : Content) → (CanRead new → kept_in new now ≡ kept_in old was)
@@ -291,18 +168,3 @@ looks_read old new was now same crash honest clean = record {
   same = same;
   crash = crash;
 }
-
--- where a listing ended so that it leaves the connection open
-pub listed_open : {A : Type 0} (r : Result A ListFault) (opens : Bool) (W : Type 0) → OnOk r (IsTrue opens)
-    → IfErr r (λ fault. IsMildListing W fault → IsTrue opens) → IfErr r (IsMildListing W) → IsTrue opens
-listed_open (Ok v) opens W is mild given = is
-listed_open (Err e) opens W is mild given = mild given
-
--- the count stays that stayed before
-pub listed_steady : {A : Type 0} (r : Result A ListFault) (a b d : ℕ) → IfErr r (λ fault. fault ≡ list.Memory → a ≡ b)
-    → b ≡ d → IfErr r (λ fault. fault ≡ list.Memory → a ≡ d)
-listed_steady (Ok v) a b d h is = tt
-listed_steady (Err e) a b d h is = λ memory. h memory ∙ is
-
-pub no_mild_listing : (doubt : Bool) (W : Type 0) → doubt ≡ true → IsMildListing (W × (doubt ≡ false)) list.Memory → ⊥
-no_mild_listing doubt W told mild = true≢false (sym told ∙ (mild.1 refl).1)

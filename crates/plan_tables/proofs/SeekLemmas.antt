@@ -35,12 +35,13 @@ module _ {S : Type 0} (g : Ghosts S) (old new : Held S) (was now : Content) (IsF
     found = λ clean kept. did.ready clean (∥∥₁_map kept (of_kept from was));
     grows = did.grows;
     part = λ clean kept. did.part clean ∣ of_kept from was kept ∣₁;
-    same = λ clean kept. did.same clean kept.stored.plan.schema kept.stored.is_open;
-    stays = λ clean kept. put_by from to (did.leaves clean kept.stored.plan.schema kept.stored.is_open);
-    memory = λ clean kept. tt;
-    failed = λ clean kept. tt;
-    mode = did.mode;
-    survives = did.survives;
+    asks = record {
+      stays = λ clean kept. put_by from to (did.leaves clean kept.stored.plan.schema kept.stored.is_open);
+      opens = λ clean kept _. (did.same clean kept.stored.plan.schema kept.stored.is_open).0.is_open;
+      failed = λ clean kept device. absurd (let h : ⊥ = cc device in h);
+      mode = did.mode;
+      survives = did.survives;
+    };
   }
 
   fetch_fails : (fault : TableFault) → Fetches {T = Unit {0}} g old new was now (Err fault) IsFound
@@ -62,10 +63,5 @@ module _ {S : Type 0} (g : Ghosts S) (old new : Held S) (was now : Content) (IsF
         found = λ clean kept. tt;
         grows = did.grows;
         part = λ clean kept. did.part (ends.calm clean) ∣ of_kept from was kept ∣₁;
-        same = λ clean kept. tt;
-        stays = ends.stays;
-        memory = ends.memory;
-        failed = ends.failed;
-        mode = ends.mode;
-        survives = ends.survives;
+        asks = ends.asks;
       }

@@ -1,5 +1,5 @@
 -- A database keeps a content, before and after.
-use Rattle.std.proofs.Common.{List, ◌≡◌, ◌∙◌, refl, sym, ap, subst, IsTrue, Result, Ok, Err, [], None, Some}
+use Rattle.std.proofs.Common.{List, ◌≡◌, ◌∙◌, refl, sym, ap, subst, IsTrue, Result, Ok, Err, []}
 use Rattle.std.specs.Prelude.{OnOk}
 use Rattle.sqlite.specs.Tree.{Trees}
 use Rattle.sqlite.specs.Effect.{Database, IsDatabase}
@@ -7,7 +7,7 @@ use Rattle.std.proofs.Common.{◌⊎◌, inl, inr, arith}
 use Rattle.std.proofs.Math.Logic.{∥∥₁_elim}
 use Rattle.sqlite.specs.Held.{Held, state}
 use Rattle.sqlite.specs.Store.{Ghosts}
-use Rattle.sqlite.specs.State.{HasCleanDisk, IsLive, IsUnchanged, State, Survives}
+use Rattle.sqlite.specs.State.{HasCleanDisk, IsLive, State, Survives}
 use Rattle.external_dependencies.specs.declared.pairs.Pair.{Pair}
 use Rattle.planner_machine.specs.Content.{Content}
 use Rattle.planner_machine.specs.Sound.{IsSound}
@@ -165,11 +165,6 @@ pub settled_so : {A E : Type 0} (r : Result A E) (IsClean : Type 0) (May : Conte
 settled_so (Ok a) IsClean May d h = λ c both. h both.0 c both.1
 settled_so (Err e) IsClean May d h = tt
 
--- what holds of an Ok holds of it whatever was before
-pub stays_so : {A E : Type 0} (r : Result A E) (P Q : Type 0) → OnOk r Q → OnOk r (P → Q)
-stays_so (Ok a) P Q h = λ _. h
-stays_so (Err e) P Q h = tt
-
 -- ---- lists beside tables
 
 -- what the tables of a kept content tell beside lists is its own
@@ -233,9 +228,6 @@ keeps_still old new lists kept opens now committed =
       sound = subst IsSound (sym same) kept.sound;
       part = subst (λ (rest : Rest). IsPartOf rest lists) (sym (rest_still old new now)) kept.part;
     }
-
-pub keeps_unchanged : (old new : State) (lists : Content) → IsKept old lists → IsUnchanged old new → IsKept new lists
-keeps_unchanged old new lists kept same = keeps_still old new lists kept same.0.is_open same.0.now_is same.0.committed_is
 
 -- of a connection that was not asked
 pub looks_same : (s : State) (lists : Content) → LooksOn s s lists lists

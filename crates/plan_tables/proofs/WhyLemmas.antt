@@ -1,6 +1,6 @@
 -- What is left of a call that failed, once it was asked why.
-use Rattle.std.proofs.Common.{◌≡◌, ◌≢◌, Err, arith, refl, subst, sym}
-use Rattle.std.specs.Prelude.{false, IsTrue}
+use Rattle.std.proofs.Common.{◌≡◌, ◌≢◌, Err, arith, inl, refl, subst, sym}
+use Rattle.std.specs.Prelude.{None, Some, false}
 use Rattle.sqlite.specs.Held.{Held, state}
 use Rattle.sqlite.specs.State.{HasCleanDisk, State, Survives}
 use Rattle.sqlite.specs.Store.{Ghosts}
@@ -12,13 +12,13 @@ use Rattle.plan_tables_schema.specs.Schema.{HasTables}
 use Rattle.plan_tables_queries.specs.Finding.{FailsFor, FindsFact}
 use Rattle.plan_tables_lookups.specs.declared.faults.TableFault.{TableFault}
 use Rattle.plan_tables_lookups.specs.declared.faults.TableFault.TheVariants as lookup
-use Rattle.plan_tables.specs.Causes.{HasFailed}
-use Rattle.plan_tables.specs.Kept.{IsKept, StaysPut, kept_in}
+use Rattle.plan_tables.specs.Kept.{IsKept, kept_in}
+use Rattle.plan_tables.specs.Session.{Asks, LeavesOpen}
 use Rattle.plan_tables.specs.Whys.{IsCauseOf, IsWhyOf}
 use Rattle.plan_tables.specs.declared.keeping.Unmade.{Unmade}
 use Rattle.plan_tables.specs.declared.keeping.Unmade.TheVariants as unmade
 use Rattle.plan_tables.proofs.CauseLemmas.{failed_so}
-use Rattle.plan_tables.proofs.LookLemmas.{put_by, put_then}
+use Rattle.plan_tables.proofs.LookLemmas.{put_by, put_then, unmoved}
 
 -- a call over kept lists that failed for the fault
 pub record Fails {S : Type 0} (g : Ghosts S) (old mid : Held S) (lists : Content) (fault : TableFault) : Type 0 where
@@ -31,13 +31,23 @@ pub record Fails {S : Type 0} (g : Ghosts S) (old mid : Held S) (lists : Content
 -- what is left of it at the end
 pub record EndsFor {S : Type 0} (g : Ghosts S) (old mid end : Held S) (lists : Content) (why : Unmade) : Type 0 where
   pub calm : HasCleanDisk (state g end) → HasCleanDisk (state g mid)
-  pub stays : HasCleanDisk (state g end) → IsKept (state g old) lists → StaysPut (state g old) (state g end)
-  pub memory : HasCleanDisk (state g end) → IsKept (state g old) lists → why ≡ unmade.Memory
-      → IsTrue (state g end).is_open
-  pub failed : HasCleanDisk (state g end) → IsKept (state g old) lists → why ≡ unmade.Device
-      → HasFailed (state g old) (state g end)
-  pub mode : old.in_transaction ≡ false → end.in_transaction ≡ false
-  pub survives : Survives (state g old) (state g end) (λ _. HasTables (state g old).now.schema → ⊥)
+  pub asks : Asks g old end lists (Some why)
+
+-- only a want of memory leaves the connection open
+pub memory_is : (why : Unmade) → LeavesOpen (Some why) → why ≡ unmade.Memory
+memory_is unmade.Memory leaves = refl
+memory_is unmade.Doubt leaves = absurd leaves
+memory_is unmade.Device leaves = absurd leaves
+
+-- a connection that is not asked
+pub asks_none : {S : Type 0} (g : Ghosts S) (held : Held S) (lists : Content) → Asks g held held lists None
+asks_none g held lists = record {
+  stays = λ clean kept opens. (opens, inl refl, refl);
+  opens = λ clean kept leaves. kept.stored.is_open;
+  failed = λ clean kept device. absurd (let h : ⊥ = cc device in h);
+  mode = λ outside. outside;
+  survives = unmoved (state g held) _;
+}
 
 pub fact_fails : {S T : Type 0} (g : Ghosts S) (old mid : Held S) (lists : Content) (fault : TableFault)
     (P : Content → T → Type 0) → FindsFact g old mid (Err fault) P → Fails g old mid lists fault
@@ -60,21 +70,25 @@ module _ {S : Type 0} (g : Ghosts S) (old mid : Held S) (lists : Content) where
   ends_memory : Fails g old mid lists lookup.Memory → EndsFor g old mid mid lists unmade.Memory
   ends_memory did = record {
     calm = λ clean. clean;
-    stays = λ clean kept. put_by from to (did.leaves clean kept);
-    memory = λ clean kept _. (did.fails clean kept).0.is_open;
-    failed = λ clean kept device. absurd (let h : ⊥ = cc device in h);
-    mode = did.mode;
-    survives = did.survives;
+    asks = record {
+      stays = λ clean kept. put_by from to (did.leaves clean kept);
+      opens = λ clean kept _. (did.fails clean kept).0.is_open;
+      failed = λ clean kept device. absurd (let h : ⊥ = cc device in h);
+      mode = did.mode;
+      survives = did.survives;
+    };
   }
 
   ends_untold : Fails g old mid lists lookup.Malformed → EndsFor g old mid mid lists unmade.Device
   ends_untold did = record {
     calm = λ clean. clean;
-    stays = λ clean kept. put_by from to (did.leaves clean kept);
-    memory = λ clean kept memory. absurd (let h : ⊥ = cc memory in h);
-    failed = λ clean kept _. absurd (did.told clean kept refl);
-    mode = did.mode;
-    survives = did.survives;
+    asks = record {
+      stays = λ clean kept. put_by from to (did.leaves clean kept);
+      opens = λ clean kept leaves. absurd leaves;
+      failed = λ clean kept _. absurd (did.told clean kept refl);
+      mode = did.mode;
+      survives = did.survives;
+    };
   }
 
   ends_asked : (end : Held S) (error : Error) (why : Unmade) → Fails g old mid lists (lookup.Store error)
@@ -84,14 +98,18 @@ module _ {S : Type 0} (g : Ghosts S) (old mid : Held S) (lists : Content) where
       let calm : HasCleanDisk last → HasCleanDisk to = λ clean. omega (arith, cause.survives.clean, clean) in
       record {
         calm = calm;
-        stays = λ clean kept. put_then from to last (put_by from to (did.leaves (calm clean) kept))
-            (cause.stays clean);
-        memory = λ clean kept memory. (cause.asked clean memory).0.is_open;
-        failed = λ clean kept device. failed_so from to last error _ _ kept.stored.is_open (calm clean)
-            did.survives cause.survives (did.fails (calm clean) kept) (cause.shut clean device);
-        mode = λ outside. cause.mode (did.mode outside);
-        survives = survives_then from to last _ (λ _. ⊥) _ (λ _ _ none. none) (λ _ _ none. absurd none) did.survives
-            cause.survives;
+        asks = record {
+          stays = λ clean kept. put_then from to last (put_by from to (did.leaves (calm clean) kept))
+              (cause.stays clean);
+          opens = λ clean kept leaves. (cause.asked clean (memory_is why leaves)).0.is_open;
+          failed = λ clean kept device.
+              let is : why ≡ unmade.Device = cc device in
+              failed_so from to last error _ _ kept.stored.is_open (calm clean) did.survives cause.survives
+              (did.fails (calm clean) kept) (cause.shut clean is);
+          mode = λ outside. cause.mode (did.mode outside);
+          survives = survives_then from to last _ (λ _. ⊥) _ (λ _ _ none. none) (λ _ _ none. absurd none) did.survives
+              cause.survives;
+        };
       }
 
   pub ends_for : (end : Held S) (fault : TableFault) (why : Unmade) → Fails g old mid lists fault

@@ -18,14 +18,14 @@ use Rattle.plan_tables.specs.declared.table_store.TableStore.{TableStore}
 -- the store is over its database and has its content, and its lists have a part of that, if its disk gave back what
 -- was written; a crash leaves that content alone; no failure was counted, and the connection is known to be open
 pub record IsOver {S : Type 0} {g : Ghosts S} (conn : Held S) (store : TableStore S g) : Type 0 where
-  pub opened : HasCleanDisk (state g store.conn)
-      → IsOpened (state g conn) (state g store.conn) (kept_in (state g store.conn) (content_of store.lists))
-  pub part : HasCleanDisk (state g store.conn)
-      → IsPartOf (told_rest (tables_of (state g store.conn).now.trees)) (content_of store.lists)
-  pub settled : LeavesOne (state g store.conn) (kept_in (state g store.conn) (content_of store.lists))
-  pub whole : store.failures ≡ 0
-  pub sure : store.in_doubt ≡ false
-  pub crash : Survives (state g conn) (state g store.conn) (MakesFirst (state g conn))
+  pub opened : HasCleanDisk (state g store.session.conn)
+      → IsOpened (state g conn) (state g store.session.conn) (kept_in (state g store.session.conn) (content_of store.lists))
+  pub part : HasCleanDisk (state g store.session.conn)
+      → IsPartOf (told_rest (tables_of (state g store.session.conn).now.trees)) (content_of store.lists)
+  pub settled : LeavesOne (state g store.session.conn) (kept_in (state g store.session.conn) (content_of store.lists))
+  pub whole : store.session.failures ≡ 0
+  pub sure : store.session.in_doubt ≡ false
+  pub crash : Survives (state g conn) (state g store.session.conn) (MakesFirst (state g conn))
 
 -- it is returned, with why its database is not opened, by what is there: one that has a sound plan is never refused
 -- for anything in it

@@ -1,5 +1,6 @@
 pub mod Stored
 pub mod Kept
+pub mod Session
 pub mod Sought
 pub mod Listing
 pub mod Adopted
@@ -12,3 +13,4 @@ pub mod Whys
 pub mod Accepted
 pub mod Applied
 pub mod Ends
+pub mod Stores

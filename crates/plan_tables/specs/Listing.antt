@@ -1,5 +1,5 @@
 -- What a listing that queries the tables does.
-use Rattle.std.specs.Prelude.{◌≡◌, ◌≢◌, ℕ, false, List, Option, Result, IfErr, IfOk, OnOk, ⊤}
+use Rattle.std.specs.Prelude.{◌≡◌, ◌≢◌, ℕ, false, List, Option, Result, IfErr, IfOk, OnOk}
 use Rattle.sqlite.specs.Held.{Held, state}
 use Rattle.sqlite.specs.State.{HasCleanDisk, IsUnchanged, Survives}
 use Rattle.sqlite.specs.Store.{Ghosts}
@@ -9,6 +9,8 @@ use Rattle.plan_store.specs.Listings.{EmitsAll, IsListing, Shown}
 use Rattle.plan_store.specs.declared.listings.ListFault.{ListFault}
 use Rattle.plan_store.specs.declared.listings.ListFault.TheVariants as list
 use Rattle.plan_store.specs.declared.listings.What.{What}
+use Rattle.plan_store.specs.declared.stores.StoreFault.{StoreFault}
+use Rattle.plan_store.specs.declared.stores.StoreFault.TheVariants as store
 use Rattle.plan_store.specs.declared.listings.What.TheVariants as whats
 use Rattle.plan_tables_schema.specs.Rows.{StaysOrIsUndone}
 use Rattle.plan_tables_schema.specs.Schema.{HasTables}
@@ -18,8 +20,8 @@ use Rattle.plan_tables_lookups.specs.declared.faults.Stopped.TheVariants.{Fault,
 use Rattle.plan_tables_lookups.specs.declared.faults.TableFault.{TableFault}
 use Rattle.plan_tables_lookups.specs.declared.faults.TableFault.TheVariants.{Malformed, Memory}
 use Rattle.plan_tables.specs.Kept.{IsKept, kept_in}
+use Rattle.plan_tables.specs.Session.{fault_of}
 use Rattle.plan_tables.specs.declared.keeping.Unmade.{Unmade}
-use Rattle.plan_tables.specs.declared.keeping.Unmade.TheVariants as unmade
 use Rattle.plan_tables.specs.declared.listing.ListedTable.{ListedTable}
 use Rattle.plan_tables.specs.declared.listing.ListedTable.TheVariants as asked
 
@@ -35,19 +37,15 @@ ended_so (list.Sink _) = Sink
 ended_so list.Memory = Fault Memory
 ended_so list.Device = Fault Memory
 
--- the fault of a store
+-- the fault of a listing of a store that fails so
+abbrev pub listing_fault : StoreFault → ListFault
+listing_fault store.Memory = list.Memory
+listing_fault store.Device = list.Device
+
+-- the same where a sink may refuse
 abbrev pub fault_so : Stopped Unmade → ListFault
 fault_so Sink = list.Sink (record {})
-fault_so (Fault unmade.Memory) = list.Memory
-fault_so (Fault unmade.Doubt) = list.Memory
-fault_so (Fault unmade.Device) = list.Device
-
--- it leaves the connection open
-abbrev pub LeavesOpen : Stopped Unmade → Type 0
-LeavesOpen Sink = ⊤
-LeavesOpen (Fault unmade.Memory) = ⊤
-LeavesOpen (Fault unmade.Doubt) = ⊥
-LeavesOpen (Fault unmade.Device) = ⊥
+fault_so (Fault why) = listing_fault (fault_of why)
 
 -- Over a kept content an Ok is the number of all items of the listing, which the sink accepted in its order, and an
 -- error means that it accepted the first of them and, if it is to blame, refused the next. Whatever the tables have,

@@ -1,19 +1,18 @@
 -- What is fetched from the tables for a window or a change, and what a call does that fetches it.
-use Rattle.std.specs.Prelude.{◌≡◌, false, IsTrue, Result, IfErr, OnOk}
+use Rattle.std.specs.Prelude.{◌≡◌, Result, OnOk}
 use Rattle.sqlite.specs.Held.{Held, state}
-use Rattle.sqlite.specs.State.{HasCleanDisk, IsUnchanged, Survives}
+use Rattle.sqlite.specs.State.{HasCleanDisk}
 use Rattle.sqlite.specs.Store.{Ghosts}
 use Rattle.planner_machine.specs.Content.{Content}
 use Rattle.plan_store.specs.Parts.{IsPartOf, Rest}
+use Rattle.plan_store.specs.declared.stores.Need.TheVariants.{LongTerm}
 use Rattle.plan_tables_windows.specs.Changes.{KnowsNamed}
 use Rattle.plan_tables_windows.specs.Windows.{IsReadyFor}
 use Rattle.plan_tables_schema.specs.Rows.{tables_of}
-use Rattle.plan_tables_schema.specs.Schema.{HasTables}
 use Rattle.plan_tables_windows.specs.Fetching.{Grows, told_rest}
-use Rattle.plan_tables.specs.Causes.{HasFailed}
-use Rattle.plan_tables.specs.Kept.{IsKept, StaysPut}
+use Rattle.plan_tables.specs.Kept.{IsKept}
+use Rattle.plan_tables.specs.Session.{Asks, why_in}
 use Rattle.plan_tables.specs.declared.keeping.Unmade.{Unmade}
-use Rattle.plan_tables.specs.declared.keeping.Unmade.TheVariants as unmade
 use Rattle.plan_tables.specs.declared.seeking.Sought.{Sought}
 use Rattle.plan_tables.specs.declared.seeking.Sought.TheVariants as sought
 
@@ -22,9 +21,12 @@ abbrev pub IsFoundFor : Sought → Rest → Content → Type 0
 IsFoundFor (sought.Window need) rest c = IsReadyFor rest need.now c
 IsFoundFor (sought.Change change) rest c = KnowsNamed rest change.now c
 
--- Over a kept content an Ok has what is sought, and nothing is changed in the tables; an error is lack of memory over
--- an open connection, a doubt whether it is open, or a failure of the device. The lists keep what they had, and may
--- have more of the rest; a crash finds what it found before.
+-- it is a window on the long-term plan
+abbrev pub IsOnPlan : Sought → Type 0
+IsOnPlan (sought.Window need) = need.now ≡ LongTerm
+IsOnPlan (sought.Change change) = ⊥
+
+-- Over a kept content an Ok has what is sought. The lists keep what they had, and may have more of the rest.
 pub record Seeks {S : Type 0} (g : Ghosts S) (old new : Held S) (was now : Content)
     (result : Result (Unit {0}) Unmade) (IsFound : Rest → Content → Type 0) : Type 0 where
   pub found : HasCleanDisk (state g new) → ∥ IsKept (state g old) was ∥₁
@@ -32,12 +34,4 @@ pub record Seeks {S : Type 0} (g : Ghosts S) (old new : Held S) (was now : Conte
   pub grows : Grows was now
   pub part : HasCleanDisk (state g new) → IsKept (state g old) was
       → IsPartOf (told_rest (tables_of (state g old).now.trees)) now
-  pub same : HasCleanDisk (state g new) → IsKept (state g old) was
-      → OnOk result (IsUnchanged (state g old) (state g new))
-  pub stays : HasCleanDisk (state g new) → IsKept (state g old) was → StaysPut (state g old) (state g new)
-  pub memory : HasCleanDisk (state g new) → IsKept (state g old) was
-      → IfErr result (λ why. why ≡ unmade.Memory → IsTrue (state g new).is_open)
-  pub failed : HasCleanDisk (state g new) → IsKept (state g old) was
-      → IfErr result (λ why. why ≡ unmade.Device → HasFailed (state g old) (state g new))
-  pub mode : old.in_transaction ≡ false → new.in_transaction ≡ false
-  pub survives : Survives (state g old) (state g new) (λ _. HasTables (state g old).now.schema → ⊥)
+  pub asks : Asks g old new was (why_in result)

@@ -30,17 +30,17 @@ impl<S: Alter + Drop> TableStore<S> {
     /// the plan with a sound content; and if no failure was counted, and the connection is known to be open, the
     /// content that the store kept.
     pub fn into_store(self) -> S
-        ensures honest { IsClean (S.Store.view result) → HasCleanDisk (state S.Store self.conn) }
+        ensures honest { IsClean (S.Store.view result) → HasCleanDisk (state S.Store self.session.conn) }
         ensures numbered { IsClean (S.Store.view result)
             → IsTrue (S.Store.view result).is_numbered }
         ensures sound { IsClean (S.Store.view result) → AreDatabases (S.Store.recovers result) }
         ensures left { (db : Trees) → S.Store.recovers result db
-            → (state S.Store self.conn).may_leave db }
+            → (state S.Store self.session.conn).may_leave db }
         ensures plans { IsClean (S.Store.view result)
             → (db : Trees) → S.Store.recovers result db → ∥ TellsSound db ∥₁ }
-        ensures tells { self.failures ≡ 0 → self.in_doubt ≡ false → IsClean (S.Store.view result)
+        ensures tells { self.session.failures ≡ 0 → self.session.in_doubt ≡ false → IsClean (S.Store.view result)
             → (db : Trees) → S.Store.recovers result db
-            → ∥ Tells db (kept_in (state S.Store self.conn) (content_of self.lists)) ∥₁ }
+            → ∥ Tells db (kept_in (state S.Store self.session.conn) (content_of self.lists)) ∥₁ }
     {
         let conn = self.into_connection();
         let _schema = conn.schema();
@@ -53,17 +53,17 @@ impl<D: Disk + Drop> TableStore<FileStore<D>> {
     /// sound content. Opening them finds a content that a crash might leave of the tables; and if no failure was
     /// counted, and the connection is known to be open, what the store kept and nothing else.
     pub fn into_files(self) -> FileStore<D>
-        ensures honest { IsClean (view result) → HasCleanDisk (file_state self.conn) }
+        ensures honest { IsClean (view result) → HasCleanDisk (file_state self.session.conn) }
         ensures sound { IsClean (view result) → AreDatabases (recovers result) }
         ensures opens_again { IsClean (view result) → (left : Image)
-            → (files_state result).may_leave left → ∥ HoldsLeft left (file_state self.conn) ∥₁ }
+            → (files_state result).may_leave left → ∥ HoldsLeft left (file_state self.session.conn) ∥₁ }
         ensures goes_on { IsClean (view result) → (left : Image)
             → (files_state result).may_leave left
-            → (c : ContentValue) → IsFoundIn left c → ∥ MayLeave (file_state self.conn) c ∥₁ }
-        ensures found_again { self.failures ≡ 0 → self.in_doubt ≡ false → IsClean (view result)
+            → (c : ContentValue) → IsFoundIn left c → ∥ MayLeave (file_state self.session.conn) c ∥₁ }
+        ensures found_again { self.session.failures ≡ 0 → self.session.in_doubt ≡ false → IsClean (view result)
             → (left : Image) → (files_state result).may_leave left
             → (c : ContentValue) → IsFoundIn left c
-            → c ≡ kept_in (file_state self.conn) (content_of self.lists) }
+            → c ≡ kept_in (file_state self.session.conn) (content_of self.lists) }
     {
         tables_have_one_content();
         self.into_store()
@@ -95,33 +95,33 @@ impl<D: Disk + Drop> TableStore<FileStore<D>> {
         ensures usable { IfOk result (λ files. IsTrue (D.Disk.is_usable files.log)
             × IsTrue (D.Disk.is_usable files.db)) }
         ensures honest { IfOk result (λ files. AreClean D.Disk files.log files.db
-            → HasCleanDisk (file_state self.conn)) }
+            → HasCleanDisk (file_state self.session.conn)) }
         ensures holds { IfOk result (λ files. AreClean D.Disk files.log files.db
             → (left : Image) → outcomes D.Disk files.log files.db left
-            → ∥ KeepsAlone left (file_state self.conn) ∥₁) }
+            → ∥ KeepsAlone left (file_state self.session.conn) ∥₁) }
         ensures goes_on { IfOk result (λ files. AreClean D.Disk files.log files.db
             → (left : Image) → outcomes D.Disk files.log files.db left
             → (c : ContentValue) → IsFoundInEither left c
-            → ∥ MayLeave (file_state self.conn) c ∥₁) }
-        ensures found_again { IfOk result (λ files. self.failures ≡ 0 → self.in_doubt ≡ false
+            → ∥ MayLeave (file_state self.session.conn) c ∥₁) }
+        ensures found_again { IfOk result (λ files. self.session.failures ≡ 0 → self.session.in_doubt ≡ false
             → AreClean D.Disk files.log files.db
             → (left : Image) → outcomes D.Disk files.log files.db left
             → (c : ContentValue) → IsFoundInEither left c
-            → c ≡ kept_in (file_state self.conn) (content_of self.lists)) }
+            → c ≡ kept_in (file_state self.session.conn) (content_of self.lists)) }
         ensures sound { IfErr result (λ left. IsClean (view left.1)
             → AreDatabases (recovers left.1)) }
         ensures still_honest { IfErr result (λ left. IsClean (view left.1)
-            → HasCleanDisk (file_state self.conn)) }
+            → HasCleanDisk (file_state self.session.conn)) }
         ensures stays { IfErr result (λ left. (db : Trees) → recovers left.1 db
-            → (file_state self.conn).may_leave db) }
+            → (file_state self.session.conn).may_leave db) }
         ensures plans { IfErr result (λ left. IsClean (view left.1)
             → (db : Trees) → recovers left.1 db → ∥ TellsSound db ∥₁) }
-        ensures tells { IfErr result (λ left. self.failures ≡ 0 → self.in_doubt ≡ false
+        ensures tells { IfErr result (λ left. self.session.failures ≡ 0 → self.session.in_doubt ≡ false
             → IsClean (view left.1) → (db : Trees) → recovers left.1 db
-            → ∥ Tells db (kept_in (file_state self.conn) (content_of self.lists)) ∥₁) }
+            → ∥ Tells db (kept_in (file_state self.session.conn) (content_of self.lists)) ∥₁) }
         ensures blames { IfErr result (λ left. IsClean (view left.1) → left.0 ≡ Device
-            → ((file_state self.conn).is_open ≡ false)
-            ⊎ MoreFaults (faults self.conn.store) (faults left.1)) }
+            → ((file_state self.session.conn).is_open ≡ false)
+            ⊎ MoreFaults (faults self.session.conn.store) (faults left.1)) }
     {
         tables_have_one_content();
         let connection = self.into_connection();

@@ -20,7 +20,9 @@ mod listing;
 mod looking;
 mod opening;
 mod prepared;
+mod ready;
 mod seeking;
+mod session;
 mod table_store;
 
 pub use plan_tables_constraints::fitting_changes_are_accepted;

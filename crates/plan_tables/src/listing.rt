@@ -1,24 +1,23 @@
 // Listings that query the tables.
 
-ghost use Rattle.std.specs.Prelude.{◌≡◌, false, option_copied, IfErr, IfOk, IsTrue, None, OnOk, Some};
+ghost use Rattle.std.specs.Prelude.{◌≡◌, option_copied, IfErr, IfOk, None, Some};
 ghost use Rattle.sqlite.specs.Held.{state};
-ghost use Rattle.sqlite.specs.State.{HasCleanDisk, IsUnchanged, Survives};
+ghost use Rattle.sqlite.specs.State.{HasCleanDisk};
 ghost use Rattle.planner_machine.specs.Sound.{AreNumbered};
 ghost use Rattle.plan_store_lists.specs.Rows.{of_deletion, of_row};
 ghost use Rattle.plan_store.specs.Contents.{content_of};
 ghost use Rattle.plan_store.specs.Listings.{EmitsAll, EmitsPart, IsListing};
 ghost use Rattle.plan_store.specs.Parts.{ListsAll};
-ghost use Rattle.plan_tables_schema.specs.Schema.{HasTables};
 ghost use Rattle.plan_tables_queries.specs.Finding.{FindsFact};
-ghost use Rattle.plan_tables.specs.Causes.{HasFailed};
-ghost use Rattle.plan_tables.specs.Kept.{IsKept, StaysPut, kept_in};
-ghost use Rattle.plan_tables.specs.Listing.{LeavesOpen, ListsKept, ended_so, fault_so};
+ghost use Rattle.plan_tables.specs.Kept.{IsKept, kept_in};
+ghost use Rattle.plan_tables.specs.Listing.{ListsKept, ended_so, fault_so, listing_fault};
 ghost use Rattle.plan_tables.specs.Listing.{what_of};
+ghost use Rattle.plan_tables.specs.Session.{Asks, why_at};
 
 use crate::ends::find_ends;
 use crate::keeping::{Unmade, why_of};
 use occurrences::{Deletion, Row};
-use plan_store::{Content, ItemSink, ListFault};
+use plan_store::{Content, ItemSink, ListFault, StoreFault};
 use plan_tables_lookups::{Stopped, TableFault};
 use plan_tables_queries::{completed_rows, deleted_rows, list_deletions, list_history};
 use sqlite::{Alter, Connection};
@@ -54,6 +53,16 @@ fn ended_so(fault: ListFault) -> Stopped<TableFault>
     match fault {
         ListFault::Sink(_) => Stopped::Sink,
         ListFault::Memory | ListFault::Device => Stopped::Fault(TableFault::Memory),
+    }
+}
+
+/// The fault of a listing of a store that fails so.
+pub(crate) fn listing_fault(fault: StoreFault) -> ListFault
+    ensures { result ≡ listing_fault fault }
+{
+    match fault {
+        StoreFault::Memory => ListFault::Memory,
+        StoreFault::Device => ListFault::Device,
     }
 }
 
@@ -154,22 +163,7 @@ pub(crate) fn list_kept<S: Alter, K: ItemSink>(
         (IsListing (what_of asked) (option_copied app.entry)
         (kept_in (state S.Store conn.old) (content_of lists.now))) sink.old sink.new
         (fault_so why)) }
-    ensures same { HasCleanDisk (state S.Store conn.new)
-        → IsKept (state S.Store conn.old) (content_of lists.now)
-        → OnOk result (IsUnchanged (state S.Store conn.old) (state S.Store conn.new)) }
-    ensures stays { HasCleanDisk (state S.Store conn.new)
-        → IsKept (state S.Store conn.old) (content_of lists.now)
-        → StaysPut (state S.Store conn.old) (state S.Store conn.new) }
-    ensures opens { HasCleanDisk (state S.Store conn.new)
-        → IsKept (state S.Store conn.old) (content_of lists.now)
-        → IfErr result (λ why. LeavesOpen why → IsTrue (state S.Store conn.new).is_open) }
-    ensures failed { HasCleanDisk (state S.Store conn.new)
-        → IsKept (state S.Store conn.old) (content_of lists.now)
-        → IfErr result (λ why. why ≡ Stopped.Fault Unmade.Device
-        → HasFailed (state S.Store conn.old) (state S.Store conn.new)) }
-    ensures mode { conn.old.in_transaction ≡ false → conn.new.in_transaction ≡ false }
-    ensures survives { Survives (state S.Store conn.old) (state S.Store conn.new)
-        (λ _. HasTables (state S.Store conn.old).now.schema → ⊥) }
+    ensures asks { Asks S.Store conn.old conn.new (content_of lists.now) (why_at result) }
 {
     match list_facts(alloc, conn, lists, asked, app, sink) {
         Ok(count) => Ok(count),

@@ -74,13 +74,13 @@ impl TableStore<MemStore> {
     /// A store in memory of a planner before its first statement. It fails only if memory is refused.
     pub fn open_memory(alloc: Global) -> Result<TableStore<MemStore>, OpenFault>
         ensures empty { IfOk result (λ store.
-            kept_in (state over_memory store.conn) (content_of store.lists) ≡ nothing_known) }
+            kept_in (state over_memory store.session.conn) (content_of store.lists) ≡ nothing_known) }
         ensures sound { IfOk result (λ store.
-            IsSound (kept_in (state over_memory store.conn) (content_of store.lists))) }
-        ensures whole { IfOk result (λ store. store.failures ≡ 0) }
-        ensures sure { IfOk result (λ store. store.in_doubt ≡ false) }
-        ensures settled { IfOk result (λ store. LeavesOne (state over_memory store.conn)
-            (kept_in (state over_memory store.conn) (content_of store.lists))) }
+            IsSound (kept_in (state over_memory store.session.conn) (content_of store.lists))) }
+        ensures whole { IfOk result (λ store. store.session.failures ≡ 0) }
+        ensures sure { IfOk result (λ store. store.session.in_doubt ≡ false) }
+        ensures settled { IfOk result (λ store. LeavesOne (state over_memory store.session.conn)
+            (kept_in (state over_memory store.session.conn) (content_of store.lists))) }
         ensures refused { IfErr result (λ fault. fault ≡ Memory) }
     {
         match Connection::open_in_memory(alloc) {
@@ -101,15 +101,15 @@ impl<S: Start> TableStore<FileStore<FileFrom<S>>> {
         path: &str,
         start: S,
     ) -> Result<TableStore<FileStore<FileFrom<S>>>, (OpenFault, Option<Leftover<FileFrom<S>>>)>
-        ensures whole { IfOk result (λ store. store.failures ≡ 0) }
-        ensures sure { IfOk result (λ store. store.in_doubt ≡ false) }
-        ensures opened { IfOk result (λ store. HasCleanDisk (file_state store.conn)
-            → IsKept (file_state store.conn) (content_of store.lists)) }
-        ensures settled { IfOk result (λ store. LeavesOne (file_state store.conn)
-            (kept_in (file_state store.conn) (content_of store.lists))) }
-        ensures found { IfOk result (λ store. HasCleanDisk (file_state store.conn)
+        ensures whole { IfOk result (λ store. store.session.failures ≡ 0) }
+        ensures sure { IfOk result (λ store. store.session.in_doubt ≡ false) }
+        ensures opened { IfOk result (λ store. HasCleanDisk (file_state store.session.conn)
+            → IsKept (file_state store.session.conn) (content_of store.lists)) }
+        ensures settled { IfOk result (λ store. LeavesOne (file_state store.session.conn)
+            (kept_in (file_state store.session.conn) (content_of store.lists))) }
+        ensures found { IfOk result (λ store. HasCleanDisk (file_state store.session.conn)
             → IsFoundIn (image_at S.Start)
-            (kept_in (file_state store.conn) (content_of store.lists))) }
+            (kept_in (file_state store.session.conn) (content_of store.lists))) }
         ensures refused { IfErr result (IsNotOpened (λ is_log file. IsFresh is_log file)
             (image_at S.Start)) }
     {
@@ -131,12 +131,12 @@ impl TableStore<FileStore<File>> {
         alloc: Global,
         path: &str,
     ) -> Result<TableStore<FileStore<File>>, (OpenFault, Option<Leftover<File>>)>
-        ensures whole { IfOk result (λ store. store.failures ≡ 0) }
-        ensures sure { IfOk result (λ store. store.in_doubt ≡ false) }
-        ensures opened { IfOk result (λ store. HasCleanDisk (file_state store.conn)
-            → IsKept (file_state store.conn) (content_of store.lists)) }
-        ensures settled { IfOk result (λ store. LeavesOne (file_state store.conn)
-            (kept_in (file_state store.conn) (content_of store.lists))) }
+        ensures whole { IfOk result (λ store. store.session.failures ≡ 0) }
+        ensures sure { IfOk result (λ store. store.session.in_doubt ≡ false) }
+        ensures opened { IfOk result (λ store. HasCleanDisk (file_state store.session.conn)
+            → IsKept (file_state store.session.conn) (content_of store.lists)) }
+        ensures settled { IfOk result (λ store. LeavesOne (file_state store.session.conn)
+            (kept_in (file_state store.session.conn) (content_of store.lists))) }
         ensures refused { IfErr result (IsNotOpened (λ is_log file. IsFresh is_log file)
             (image_at ⟦<Unknown as Start>⟧)) }
     {

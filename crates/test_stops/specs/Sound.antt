@@ -10,4 +10,4 @@ use Rattle.plan_tables.specs.declared.table_store.TableStore.{TableStore}
 -- what the store keeps is sound, where its disk gave back what was written
 abbrev pub KeepsSound : {S : Type 0} {g : Ghosts S} → TableStore S g → Type 0
 KeepsSound {S} {g} store =
-    HasCleanDisk (state g store.conn) → IsSound (kept_in (state g store.conn) (content_of store.lists))
+    HasCleanDisk (state g store.session.conn) → IsSound (kept_in (state g store.session.conn) (content_of store.lists))

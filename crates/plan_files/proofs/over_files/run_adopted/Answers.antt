@@ -10,7 +10,7 @@ pub returns-in-Ok-clause-ran : goal.returns-in-Ok-clause-ran
 returns-in-Ok-clause-ran g c =
     let over = c.in-Ok.ensures.opened in
     let ran = c.run_and_close.ensures.runs in (
-      kept_in (file_state c.in-Ok.store.conn) (content_of c.in-Ok.store.lists),
+      kept_in (file_state c.in-Ok.store.session.conn) (content_of c.in-Ok.store.lists),
       ran.0,
       record {
         honest = λ honest. omega (arith, over.crash.clean, c.run_and_close.ensures.honest honest);

@@ -1,24 +1,26 @@
-use Rattle.std.proofs.Common.{◌≡◌}
 use Rattle.std.specs.Prelude.{option_copied}
 use Rattle.sqlite.specs.Held.{state}
 use Rattle.plan_store.specs.Contents.{content_of}
 use Rattle.plan_store.specs.Listings.{IsListing}
 use Rattle.plan_tables.specs.Kept.{kept_in}
 use Rattle.plan_tables.specs.Listing.{what_of}
-use Rattle.plan_tables.specs.declared.keeping.Unmade.TheVariants.{Device}
-use Rattle.plan_tables.proofs.ListLemmas.{handed_refused, handed_unread, listing_fails, open_so}
+use Rattle.plan_tables.proofs.ListLemmas.{handed_refused, handed_unread, listing_fails}
 use Rattle.plan_tables.proofs.LookLemmas.{put_by}
 use Rattle.plan_tables.proofs.WhyLemmas.{EndsFor, ends_for}
 use Rattle.plan_tables.proofs.listing.list_kept.Given.{Over}
 use Rattle.plan_tables.proofs.listing.list_kept.Goals as goal
 
-pub returns-in-Ok-clause-same : goal.returns-in-Ok-clause-same
-returns-in-Ok-clause-same g c clean kept = c.in-Ok.ensures.same clean kept.stored.plan.schema
-
-pub returns-in-Ok-clause-stays : goal.returns-in-Ok-clause-stays
-returns-in-Ok-clause-stays g c clean kept =
-    put_by (state g.S.Store c.args.conn.now) (state g.S.Store c.list_facts.new.conn)
-    (c.list_facts.ensures.leaves clean kept.stored.plan.schema)
+pub returns-in-Ok-clause-asks : goal.returns-in-Ok-clause-asks
+returns-in-Ok-clause-asks g c =
+    let did = c.in-Ok.ensures in
+    record {
+      stays = λ clean kept. put_by (state g.S.Store c.args.conn.now) (state g.S.Store c.list_facts.new.conn)
+          (did.leaves clean kept.stored.plan.schema);
+      opens = λ clean kept _. (did.same clean kept.stored.plan.schema).0.is_open;
+      failed = λ clean kept device. absurd (let h : ⊥ = cc device in h);
+      mode = did.mode;
+      survives = did.survives;
+    }
 
 pub returns-in-Err-Sink-clause-part : goal.returns-in-Err-Sink-clause-part
 returns-in-Err-Sink-clause-part g c clean is numbered =
@@ -26,15 +28,18 @@ returns-in-Err-Sink-clause-part g c clean is numbered =
     (kept_in (state g.S.Store c.args.conn.now) (content_of c.args.lists.now))) c.args.sink.now c.list_facts.new.sink
     c.in-Err-Sink.field-0 c.in-Err-Sink.field-0-is (c.in-Err-Sink.ensures.part clean is numbered)
 
-pub returns-in-Err-Sink-clause-stays : goal.returns-in-Err-Sink-clause-stays
-returns-in-Err-Sink-clause-stays g c clean kept =
-    put_by (state g.S.Store c.args.conn.now) (state g.S.Store c.list_facts.new.conn)
-    (c.list_facts.ensures.leaves clean kept.stored.plan.schema)
-
-pub returns-in-Err-Sink-clause-opens : goal.returns-in-Err-Sink-clause-opens
-returns-in-Err-Sink-clause-opens g c clean kept _ =
-    let stops = rw c.in-Err-Sink.field-0-is at (c.in-Err-Sink.ensures.fails clean kept.stored.plan.schema) in
-    stops.0.is_open
+pub returns-in-Err-Sink-clause-asks : goal.returns-in-Err-Sink-clause-asks
+returns-in-Err-Sink-clause-asks g c =
+    let did = c.in-Err-Sink.ensures in
+    record {
+      stays = λ clean kept. put_by (state g.S.Store c.args.conn.now) (state g.S.Store c.list_facts.new.conn)
+          (did.leaves clean kept.stored.plan.schema);
+      opens = λ clean kept _.
+          let stops = rw c.in-Err-Sink.field-0-is at (did.fails clean kept.stored.plan.schema) in stops.0.is_open;
+      failed = λ clean kept device. absurd (let h : ⊥ = cc device in h);
+      mode = did.mode;
+      survives = did.survives;
+    }
 
 -- ---- what is left where the tables failed
 
@@ -53,19 +58,5 @@ returns-in-Err-Fault-clause-part g c clean is numbered =
     c.in-Err-Fault.field-0 c.in-Err-Fault.fault c.why_of.result c.in-Err-Fault.field-0-is
     (c.in-Err-Fault.ensures.part ((left g c).calm clean) is numbered)
 
-pub returns-in-Err-Fault-clause-stays : goal.returns-in-Err-Fault-clause-stays
-returns-in-Err-Fault-clause-stays g c = (left g c).stays
-
-pub returns-in-Err-Fault-clause-opens : goal.returns-in-Err-Fault-clause-opens
-returns-in-Err-Fault-clause-opens g c clean kept =
-    open_so c.why_of.result (state g.S.Store c.why_of.new.conn).is_open ((left g c).memory clean kept)
-
-pub returns-in-Err-Fault-clause-failed : goal.returns-in-Err-Fault-clause-failed
-returns-in-Err-Fault-clause-failed g c clean kept device =
-    let is : c.why_of.result ≡ Device = cc device in (left g c).failed clean kept is
-
-pub returns-in-Err-Fault-clause-mode : goal.returns-in-Err-Fault-clause-mode
-returns-in-Err-Fault-clause-mode g c = (left g c).mode
-
-pub returns-in-Err-Fault-clause-survives : goal.returns-in-Err-Fault-clause-survives
-returns-in-Err-Fault-clause-survives g c = (left g c).survives
+pub returns-in-Err-Fault-clause-asks : goal.returns-in-Err-Fault-clause-asks
+returns-in-Err-Fault-clause-asks g c = (left g c).asks

@@ -27,7 +27,7 @@ returns-in-Ok-clause-holds g c clean left out =
     let same = c.into_connection-connection.ensures in
     subst (λ (x : Held (FileStore _ _)). ∥ KeepsAlone left (file_state x) ∥₁) same
     (keeps_alone conn c.in-Ok.files (c.in-Ok.ensures.copied clean) left out g.met.D.Disk.seen_may_stay
-    (told_of c.args.self.conn conn same c.args.self.told))
+    (told_of c.args.self.session.conn conn same c.args.self.told))
 
 pub returns-in-Ok-clause-goes_on : goal.returns-in-Ok-clause-goes_on
 returns-in-Ok-clause-goes_on g c clean left out d found =
@@ -35,19 +35,19 @@ returns-in-Ok-clause-goes_on g c clean left out d found =
     let same = c.into_connection-connection.ensures in
     subst (λ (x : Held (FileStore _ _)). ∥ MayLeave (file_state x) d ∥₁) same
     (copied_left conn c.in-Ok.files (c.in-Ok.ensures.copied clean) left out c.tables_have_one_content.ensures
-    g.met.D.Disk.seen_may_stay (told_of c.args.self.conn conn same c.args.self.told) d found)
+    g.met.D.Disk.seen_may_stay (told_of c.args.self.session.conn conn same c.args.self.told) d found)
 
 pub returns-in-Ok-clause-found_again : goal.returns-in-Ok-clause-found_again
 returns-in-Ok-clause-found_again g c none sure clean left out d found =
     let copied = c.in-Ok.ensures.copied clean in
     let own = c.args.self in
     copied_again c.into_connection-connection.result c.in-Ok.files copied left out
-    (kept_in (file_state own.conn) (content_of own.lists))
+    (kept_in (file_state own.session.conn) (content_of own.lists))
     c.tables_have_one_content.ensures
-    (λ db may. tells_kept over_files (λ s. settled_at s g.met.D.Disk.seen_may_stay) own.conn
-    c.into_connection-connection.result (kept_in (file_state own.conn) (content_of own.lists)) own.failures
+    (λ db may. tells_kept over_files (λ s. settled_at s g.met.D.Disk.seen_may_stay) own.session.conn
+    c.into_connection-connection.result (kept_in (file_state own.session.conn) (content_of own.lists)) own.session.failures
     c.into_connection-connection.ensures none
-    (∥∥₁_map (certain own.in_doubt sure own.stored) (λ h whole clean. (h whole clean).stored)) copied.was_clean c.schema-schema.ensures.live db may)
+    (∥∥₁_map (certain own.session.in_doubt sure own.stored) (λ h whole clean. (h whole clean).kept.stored)) copied.was_clean c.schema-schema.ensures.live db may)
     g.met.D.Disk.seen_may_stay d found
 
 pub returns-in-Err-clause-stays : goal.returns-in-Err-clause-stays
@@ -63,17 +63,17 @@ returns-in-Err-clause-still_honest g c clean =
 pub returns-in-Err-clause-plans : goal.returns-in-Err-clause-plans
 returns-in-Err-clause-plans g c clean db found =
     let quiet = c.in-Err.ensures.err.0.quiet in
-    told_left over_files c.args.self.conn c.into_connection-connection.result c.into_connection-connection.ensures
+    told_left over_files c.args.self.session.conn c.into_connection-connection.result c.into_connection-connection.ensures
     c.args.self.told (omega (arith, quiet.clean, clean)) db (quiet.outcomes db found)
 
 pub returns-in-Err-clause-tells : goal.returns-in-Err-clause-tells
 returns-in-Err-clause-tells g c none sure clean db found =
     let own = c.args.self in
     let quiet = c.in-Err.ensures.err.0.quiet in
-    tells_kept over_files (λ s. settled_at s g.met.D.Disk.seen_may_stay) own.conn
-    c.into_connection-connection.result (kept_in (file_state own.conn) (content_of own.lists)) own.failures
+    tells_kept over_files (λ s. settled_at s g.met.D.Disk.seen_may_stay) own.session.conn
+    c.into_connection-connection.result (kept_in (file_state own.session.conn) (content_of own.lists)) own.session.failures
     c.into_connection-connection.ensures none
-    (∥∥₁_map (certain own.in_doubt sure own.stored) (λ h whole clean. (h whole clean).stored)) (omega (arith, quiet.clean, clean))
+    (∥∥₁_map (certain own.session.in_doubt sure own.stored) (λ h whole clean. (h whole clean).kept.stored)) (omega (arith, quiet.clean, clean))
     c.schema-schema.ensures.live db (quiet.outcomes db found)
 
 pub returns-in-Err-clause-blames : goal.returns-in-Err-clause-blames

@@ -16,7 +16,7 @@ returns-in-Ok-over_store-clause-found g c clean =
     let over = c.in-Ok-over_store.ensures.opened in
     let first : HasCleanDisk (file_state c.in-Ok.conn) = omega (arith, over.crash.clean, clean) in
     found_in (image_at g.S.Start) (file_state c.in-Ok.conn)
-    (kept_in (file_state c.in-Ok-over_store.store.conn) (content_of c.in-Ok-over_store.store.lists))
+    (kept_in (file_state c.in-Ok-over_store.store.session.conn) (content_of c.in-Ok-over_store.store.lists))
     (c.in-Ok.ensures.opened first).0 (c.in-Ok.ensures.opened first).1 (c.in-Ok.ensures.found first)
     ((over.opened clean).told clean)
 

@@ -11,7 +11,7 @@ use Rattle.plan_tables.proofs.table_store.TableStore.adopt.Goals as goal
 pub returns-in-Ok-clause-opened : goal.returns-in-Ok-clause-opened
 returns-in-Ok-clause-opened g c =
     let old = state g.S.Store c.args.conn in
-    let now = state g.S.Store c.over.result.conn in
+    let now = state g.S.Store c.over.result.session.conn in
     let kept = kept_in now (content_of c.over.result.lists) in
     let opened : HasCleanDisk now → IsOpened old now kept = λ clean. subst (IsOpened old now)
     (sym (c.over.ensures.kept clean)) (subst (λ conn. IsOpened old (state g.S.Store conn) (content_of c.in-Ok.lists))
@@ -19,7 +19,7 @@ returns-in-Ok-clause-opened g c =
     record {
       opened = opened;
       part = c.over.ensures.part;
-      settled = λ left both. leaves_one g.S.Store g.met.S.Store.settled c.over.result.conn left kept
+      settled = λ left both. leaves_one g.S.Store g.met.S.Store.settled c.over.result.session.conn left kept
           c.tables_have_one_content.ensures ((opened both.0).stored both.0) both.1;
       whole = c.over.ensures.whole;
       sure = c.over.ensures.sure;

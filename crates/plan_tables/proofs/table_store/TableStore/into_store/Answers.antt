@@ -17,15 +17,15 @@ pub returns-clause-plans : goal.returns-clause-plans
 returns-clause-plans g c clean db left =
     let before : HasCleanDisk (state g.S.Store c.into_connection-conn.result) = omega
     (arith, c.into_store.ensures.quiet.clean, clean) in
-    told_left g.S.Store c.args.self.conn c.into_connection-conn.result c.into_connection-conn.ensures
+    told_left g.S.Store c.args.self.session.conn c.into_connection-conn.result c.into_connection-conn.ensures
     c.args.self.told before db (c.into_store.ensures.quiet.outcomes db left)
 
 pub returns-clause-tells : goal.returns-clause-tells
 returns-clause-tells g c none sure clean db left =
     let before : HasCleanDisk (state g.S.Store c.into_connection-conn.result) = omega
     (arith, c.into_store.ensures.quiet.clean, clean) in
-    tells_kept g.S.Store g.met.S.Store.settled c.args.self.conn c.into_connection-conn.result
-    (kept_in (state g.S.Store c.args.self.conn) (content_of c.args.self.lists)) c.args.self.failures
+    tells_kept g.S.Store g.met.S.Store.settled c.args.self.session.conn c.into_connection-conn.result
+    (kept_in (state g.S.Store c.args.self.session.conn) (content_of c.args.self.lists)) c.args.self.session.failures
     c.into_connection-conn.ensures none
-    (∥∥₁_map (certain c.args.self.in_doubt sure c.args.self.stored) (λ h whole clean. (h whole clean).stored)) before c.schema-schema.ensures.live db
+    (∥∥₁_map (certain c.args.self.session.in_doubt sure c.args.self.stored) (λ h whole clean. (h whole clean).kept.stored)) before c.schema-schema.ensures.live db
     (c.into_store.ensures.quiet.outcomes db left)

@@ -1,240 +1,244 @@
-use Rattle.std.proofs.Common.{◌∙◌, ap, arith, refl, subst, sym}
-use Rattle.std.proofs.Math.Logic.{∥∥₁_elim, ∥∥₁_map}
-use Rattle.std.specs.Prelude.{IsTrue}
-use Rattle.sqlite.specs.Held.{state}
+use Rattle.std.proofs.Common.{◌≡◌, ◌∙◌, None, Some, ap, arith, inl, inr, refl, subst, sym}
+use Rattle.std.proofs.Math.Logic.{∥∥₁_map}
+use Rattle.std.specs.Prelude.{option_copied}
+use Rattle.sqlite.specs.Held.{Held, state}
 use Rattle.sqlite.specs.State.{HasCleanDisk}
+use Rattle.planner_machine.specs.Content.{Content}
+use Rattle.planner_machine.specs.Sound.{AreNumbered}
 use Rattle.plan_store.specs.Contents.{content_of}
+use Rattle.plan_store.specs.Listings.{EmitsAll, EmitsPart, IsListing}
+use Rattle.plan_tables_schema.specs.Rows.{tables_of}
+use Rattle.plan_tables_lookups.specs.declared.faults.Stopped.TheVariants.{Sink}
+use Rattle.plan_tables_windows.specs.Fetching.{told_rest}
 use Rattle.plan_tables.specs.Kept.{kept_in}
-use Rattle.plan_tables.specs.Listing.{LeavesOpen}
-use Rattle.plan_tables_lookups.specs.declared.faults.Stopped.TheVariants.{Fault}
-use Rattle.plan_tables.proofs.LookLemmas.{kept_sure, looks_still, told_kept_still}
-use Rattle.plan_tables.proofs.SetLemmas.{truth_prop}
-use Rattle.plan_tables.proofs.StoredLemmas.{keeps_still, keeps_unchanged, put_still}
+use Rattle.plan_tables.specs.Listing.{fault_so, listing_fault, what_of}
+use Rattle.plan_tables.specs.Session.{doubt_after, failures_after, fault_of}
+use Rattle.plan_tables.proofs.ListLemmas.{emits_none, mild_listed, no_device, no_memory, store_device, store_memory}
+use Rattle.plan_tables.proofs.LookLemmas.{looks_still}
+use Rattle.plan_tables.proofs.SessionLemmas.{asks_blamed, counts_device, counts_none, device_is, failed_asked, keeps_asked, keeps_unchecked, kept_checked}
+use Rattle.plan_tables.proofs.SessionLemmas.{looks_checked, looks_then, looks_unchecked, mild_never, mild_opens, none_less, opens_asked, shut_unchecked}
+use Rattle.plan_tables.proofs.SessionLemmas.{told_asked, told_checked}
+use Rattle.plan_tables.proofs.ReadyLemmas.{holds_still}
 use Rattle.plan_tables.proofs.table_store.TableStore.list_asked.Goals as goal
+
+-- ---- where the check failed
 
 pub invariant_of-self : goal.invariant_of-self
 invariant_of-self g c =
     let old = c.args.self.now in
-    let before = state g.S.Store old.conn in
-    let after_it = state g.S.Store c.list_kept.new.conn in
     let lists = content_of old.lists in
-    let kept = kept_sure old.in_doubt old.failures c.requires.sure c.requires.whole old.stored in
     record {
-      settled = c.list_kept.ensures.mode old.settled;
       jobless = old.jobless;
-      stored = ∥∥₁_map kept (λ h whole clean _.
-          let calm : HasCleanDisk before = omega (arith, c.list_kept.ensures.survives.clean, clean) in
-          let k = h calm in
-          keeps_unchanged before after_it lists k (c.in-Ok.ensures.same clean k));
-      told = told_kept_still before after_it c.list_kept.ensures.survives lists kept old.told;
+      stored = keeps_unchecked old.session c.check.new.self lists old.plan_ready old.stored c.in-Err.fault c.in-Err.ensures;
+      told = told_checked old.session c.check.new.self lists old.plan_ready old.stored c.check.ensures old.told;
+    }
+
+pub returns-in-Err : goal.returns-in-Err
+returns-in-Err g c =
+    let old = c.args.self.now in
+    let lists = content_of old.lists in
+    let checks = c.in-Err.ensures in
+    let fault = c.in-Err.fault in
+    let told = c.listing_fault.ensures in
+    let looks = looks_unchecked old.session c.check.new.self lists old.plan_ready old.stored fault checks in
+    record {
+      all = λ honest numbered. tt;
+      part = λ honest either numbered.
+          let (items, is) = c.has_listings_with.ensures (told_rest (tables_of (state g.S.Store old.session.conn).now.trees))
+          numbered (what_of c.args.asked) (option_copied c.args.app) in
+          emits_none g.K.ItemSink.accepts g.K.ItemSink.refuses _ c.args.sink.now items fault c.listing_fault.result told is;
+      same = looks.same;
+      crash = looks.crash;
+      blames = λ device. elim (checks.blames (store_device fault (sym told ∙ device))) [
+        | inl more ↦ more
+        | inr some ↦ absurd (let h : ⊥ = omega (arith, c.requires, some) in h)
+      ];
+      counts = checks.counts;
+      still = tt;
+      steady = λ memory. let it = checks.doubt (store_memory fault (sym told ∙ memory)) in it.1 ∙ sym it.0;
+      caused = λ clean device. shut_unchecked old.session c.check.new.self fault checks clean c.requires (store_device fault (sym told ∙ device));
+      honest = λ (clean, opens). (looks.clean clean, looks.opens clean opens);
+      clean = looks.clean;
+      stays_honest = λ _ clean mild. absurd (mild_never old.session c.check.new.self fault checks
+          (mild_listed fault c.listing_fault.result _ told mild));
+      whole = tt;
+    }
+
+-- ---- where the tables were asked
+
+pub invariant_of-self-in-Ok-list_kept : goal.invariant_of-self-in-Ok-list_kept
+invariant_of-self-in-Ok-list_kept g c =
+    let old = c.args.self.now in
+    let mid = c.check.new.self in
+    let lists = content_of old.lists in
+    let checks = c.in-Ok.ensures in
+    let kept = kept_checked old.session mid lists old.plan_ready old.stored checks in
+    let asks = c.in-Ok-list_kept.ensures.asks in
+    record {
+      jobless = old.jobless;
+      stored = keeps_asked g.S.Store mid.conn c.list_kept.new.conn lists old.plan_ready None asks kept mid.failures mid.in_doubt lists old.plan_ready
+          checks.whole.1 checks.whole.2 (λ clean. holds_still (state g.S.Store mid.conn)
+          (state g.S.Store c.list_kept.new.conn) lists old.plan_ready);
+      told = told_asked g.S.Store mid.conn c.list_kept.new.conn lists old.plan_ready None asks kept
+          (told_checked old.session mid lists old.plan_ready old.stored checks old.told);
     }
 
 pub invariant_of-self-in-Err-Sink : goal.invariant_of-self-in-Err-Sink
 invariant_of-self-in-Err-Sink g c =
     let old = c.args.self.now in
-    let before = state g.S.Store old.conn in
-    let after_it = state g.S.Store c.list_kept.new.conn in
+    let mid = c.check.new.self in
     let lists = content_of old.lists in
-    let kept = kept_sure old.in_doubt old.failures c.requires.sure c.requires.whole old.stored in
+    let checks = c.in-Ok.ensures in
+    let kept = kept_checked old.session mid lists old.plan_ready old.stored checks in
+    let asks = rw c.in-Err-Sink.field-0-is at c.in-Err-Sink.ensures.asks in
     record {
-      settled = c.list_kept.ensures.mode old.settled;
       jobless = old.jobless;
-      stored = ∥∥₁_map kept (λ h whole clean _.
-          let calm : HasCleanDisk before = omega (arith, c.list_kept.ensures.survives.clean, clean) in
-          let k = h calm in
-          let is_open : IsTrue after_it.is_open = c.in-Err-Sink.ensures.opens clean k (subst LeavesOpen (sym c.in-Err-Sink.field-0-is) tt) in
-          let put = put_still before after_it (kept_in before lists) k.stored (c.list_kept.ensures.stays clean k) is_open in
-          keeps_still before after_it lists k is_open put.0 put.1);
-      told = told_kept_still before after_it c.list_kept.ensures.survives lists kept old.told;
+      stored = keeps_asked g.S.Store mid.conn c.list_kept.new.conn lists old.plan_ready None asks kept mid.failures mid.in_doubt lists old.plan_ready
+          checks.whole.1 checks.whole.2 (λ clean. holds_still (state g.S.Store mid.conn)
+          (state g.S.Store c.list_kept.new.conn) lists old.plan_ready);
+      told = told_asked g.S.Store mid.conn c.list_kept.new.conn lists old.plan_ready None asks kept
+          (told_checked old.session mid lists old.plan_ready old.stored checks old.told);
     }
 
-pub invariant_of-self-in-Err-Fault-Memory : goal.invariant_of-self-in-Err-Fault-Memory
-invariant_of-self-in-Err-Fault-Memory g c =
+pub invariant_of-self-in-Err-Fault : goal.invariant_of-self-in-Err-Fault
+invariant_of-self-in-Err-Fault g c =
     let old = c.args.self.now in
-    let before = state g.S.Store old.conn in
-    let after_it = state g.S.Store c.list_kept.new.conn in
+    let mid = c.check.new.self in
+    let now = c.blame.new.self in
+    let why = c.in-Err-Fault.why in
     let lists = content_of old.lists in
-    let kept = kept_sure old.in_doubt old.failures c.requires.sure c.requires.whole old.stored in
+    let checks = c.in-Ok.ensures in
+    let kept = kept_checked old.session mid lists old.plan_ready old.stored checks in
+    let asks = asks_blamed lists c.blame.ensures (rw c.in-Err-Fault.field-0-is at c.in-Err-Fault.ensures.asks) in
     record {
-      settled = c.list_kept.ensures.mode old.settled;
       jobless = old.jobless;
-      stored = ∥∥₁_map kept (λ h whole clean _.
-          let calm : HasCleanDisk before = omega (arith, c.list_kept.ensures.survives.clean, clean) in
-          let k = h calm in
-          let is_open : IsTrue after_it.is_open = c.in-Err-Fault-Memory.ensures.opens clean k (subst LeavesOpen (sym (c.in-Err-Fault-Memory.field-0-is ∙ ap Fault c.in-Err-Fault-Memory.field-0-0-is)) tt) in
-          let put = put_still before after_it (kept_in before lists) k.stored (c.list_kept.ensures.stays clean k) is_open in
-          keeps_still before after_it lists k is_open put.0 put.1);
-      told = told_kept_still before after_it c.list_kept.ensures.survives lists kept old.told;
+      stored = keeps_asked g.S.Store mid.conn now.conn lists old.plan_ready (Some why) asks kept now.failures now.in_doubt lists old.plan_ready
+          (c.blame.ensures.failures ∙ ap (failures_after (Some why)) checks.whole.1)
+          (c.blame.ensures.in_doubt ∙ ap (doubt_after (Some why)) checks.whole.2)
+          (λ clean. holds_still (state g.S.Store mid.conn) (state g.S.Store now.conn) lists old.plan_ready);
+      told = told_asked g.S.Store mid.conn now.conn lists old.plan_ready (Some why) asks kept
+          (told_checked old.session mid lists old.plan_ready old.stored checks old.told);
     }
 
-pub invariant_of-self-in-Err-Fault-Doubt : goal.invariant_of-self-in-Err-Fault-Doubt
-invariant_of-self-in-Err-Fault-Doubt g c =
+pub returns-in-Ok-list_kept : goal.returns-in-Ok-list_kept
+returns-in-Ok-list_kept g c =
     let old = c.args.self.now in
-    let before = state g.S.Store old.conn in
-    let after_it = state g.S.Store c.list_kept.new.conn in
+    let mid = c.check.new.self in
     let lists = content_of old.lists in
-    let kept = kept_sure old.in_doubt old.failures c.requires.sure c.requires.whole old.stored in
+    let checks = c.in-Ok.ensures in
+    let kept = kept_checked old.session mid lists old.plan_ready old.stored checks in
+    let asks = c.in-Ok-list_kept.ensures.asks in
+    let s1 = state g.S.Store mid.conn in
+    let s2 = state g.S.Store c.list_kept.new.conn in
+    let looks = looks_still s1 s2 asks.survives lists (∥∥₁_map kept (λ h clean. (h clean).kept)) asks.stays in
+    let met = looks_checked old.session mid lists old.plan_ready old.stored checks c.requires in
+    let did = looks_then (state g.S.Store old.session.conn) s1 s2 lists lists lists met looks in
+    let opens = opens_asked g.S.Store mid.conn c.list_kept.new.conn lists old.plan_ready None asks kept in
     record {
-      settled = c.list_kept.ensures.mode old.settled;
-      jobless = old.jobless;
-      stored = ∥∥₁_map kept (λ h whole clean opens.
-          let calm : HasCleanDisk before = omega (arith, c.list_kept.ensures.survives.clean, clean) in
-          let k = h calm in
-          let is_open : IsTrue after_it.is_open = opens refl in
-          let put = put_still before after_it (kept_in before lists) k.stored (c.list_kept.ensures.stays clean k) is_open in
-          keeps_still before after_it lists k is_open put.0 put.1);
-      told = told_kept_still before after_it c.list_kept.ensures.survives lists kept old.told;
+      all = λ (clean, opens). subst (λ (k : Content). AreNumbered k.sets → EmitsAll g.K.ItemSink.accepts
+          (IsListing (what_of c.args.asked) (option_copied c.args.app) k) c.args.sink.now c.list_kept.new.sink
+          c.in-Ok-list_kept.count) (met.same (looks.clean clean, looks.opens clean opens))
+          (c.in-Ok-list_kept.ensures.all clean (∥∥₁_map kept (λ h. (h (looks.clean clean)).kept)));
+      part = λ honest either numbered. tt;
+      same = did.same;
+      crash = did.crash;
+      blames = tt;
+      counts = none_less old.session.failures _ c.requires;
+      still = checks.whole.1 ∙ sym c.requires;
+      steady = tt;
+      caused = λ clean. tt;
+      honest = λ (clean, is_open). (did.clean clean, did.opens clean is_open);
+      clean = did.clean;
+      stays_honest = λ _ clean _. (clean, opens clean tt);
+      whole = (checks.whole.1, checks.whole.2);
     }
 
-pub invariant_of-self-in-Err-Fault-Device : goal.invariant_of-self-in-Err-Fault-Device
-invariant_of-self-in-Err-Fault-Device g c =
+pub returns-in-Err-Sink : goal.returns-in-Err-Sink
+returns-in-Err-Sink g c =
     let old = c.args.self.now in
-    let before = state g.S.Store old.conn in
-    let after_it = state g.S.Store c.list_kept.new.conn in
+    let mid = c.check.new.self in
     let lists = content_of old.lists in
-    let kept = kept_sure old.in_doubt old.failures c.requires.sure c.requires.whole old.stored in
+    let checks = c.in-Ok.ensures in
+    let kept = kept_checked old.session mid lists old.plan_ready old.stored checks in
+    let asks = rw c.in-Err-Sink.field-0-is at c.in-Err-Sink.ensures.asks in
+    let s1 = state g.S.Store mid.conn in
+    let s2 = state g.S.Store c.list_kept.new.conn in
+    let looks = looks_still s1 s2 asks.survives lists (∥∥₁_map kept (λ h clean. (h clean).kept)) asks.stays in
+    let met = looks_checked old.session mid lists old.plan_ready old.stored checks c.requires in
+    let did = looks_then (state g.S.Store old.session.conn) s1 s2 lists lists lists met looks in
+    let opens = opens_asked g.S.Store mid.conn c.list_kept.new.conn lists old.plan_ready None asks kept in
     record {
-      settled = c.list_kept.ensures.mode old.settled;
-      jobless = old.jobless;
-      stored = ∣ (λ none clean doubt. absurd (omega arith)) ∣₁;
-      told = told_kept_still before after_it c.list_kept.ensures.survives lists kept old.told;
+      all = λ honest numbered. tt;
+      part = λ honest either.
+          let clean : HasCleanDisk s2 = elim either [ inl is ↦ is.0 | inr is ↦ is ] in
+          let calm = looks.clean clean in
+          subst (λ (k : Content). AreNumbered k.sets → EmitsPart g.K.ItemSink.accepts g.K.ItemSink.refuses
+          (IsListing (what_of c.args.asked) (option_copied c.args.app) k) c.args.sink.now c.list_kept.new.sink
+          (fault_so Sink))
+          (met.same (calm, (checks.fine calm).stays_open honest.1))
+          (rw c.in-Err-Sink.field-0-is at (c.in-Err-Sink.ensures.part clean (∥∥₁_map kept (λ h. (h calm).kept))));
+      same = did.same;
+      crash = did.crash;
+      blames = λ device. absurd (no_device _ refl device);
+      counts = none_less old.session.failures _ c.requires;
+      still = tt;
+      steady = λ memory. absurd (no_memory _ refl memory);
+      caused = λ clean device. absurd (no_device _ refl device);
+      honest = λ (clean, is_open). (did.clean clean, did.opens clean is_open);
+      clean = did.clean;
+      stays_honest = λ _ clean _. (clean, opens clean tt);
+      whole = tt;
     }
 
-pub returns-in-Ok-clause-looks : goal.returns-in-Ok-clause-looks
-returns-in-Ok-clause-looks g c =
+pub returns-in-Err-Fault : goal.returns-in-Err-Fault
+returns-in-Err-Fault g c =
     let old = c.args.self.now in
-    let before = state g.S.Store old.conn in
-    let after_it = state g.S.Store c.list_kept.new.conn in
+    let mid = c.check.new.self in
+    let last = c.blame.new.self in
+    let why = c.in-Err-Fault.why in
     let lists = content_of old.lists in
-    let kept = kept_sure old.in_doubt old.failures c.requires.sure c.requires.whole old.stored in
-    looks_still before after_it c.list_kept.ensures.survives lists kept c.list_kept.ensures.stays
-
-pub returns-in-Err-Sink-clause-looks : goal.returns-in-Err-Sink-clause-looks
-returns-in-Err-Sink-clause-looks g c =
-    let old = c.args.self.now in
-    let before = state g.S.Store old.conn in
-    let after_it = state g.S.Store c.list_kept.new.conn in
-    let lists = content_of old.lists in
-    let kept = kept_sure old.in_doubt old.failures c.requires.sure c.requires.whole old.stored in
-    looks_still before after_it c.list_kept.ensures.survives lists kept c.list_kept.ensures.stays
-
-pub returns-in-Err-Fault-Memory-clause-looks : goal.returns-in-Err-Fault-Memory-clause-looks
-returns-in-Err-Fault-Memory-clause-looks g c =
-    let old = c.args.self.now in
-    let before = state g.S.Store old.conn in
-    let after_it = state g.S.Store c.list_kept.new.conn in
-    let lists = content_of old.lists in
-    let kept = kept_sure old.in_doubt old.failures c.requires.sure c.requires.whole old.stored in
-    looks_still before after_it c.list_kept.ensures.survives lists kept c.list_kept.ensures.stays
-
-pub returns-in-Err-Fault-Doubt-clause-looks : goal.returns-in-Err-Fault-Doubt-clause-looks
-returns-in-Err-Fault-Doubt-clause-looks g c =
-    let old = c.args.self.now in
-    let before = state g.S.Store old.conn in
-    let after_it = state g.S.Store c.list_kept.new.conn in
-    let lists = content_of old.lists in
-    let kept = kept_sure old.in_doubt old.failures c.requires.sure c.requires.whole old.stored in
-    looks_still before after_it c.list_kept.ensures.survives lists kept c.list_kept.ensures.stays
-
-pub returns-in-Err-Fault-Device-clause-looks : goal.returns-in-Err-Fault-Device-clause-looks
-returns-in-Err-Fault-Device-clause-looks g c =
-    let old = c.args.self.now in
-    let before = state g.S.Store old.conn in
-    let after_it = state g.S.Store c.list_kept.new.conn in
-    let lists = content_of old.lists in
-    let kept = kept_sure old.in_doubt old.failures c.requires.sure c.requires.whole old.stored in
-    looks_still before after_it c.list_kept.ensures.survives lists kept c.list_kept.ensures.stays
-
-pub returns-in-Ok-clause-all : goal.returns-in-Ok-clause-all
-returns-in-Ok-clause-all g c clean numbered =
-    let old = c.args.self.now in
-    let before = state g.S.Store old.conn in
-    let after_it = state g.S.Store c.list_kept.new.conn in
-    let lists = content_of old.lists in
-    let kept = kept_sure old.in_doubt old.failures c.requires.sure c.requires.whole old.stored in
-    let calm : HasCleanDisk before = omega (arith, c.list_kept.ensures.survives.clean, clean) in
-    c.in-Ok.ensures.all clean (∥∥₁_map kept (λ h. h calm)) numbered
-
-pub returns-in-Ok-clause-opens : goal.returns-in-Ok-clause-opens
-returns-in-Ok-clause-opens g c clean =
-    let old = c.args.self.now in
-    let before = state g.S.Store old.conn in
-    let after_it = state g.S.Store c.list_kept.new.conn in
-    let lists = content_of old.lists in
-    let kept = kept_sure old.in_doubt old.failures c.requires.sure c.requires.whole old.stored in
-    let calm : HasCleanDisk before = omega (arith, c.list_kept.ensures.survives.clean, clean) in
-    ∥∥₁_elim kept (truth_prop after_it.is_open) (λ h. (c.in-Ok.ensures.same clean (h calm)).0.is_open)
-
-pub returns-in-Err-Sink-clause-part : goal.returns-in-Err-Sink-clause-part
-returns-in-Err-Sink-clause-part g c clean numbered =
-    let old = c.args.self.now in
-    let before = state g.S.Store old.conn in
-    let after_it = state g.S.Store c.list_kept.new.conn in
-    let lists = content_of old.lists in
-    let kept = kept_sure old.in_doubt old.failures c.requires.sure c.requires.whole old.stored in
-    let calm : HasCleanDisk before = omega (arith, c.list_kept.ensures.survives.clean, clean) in
-    rw c.in-Err-Sink.field-0-is at (c.in-Err-Sink.ensures.part clean (∥∥₁_map kept (λ h. h calm)) numbered)
-
-pub returns-in-Err-Fault-Memory-clause-part : goal.returns-in-Err-Fault-Memory-clause-part
-returns-in-Err-Fault-Memory-clause-part g c clean numbered =
-    let old = c.args.self.now in
-    let before = state g.S.Store old.conn in
-    let after_it = state g.S.Store c.list_kept.new.conn in
-    let lists = content_of old.lists in
-    let kept = kept_sure old.in_doubt old.failures c.requires.sure c.requires.whole old.stored in
-    let calm : HasCleanDisk before = omega (arith, c.list_kept.ensures.survives.clean, clean) in
-    rw c.in-Err-Fault-Memory.field-0-0-is at (rw c.in-Err-Fault-Memory.field-0-is at
-    (c.in-Err-Fault-Memory.ensures.part clean (∥∥₁_map kept (λ h. h calm)) numbered))
-
-pub returns-in-Err-Fault-Doubt-clause-part : goal.returns-in-Err-Fault-Doubt-clause-part
-returns-in-Err-Fault-Doubt-clause-part g c clean numbered =
-    let old = c.args.self.now in
-    let before = state g.S.Store old.conn in
-    let after_it = state g.S.Store c.list_kept.new.conn in
-    let lists = content_of old.lists in
-    let kept = kept_sure old.in_doubt old.failures c.requires.sure c.requires.whole old.stored in
-    let calm : HasCleanDisk before = omega (arith, c.list_kept.ensures.survives.clean, clean) in
-    rw c.in-Err-Fault-Doubt.field-0-0-is at (rw c.in-Err-Fault-Doubt.field-0-is at
-    (c.in-Err-Fault-Doubt.ensures.part clean (∥∥₁_map kept (λ h. h calm)) numbered))
-
-pub returns-in-Err-Fault-Device-clause-part : goal.returns-in-Err-Fault-Device-clause-part
-returns-in-Err-Fault-Device-clause-part g c clean numbered =
-    let old = c.args.self.now in
-    let before = state g.S.Store old.conn in
-    let after_it = state g.S.Store c.list_kept.new.conn in
-    let lists = content_of old.lists in
-    let kept = kept_sure old.in_doubt old.failures c.requires.sure c.requires.whole old.stored in
-    let calm : HasCleanDisk before = omega (arith, c.list_kept.ensures.survives.clean, clean) in
-    rw c.in-Err-Fault-Device.field-0-0-is at (rw c.in-Err-Fault-Device.field-0-is at
-    (c.in-Err-Fault-Device.ensures.part clean (∥∥₁_map kept (λ h. h calm)) numbered))
-
-pub returns-in-Err-Fault-Device-clause-caused : goal.returns-in-Err-Fault-Device-clause-caused
-returns-in-Err-Fault-Device-clause-caused g c clean _ =
-    let old = c.args.self.now in
-    let before = state g.S.Store old.conn in
-    let kept = kept_sure old.in_doubt old.failures c.requires.sure c.requires.whole old.stored in
-    let calm : HasCleanDisk before = omega (arith, c.list_kept.ensures.survives.clean, clean) in
-    ∥∥₁_map kept (λ h. c.in-Err-Fault-Device.ensures.failed clean (h calm)
-    (c.in-Err-Fault-Device.field-0-is ∙ ap Fault c.in-Err-Fault-Device.field-0-0-is))
-
-pub returns-in-Err-Sink-clause-mild : goal.returns-in-Err-Sink-clause-mild
-returns-in-Err-Sink-clause-mild g c clean _ =
-    let old = c.args.self.now in
-    let before = state g.S.Store old.conn in
-    let after_it = state g.S.Store c.list_kept.new.conn in
-    let lists = content_of old.lists in
-    let kept = kept_sure old.in_doubt old.failures c.requires.sure c.requires.whole old.stored in
-    let calm : HasCleanDisk before = omega (arith, c.list_kept.ensures.survives.clean, clean) in
-    ∥∥₁_elim kept (truth_prop after_it.is_open) (λ h. c.in-Err-Sink.ensures.opens clean (h calm)
-    (subst LeavesOpen (sym c.in-Err-Sink.field-0-is) tt))
-
-pub returns-in-Err-Fault-Memory-clause-mild : goal.returns-in-Err-Fault-Memory-clause-mild
-returns-in-Err-Fault-Memory-clause-mild g c clean _ =
-    let old = c.args.self.now in
-    let before = state g.S.Store old.conn in
-    let after_it = state g.S.Store c.list_kept.new.conn in
-    let lists = content_of old.lists in
-    let kept = kept_sure old.in_doubt old.failures c.requires.sure c.requires.whole old.stored in
-    let calm : HasCleanDisk before = omega (arith, c.list_kept.ensures.survives.clean, clean) in
-    ∥∥₁_elim kept (truth_prop after_it.is_open) (λ h. c.in-Err-Fault-Memory.ensures.opens clean (h calm)
-    (subst LeavesOpen (sym (c.in-Err-Fault-Memory.field-0-is ∙ ap Fault c.in-Err-Fault-Memory.field-0-0-is)) tt))
+    let checks = c.in-Ok.ensures in
+    let kept = kept_checked old.session mid lists old.plan_ready old.stored checks in
+    let asks = asks_blamed lists c.blame.ensures (rw c.in-Err-Fault.field-0-is at c.in-Err-Fault.ensures.asks) in
+    let s1 = state g.S.Store mid.conn in
+    let s2 = state g.S.Store last.conn in
+    let looks = looks_still s1 s2 asks.survives lists (∥∥₁_map kept (λ h clean. (h clean).kept)) asks.stays in
+    let counted = c.blame.ensures.failures ∙ ap (failures_after (Some why)) checks.whole.1 in
+    let doubted = c.blame.ensures.in_doubt ∙ ap (doubt_after (Some why)) checks.whole.2 in
+    let met = looks_checked old.session mid lists old.plan_ready old.stored checks c.requires in
+    let did = looks_then (state g.S.Store old.session.conn) s1 s2 lists lists lists met looks in
+    let opens = opens_asked g.S.Store mid.conn last.conn lists old.plan_ready (Some why) asks kept in
+    let told = c.listing_fault-in-Err-Fault.ensures ∙ ap listing_fault c.blame.ensures.fault in
+    record {
+      all = λ honest numbered. tt;
+      part = λ honest either numbered.
+          let clean : HasCleanDisk s2 = elim either [ inl is ↦ is.0 | inr is ↦ is ] in
+          let calm = looks.clean clean in
+          let was = subst (λ (h : Held _). HasCleanDisk (state g.S.Store h)) c.blame.ensures.conn clean in
+          let is = met.same (calm, (checks.fine calm).stays_open honest.1) in
+          subst (EmitsPart g.K.ItemSink.accepts g.K.ItemSink.refuses
+          (IsListing (what_of c.args.asked) (option_copied c.args.app) (kept_in (state g.S.Store old.session.conn) lists))
+          c.args.sink.now c.list_kept.new.sink) (sym told)
+          (subst (λ (k : Content). AreNumbered k.sets → EmitsPart g.K.ItemSink.accepts g.K.ItemSink.refuses
+          (IsListing (what_of c.args.asked) (option_copied c.args.app) k) c.args.sink.now c.list_kept.new.sink
+          (listing_fault (fault_of why))) is
+          (rw c.in-Err-Fault.field-0-is at (c.in-Err-Fault.ensures.part was (∥∥₁_map kept (λ h. (h calm).kept)))) numbered);
+      same = did.same;
+      crash = did.crash;
+      blames = λ device. counts_device why old.session.failures last.failures c.requires counted
+          (store_device (fault_of why) (sym told ∙ device));
+      counts = none_less old.session.failures _ c.requires;
+      still = tt;
+      steady = λ memory. counts_none why old.session.failures last.failures c.requires counted
+          (store_memory (fault_of why) (sym told ∙ memory));
+      caused = λ clean device. failed_asked old.session mid last.conn lists old.plan_ready (Some why) checks asks kept clean
+          (ap Some (device_is why (store_device (fault_of why) (sym told ∙ device))));
+      honest = λ (clean, is_open). (did.clean clean, did.opens clean is_open);
+      clean = did.clean;
+      stays_honest = λ _ clean mild. (
+        clean,
+        opens clean (mild_opens why last.in_doubt (last.failures ≡ 0) doubted
+            (mild_listed (fault_of why) c.listing_fault-in-Err-Fault.result _ told mild)),
+      );
+      whole = tt;
+    }

@@ -1,67 +1,103 @@
-use Rattle.std.proofs.Common.{◌≡◌, ◌∙◌, ◌<◌, ap, arith, subst, sym}
-use Rattle.std.specs.Prelude.{IfErr}
+use Rattle.std.proofs.Common.{◌∙◌, None, Some, ap}
+use Rattle.std.proofs.Math.Logic.{∥∥₁_elim, ∥∥₁_map}
+use Rattle.std.proofs.lemmas.Result.{err_from_is_err_and}
 use Rattle.sqlite.specs.Held.{state}
-use Rattle.planner_machine.specs.Content.{Content}
+use Rattle.sqlite.specs.State.{HasCleanDisk}
+use Rattle.planner_machine.specs.Content.{Content, nothing_known}
 use Rattle.plan_store.specs.Contents.{content_of}
-use Rattle.plan_store.specs.Faults.{MoreFailures}
-use Rattle.plan_store.specs.declared.stores.StoreFault.TheVariants.{Device}
-use Rattle.plan_tables.specs.Kept.{CanRead, kept_in}
-use Rattle.plan_tables.proofs.CauseLemmas.{caused_since, counts_on, shut_so, steady_since}
-use Rattle.plan_tables.proofs.LookLemmas.{looks_listed, mild_open, no_mild, ok_if, ok_since, read_failed, read_not, read_so}
-use Rattle.plan_tables.proofs.StoredLemmas.{stays_so}
+use Rattle.plan_tables.specs.Session.{doubt_after, failures_after}
+use Rattle.plan_tables.proofs.LookLemmas.{looks_still}
+use Rattle.plan_tables.proofs.SessionLemmas.{asked, asks_blamed, keeps_asked, keeps_unchecked, kept_checked, looks_checked, looks_unchecked, reads_err, reads_ok, reads_unchecked, told_asked, told_checked}
+use Rattle.plan_tables.proofs.SetLemmas.{found_set}
+use Rattle.plan_tables.proofs.ReadyLemmas.{holds_still}
 use Rattle.plan_tables.proofs.table_store.TableStore.look_up.Goals as goal
 
-pub returns : goal.returns
-returns g c =
-    let before = c.args.self.now in
-    let mid = c.make_sure.new.self in
-    let now = c.look_up_job.new.self in
-    let asked = c.make_sure.ensures in
-    let did = c.look_up_job.ensures in
-    let s0 = state g.S.Store before.conn in
+pub invariant_of-self : goal.invariant_of-self
+invariant_of-self g c =
+    let old = c.args.self.now in
+    let lists = content_of old.lists in
+    record {
+      jobless = old.jobless;
+      stored = keeps_unchecked old.session c.check.new.self lists old.plan_ready old.stored c.in_err-check.field-0.0 c.in_err-check.ensures;
+      told = told_checked old.session c.check.new.self lists old.plan_ready old.stored c.check.ensures old.told;
+    }
+
+-- the connection is in no transaction where the session is blamed
+pub invariant_of-self-2 : goal.invariant_of-self-2
+invariant_of-self-2 g c = ((c.job_kept.ensures.asks nothing_known).mode c.check.new.self.settled, tt)
+
+pub invariant_of-self-in-Ok : goal.invariant_of-self-in-Ok
+invariant_of-self-in-Ok g c =
+    let old = c.args.self.now in
+    let mid = c.check.new.self in
+    let lists = content_of old.lists in
+    let checks = c.in_ok-check.ensures in
+    let kept = kept_checked old.session mid lists old.plan_ready old.stored checks in
+    let asks = c.in-Ok.ensures.asks lists in
+    record {
+      jobless = old.jobless;
+      stored = keeps_asked g.S.Store mid.conn c.job_kept.new.conn lists old.plan_ready None asks kept mid.failures mid.in_doubt lists old.plan_ready
+          checks.whole.1 checks.whole.2 (λ clean. holds_still (state g.S.Store mid.conn)
+          (state g.S.Store c.job_kept.new.conn) lists old.plan_ready);
+      told = told_asked g.S.Store mid.conn c.job_kept.new.conn lists old.plan_ready None asks kept
+          (told_checked old.session mid lists old.plan_ready old.stored checks old.told);
+    }
+
+pub invariant_of-self-in-Err : goal.invariant_of-self-in-Err
+invariant_of-self-in-Err g c =
+    let old = c.args.self.now in
+    let mid = c.check.new.self in
+    let now = c.blame.new.self in
+    let lists = content_of old.lists in
+    let checks = c.in_ok-check.ensures in
+    let kept = kept_checked old.session mid lists old.plan_ready old.stored checks in
+    let asks = asks_blamed lists c.blame.ensures (c.in-Err.ensures.asks lists) in
+    record {
+      jobless = old.jobless;
+      stored = keeps_asked g.S.Store mid.conn now.conn lists old.plan_ready (Some c.in-Err.why) asks kept now.failures now.in_doubt lists old.plan_ready
+          (c.blame.ensures.failures ∙ ap (failures_after (Some c.in-Err.why)) checks.whole.1)
+          (c.blame.ensures.in_doubt ∙ ap (doubt_after (Some c.in-Err.why)) checks.whole.2)
+          (λ clean. holds_still (state g.S.Store mid.conn) (state g.S.Store now.conn) lists old.plan_ready);
+      told = told_asked g.S.Store mid.conn now.conn lists old.plan_ready (Some c.in-Err.why) asks kept
+          (told_checked old.session mid lists old.plan_ready old.stored checks old.told);
+    }
+
+pub returns-in_err-check : goal.returns-in_err-check
+returns-in_err-check g c =
+    let old = c.args.self.now in
+    let fault = c.in_err-check.field-0.0 in
+    let p = err_from_is_err_and c.from_residual.result c.from_residual.ensures.1 in
+    rw (p.1, p.2) (reads_unchecked old _ fault c.in_err-check.ensures _
+    (looks_unchecked old.session c.check.new.self (content_of old.lists) old.plan_ready old.stored fault c.in_err-check.ensures))
+
+pub returns-in-Ok : goal.returns-in-Ok
+returns-in-Ok g c =
+    let old = c.args.self.now in
+    let mid = c.check.new.self in
+    let lists = content_of old.lists in
+    let checks = c.in_ok-check.ensures in
+    let kept = kept_checked old.session mid lists old.plan_ready old.stored checks in
+    let asks = c.in-Ok.ensures.asks lists in
     let s1 = state g.S.Store mid.conn in
-    let s2 = state g.S.Store now.conn in
-    let none : before.failures ≡ 0 = omega (arith, c.if-self-gt0.false) in
-    let still : mid.failures ≡ before.failures = c.in_ok-make_sure.ensures.whole ∙ sym none in
-    let first : CanRead s2 → CanRead s1 = λ can. (did.looks.clean can.0, did.looks.opens can.0 can.1) in
-    let met : CanRead s1 → kept_in s1 (content_of mid.lists) ≡ kept_in s0 (content_of before.lists)
-    = looks_listed s0 s1 before.lists mid.lists asked.looks asked.lists in
-    read_so before now c.look_up_job.result _
-    (λ honest. ok_if c.look_up_job.result _ _ (λ right. right ∙ ap (λ (k : Content). k.jobs c.args.number)
-    (met (first honest))) (did.right honest.0))
-    (λ honest. looks_listed s1 s2 mid.lists now.lists did.looks did.lists honest ∙ met (first honest))
-    (λ d both. asked.looks.crash d (did.looks.crash d both))
-    (subst (λ n. IfErr c.look_up_job.result (λ fault. fault ≡ Device → MoreFailures n now.failures)) still did.blames)
-    none
-    (ok_since c.look_up_job.result _ _ (λ whole. whole.0 ∙ sym none) did.whole)
-    (steady_since c.look_up_job.result now.failures mid.failures before.failures did.steady still)
-    (λ clean. caused_since c.look_up_job.result s0 s1 s2 (counts_on s0 s1 asked.survives) (did.caused clean))
-    (λ honest. let can = first honest in (asked.looks.clean can.0, asked.looks.opens can.0 can.1))
-    (λ clean. asked.looks.clean (did.looks.clean clean))
-    (λ was clean mild. (
-      clean,
-      mild_open c.look_up_job.result s2.is_open now.in_doubt (now.failures ≡ 0)
-          (did.opens clean) (did.memory clean) mild,
-    ))
-    (stays_so c.look_up_job.result _ _ did.whole)
+    let s2 = state g.S.Store c.job_kept.new.conn in
+    let looks = looks_still s1 s2 asks.survives lists (∥∥₁_map kept (λ h clean. (h clean).kept)) asks.stays in
+    reads_ok old _ _ tt (asked old _ mid lists old.plan_ready None checks asks kept checks.whole.1 checks.whole.2 looks)
+    (λ can.
+    let calm : HasCleanDisk s1 = looks.clean can.0 in
+    ∥∥₁_elim kept (found_set _ _) (λ h. c.in-Ok.ensures.found can.0 lists (h calm).kept)
+    ∙ ap (λ (k : Content). k.jobs c.args.number)
+    ((looks_checked old.session mid lists old.plan_ready old.stored checks checks.whole.0).same (calm, looks.opens can.0 can.1)))
 
-pub returns-then-self-gt0 : goal.returns-then-self-gt0
-returns-then-self-gt0 g c =
-    let some : 0 < c.args.self.now.failures = omega (arith, c.if-self-gt0.true) in
-    read_failed c.args.self.now _ some
-
-pub returns-in_err-make_sure : goal.returns-in_err-make_sure
-returns-in_err-make_sure g c =
-    let before = c.args.self.now in
-    let now = c.make_sure.new.self in
-    let asked = c.make_sure.ensures in
-    let s0 = state g.S.Store before.conn in
-    let s1 = state g.S.Store now.conn in
-    let none : before.failures ≡ 0 = omega (arith, c.if-self-gt0.false) in
-    read_not before now c.from_residual.result c.in_err-make_sure.field-0.0 _ c.from_residual.ensures.1
-    (looks_listed s0 s1 before.lists now.lists asked.looks asked.lists) asked.looks.crash
-    c.in_err-make_sure.ensures.blames none c.in_err-make_sure.ensures.steady
-    (λ clean device. shut_so s0 s1 (c.in_err-make_sure.ensures.shut clean device))
-    (λ honest. (asked.looks.clean honest.0, asked.looks.opens honest.0 honest.1)) asked.looks.clean
-    (λ was clean mild. absurd (no_mild c.in_err-make_sure.field-0.0 now.in_doubt (now.failures ≡ 0)
-    c.in_err-make_sure.ensures.doubt mild))
+pub returns-in-Err : goal.returns-in-Err
+returns-in-Err g c =
+    let old = c.args.self.now in
+    let mid = c.check.new.self in
+    let lists = content_of old.lists in
+    let checks = c.in_ok-check.ensures in
+    let kept = kept_checked old.session mid lists old.plan_ready old.stored checks in
+    let asks = asks_blamed lists c.blame.ensures (c.in-Err.ensures.asks lists) in
+    reads_err old _ _ c.blame.result c.in-Err.why c.blame.ensures.fault
+    (asked old _ mid lists old.plan_ready (Some c.in-Err.why) checks asks kept
+    (c.blame.ensures.failures ∙ ap (failures_after (Some c.in-Err.why)) checks.whole.1)
+    (c.blame.ensures.in_doubt ∙ ap (doubt_after (Some c.in-Err.why)) checks.whole.2)
+    (looks_still (state g.S.Store mid.conn) (state g.S.Store c.blame.new.self.conn) asks.survives lists (∥∥₁_map kept (λ h clean. (h clean).kept)) asks.stays))

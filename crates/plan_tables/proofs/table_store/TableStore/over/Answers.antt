@@ -1,4 +1,5 @@
 use Rattle.std.proofs.Common.{subst, sym}
+use Rattle.std.proofs.lemmas.Bool.{false≢true}
 use Rattle.std.proofs.lemmas.Grind.{merely}
 use Rattle.sqlite.specs.Held.{state}
 use Rattle.planner_machine.specs.Sound.{IsSound}
@@ -8,22 +9,24 @@ use Rattle.plan_tables_opening.specs.Opened.{IsStored}
 use Rattle.plan_tables.proofs.StoredLemmas.{kept_part, stored_sound, told_kept}
 use Rattle.plan_tables.proofs.table_store.TableStore.over.Goals as goal
 
-pub invariant_of-result : goal.invariant_of-result
-invariant_of-result g c =
+pub invariant_of-result-2 : goal.invariant_of-result-2
+invariant_of-result-2 g c =
     let s = state g.S.Store c.args.conn in
     let made = content_of c.args.lists in
     let lists = content_of c.keep_part.new.self in
     record {
-      settled = c.requires.mode;
       jobless = c.keep_part.ensures.jobs;
       stored = merely (λ whole clean doubt.
           let stored = c.requires.opened clean in
           let kept = kept_part c.tables_represent_sets.ensures s made lists c.keep_part.ensures.same stored in
           record {
-            stored = subst (IsStored s) (sym kept) stored;
-            sound = subst IsSound (sym kept) c.requires.sound;
-            part = subst (λ (rest : Rest). IsPartOf rest lists) (sym (told_kept c.tables_represent_sets.ensures s made stored))
-                c.keep_part.ensures.part;
+            kept = record {
+              stored = subst (IsStored s) (sym kept) stored;
+              sound = subst IsSound (sym kept) c.requires.sound;
+              part = subst (λ (rest : Rest). IsPartOf rest lists)
+                  (sym (told_kept c.tables_represent_sets.ensures s made stored)) c.keep_part.ensures.part;
+            };
+            ready = λ no. absurd (false≢true no);
           });
       told = merely (λ clean. stored_sound g.S.Store g.met.S.Store.settled c.args.conn made
           (c.requires.opened clean) c.requires.sound c.schema.ensures.live);

@@ -106,25 +106,25 @@ module _ {S : Type 0} {is_honest : S → Type 0} {content : S → Content} {fail
 -- a store that is ready and admits a change is the one that it was
 module _ {S : Type 0} (G : Ghosts S) where
   ready_same : (old : State) (ready mid : TableStore S G) → mid ≡ ready
-      → (HasCleanDisk (state G ready.conn) → ∥ (state G ready.conn).now ≡ old.now ∥₁) → HasCleanDisk (state G mid.conn)
-      → ∥ (state G mid.conn).now ≡ old.now ∥₁
-  ready_same old ready mid is same = subst (λ (m : TableStore S G). HasCleanDisk (state G m.conn)
-      → ∥ (state G m.conn).now ≡ old.now ∥₁) (sym is) same
+      → (HasCleanDisk (state G ready.session.conn) → ∥ (state G ready.session.conn).now ≡ old.now ∥₁) → HasCleanDisk (state G mid.session.conn)
+      → ∥ (state G mid.session.conn).now ≡ old.now ∥₁
+  ready_same old ready mid is same = subst (λ (m : TableStore S G). HasCleanDisk (state G m.session.conn)
+      → ∥ (state G m.session.conn).now ≡ old.now ∥₁) (sym is) same
 
   ready_kept : (before ready mid : TableStore S G) → mid ≡ ready
-      → (CanRead (state G ready.conn) → kept_in (state G ready.conn) (content_of ready.lists)
-      ≡ kept_in (state G before.conn) (content_of before.lists)) → CanRead (state G mid.conn)
-      → kept_in (state G mid.conn) (content_of mid.lists) ≡ kept_in (state G before.conn) (content_of before.lists)
-  ready_kept before ready mid is same = subst (λ (m : TableStore S G). CanRead (state G m.conn)
-      → kept_in (state G m.conn) (content_of m.lists) ≡ kept_in (state G before.conn) (content_of before.lists))
+      → (CanRead (state G ready.session.conn) → kept_in (state G ready.session.conn) (content_of ready.lists)
+      ≡ kept_in (state G before.session.conn) (content_of before.lists)) → CanRead (state G mid.session.conn)
+      → kept_in (state G mid.session.conn) (content_of mid.lists) ≡ kept_in (state G before.session.conn) (content_of before.lists)
+  ready_kept before ready mid is same = subst (λ (m : TableStore S G). CanRead (state G m.session.conn)
+      → kept_in (state G m.session.conn) (content_of m.lists) ≡ kept_in (state G before.session.conn) (content_of before.lists))
       (sym is) same
 
-  admit_looks : (before ready now : TableStore S G) → now.conn ≡ ready.conn → now.lists ≡ ready.lists
-      → LooksOn (state G before.conn) (state G ready.conn) (content_of before.lists) (content_of ready.lists)
-      → LooksOn (state G before.conn) (state G now.conn) (content_of before.lists) (content_of now.lists)
-  admit_looks before ready now conn lists looks = subst (λ (held : Held S). LooksOn (state G before.conn) (state G held)
+  admit_looks : (before ready now : TableStore S G) → now.session.conn ≡ ready.session.conn → now.lists ≡ ready.lists
+      → LooksOn (state G before.session.conn) (state G ready.session.conn) (content_of before.lists) (content_of ready.lists)
+      → LooksOn (state G before.session.conn) (state G now.session.conn) (content_of before.lists) (content_of now.lists)
+  admit_looks before ready now conn lists looks = subst (λ (held : Held S). LooksOn (state G before.session.conn) (state G held)
       (content_of before.lists) (content_of now.lists)) (sym conn)
-      (subst (λ (l : Kept). LooksOn (state G before.conn) (state G ready.conn) (content_of before.lists) (content_of l))
+      (subst (λ (l : Kept). LooksOn (state G before.session.conn) (state G ready.session.conn) (content_of before.lists) (content_of l))
       (sym lists) looks)
 
 -- what is told of an error is told of the one that is made of it
@@ -154,100 +154,100 @@ admit-requires-clause-sound g c can =
 pub admit-requires-clause-knows : goal.admit-requires-clause-knows
 admit-requires-clause-knows g c can = c.in_ok-make_ready.ensures.reads.right can
 
-pub change_so-requires-clause-fits : goal.change_so-requires-clause-fits
-change_so-requires-clause-fits g c = subst (λ (m : TableStore _ _). CanRead (state g.S.Store m.conn)
-    → Fits c.args.change (kept_in (state g.S.Store m.conn) (content_of m.lists))) (sym c.in_ok-admit.ensures.ok)
+pub commit-requires-clause-fits : goal.commit-requires-clause-fits
+commit-requires-clause-fits g c = subst (λ (m : TableStore _ _). CanRead (state g.S.Store m.session.conn)
+    → Fits c.args.change (kept_in (state g.S.Store m.session.conn) (content_of m.lists))) (sym c.in_ok-admit.ensures.ok)
     (λ can. let reads = c.make_ready.ensures.reads in
     subst (Fits c.args.change) (sym (reads.same can)) (c.requires.fits (reads.honest can)))
 
-pub change_so-requires-clause-sound : goal.change_so-requires-clause-sound
-change_so-requires-clause-sound g c = subst (λ (m : TableStore _ _). CanRead (state g.S.Store m.conn)
-    → IsSound (after c.args.change (kept_in (state g.S.Store m.conn) (content_of m.lists))))
+pub commit-requires-clause-sound : goal.commit-requires-clause-sound
+commit-requires-clause-sound g c = subst (λ (m : TableStore _ _). CanRead (state g.S.Store m.session.conn)
+    → IsSound (after c.args.change (kept_in (state g.S.Store m.session.conn) (content_of m.lists))))
     (sym c.in_ok-admit.ensures.ok) (λ can. let reads = c.make_ready.ensures.reads in
     subst (λ (k : Content). IsSound (after c.args.change k)) (sym (reads.same can))
     (c.requires.sound (reads.honest can)))
 
-pub change_so-requires-clause-knows : goal.change_so-requires-clause-knows
-change_so-requires-clause-knows g c = subst (λ (m : TableStore _ _). CanRead (state g.S.Store m.conn)
-    → KnowsNamed (told_rest (tables_of (state g.S.Store m.conn).now.trees)) c.args.change (content_of m.lists))
+pub commit-requires-clause-knows : goal.commit-requires-clause-knows
+commit-requires-clause-knows g c = subst (λ (m : TableStore _ _). CanRead (state g.S.Store m.session.conn)
+    → KnowsNamed (told_rest (tables_of (state g.S.Store m.session.conn).now.trees)) c.args.change (content_of m.lists))
     (sym c.in_ok-admit.ensures.ok) c.in_ok-make_ready.ensures.reads.right
 
 pub returns-clause-applies : goal.returns-clause-applies
 returns-clause-applies g c =
     let before = c.args.self.now in
     let mid = c.admit.new.self in
-    let now = c.change_so.new.self in
-    let result = c.change_so.result in
-    let did = c.change_so.ensures in
+    let now = c.commit.new.self in
+    let result = c.commit.result in
+    let did = c.commit.ensures in
     let reads = c.make_ready.ensures.reads in
-    let looks = subst (λ (m : TableStore _ _). LooksOn (state g.S.Store before.conn) (state g.S.Store m.conn)
+    let looks = subst (λ (m : TableStore _ _). LooksOn (state g.S.Store before.session.conn) (state g.S.Store m.session.conn)
     (content_of before.lists) (content_of m.lists)) (sym c.in_ok-admit.ensures.ok)
-    (looks_read (state g.S.Store before.conn) (state g.S.Store c.make_ready.new.self.conn) (content_of before.lists)
+    (looks_read (state g.S.Store before.session.conn) (state g.S.Store c.make_ready.new.self.session.conn) (content_of before.lists)
     (content_of c.make_ready.new.self.lists) reads.same reads.crash reads.honest reads.clean) in
-    let none : before.failures ≡ 0 = c.in_ok-prepared.ensures.whole in
-    let still : mid.failures ≡ before.failures = ap (λ (s : TableStore _ _). s.failures) c.in_ok-admit.ensures.ok
-    ∙ c.in_ok-make_ready.ensures.whole ∙ sym none in
-    let met : HasCleanDisk (state g.S.Store now.conn) → kept_in (state g.S.Store mid.conn) (content_of mid.lists)
-    ≡ kept_in (state g.S.Store before.conn) (content_of before.lists)
-    = λ clean. looks.same (did.honest clean, did.was_open clean) in
+    let none : before.session.failures ≡ 0 = c.in_ok-prepared.ensures.whole in
+    let still : mid.session.failures ≡ before.session.failures = ap (λ (s : TableStore _ _). s.session.failures) c.in_ok-admit.ensures.ok
+    ∙ c.in_ok-make_ready.ensures.whole.0 ∙ sym none in
+    let met : HasCleanDisk (state g.S.Store now.session.conn) → kept_in (state g.S.Store mid.session.conn) (content_of mid.lists)
+    ≡ kept_in (state g.S.Store before.session.conn) (content_of before.lists)
+    = λ clean. looks.same (did.clean clean, did.was_open clean) in
     written before now c.args.change result
-    (λ honest. subst (λ (k : Content). OnOk result (kept_in (state g.S.Store now.conn) (content_of now.lists)
+    (λ honest. subst (λ (k : Content). OnOk result (kept_in (state g.S.Store now.session.conn) (content_of now.lists)
     ≡ after c.args.change k)) (met honest.0) (did.done honest.0))
-    (λ honest. subst (λ (k : Content). OnErr result (kept_in (state g.S.Store now.conn) (content_of now.lists) ≡ k))
+    (λ honest. subst (λ (k : Content). OnErr result (kept_in (state g.S.Store now.session.conn) (content_of now.lists) ≡ k))
     (met honest.0) (did.same honest))
-    (settled_so result (HasCleanDisk (state g.S.Store now.conn)) (λ (d : Content). MayLeave (state g.S.Store now.conn) d)
-    (kept_in (state g.S.Store now.conn) (content_of now.lists)) did.settled)
+    (settled_so result (HasCleanDisk (state g.S.Store now.session.conn)) (λ (d : Content). MayLeave (state g.S.Store now.session.conn) d)
+    (kept_in (state g.S.Store now.session.conn) (content_of now.lists)) did.settled)
     (λ was d (clean, may). elim (did.crash clean d may) [
-      | inl left ↦ inl (looks.crash d (did.honest clean, left))
+      | inl left ↦ inl (looks.crash d (did.clean clean, left))
       | inr made ↦ inr (subst (λ (k : Content). d ≡ after c.args.change k) (met clean) made)
     ])
-    (subst (λ n. IfErr result (λ fault. fault ≡ Device → MoreFailures n now.failures)) still did.blames)
-    none (ok_since result _ _ (λ whole. whole.0 ∙ sym none) did.ends_whole)
-    (steady_since result now.failures mid.failures before.failures did.steady still)
-    (λ honest. (looks.clean (did.honest honest.0), looks.opens (did.honest honest.0) (did.was_open honest.0)))
-    (λ clean. looks.clean (did.honest clean))
+    (subst (λ n. IfErr result (λ fault. fault ≡ Device → MoreFailures n now.session.failures)) still did.blames)
+    none (ok_since result _ _ (λ whole. whole.0 ∙ sym none) did.whole)
+    (steady_since result now.session.failures mid.session.failures before.session.failures did.steady still)
+    (λ honest. (looks.clean (did.clean honest.0), looks.opens (did.clean honest.0) (did.was_open honest.0)))
+    (λ clean. looks.clean (did.clean clean))
     (λ was clean mild. (
       clean,
-      mild_open result (state g.S.Store now.conn).is_open now.in_doubt (now.failures ≡ 0)
+      mild_open result (state g.S.Store now.session.conn).is_open now.session.in_doubt (now.session.failures ≡ 0)
           (did.opens clean) (did.memory clean) mild,
     ))
-    did.ends_whole
+    did.whole
 
 pub returns-clause-caused : goal.returns-clause-caused
 returns-clause-caused g c none clean can =
     let before = c.args.self.now in
-    let old = state g.S.Store before.conn in
+    let old = state g.S.Store before.session.conn in
     let mid = c.admit.new.self in
-    let calm = c.change_so.ensures.honest clean in
-    merely_err _ c.change_so.result (∥∥₁_map (ready_same g.S.Store old c.make_ready.new.self mid
+    let calm = c.commit.ensures.clean clean in
+    merely_err _ c.commit.result (∥∥₁_map (ready_same g.S.Store old c.make_ready.new.self mid
     c.in_ok-admit.ensures.ok c.in_ok-make_ready.ensures.same calm) (λ same.
-    caused_since c.change_so.result old (state g.S.Store mid.conn) (state g.S.Store c.change_so.new.self.conn)
-    (subst (λ (m : TableStore _ _). CountsOn old (state g.S.Store m.conn)) (sym c.in_ok-admit.ensures.ok)
+    caused_since c.commit.result old (state g.S.Store mid.session.conn) (state g.S.Store c.commit.new.self.session.conn)
+    (subst (λ (m : TableStore _ _). CountsOn old (state g.S.Store m.session.conn)) (sym c.in_ok-admit.ensures.ok)
     c.make_ready.ensures.counted)
-    (c.change_so.ensures.caused clean (can_still old (state g.S.Store mid.conn)
-    (kept_in old (content_of before.lists)) (kept_in (state g.S.Store mid.conn) (content_of mid.lists)) c.args.change
+    (c.commit.ensures.caused clean (can_still old (state g.S.Store mid.session.conn)
+    (kept_in old (content_of before.lists)) (kept_in (state g.S.Store mid.session.conn) (content_of mid.lists)) c.args.change
     same (ready_kept g.S.Store before c.make_ready.new.self mid c.in_ok-admit.ensures.ok c.make_ready.ensures.reads.same
-    (calm, c.change_so.ensures.was_open clean)) can))))
+    (calm, c.commit.ensures.was_open clean)) can))))
 
 pub returns-clause-taken : goal.returns-clause-taken
 returns-clause-taken g c none clean room =
-    let old = state g.S.Store c.args.self.now.conn in
+    let old = state g.S.Store c.args.self.now.session.conn in
     let mid = c.admit.new.self in
-    let calm = c.change_so.ensures.honest clean in
-    merely_err _ c.change_so.result (∥∥₁_map (ready_same g.S.Store old c.make_ready.new.self mid
+    let calm = c.commit.ensures.clean clean in
+    merely_err _ c.commit.result (∥∥₁_map (ready_same g.S.Store old c.make_ready.new.self mid
     c.in_ok-admit.ensures.ok c.in_ok-make_ready.ensures.same calm) (λ same.
-    caused_since c.change_so.result old (state g.S.Store mid.conn) (state g.S.Store c.change_so.new.self.conn)
-    (subst (λ (m : TableStore _ _). CountsOn old (state g.S.Store m.conn)) (sym c.in_ok-admit.ensures.ok)
+    caused_since c.commit.result old (state g.S.Store mid.session.conn) (state g.S.Store c.commit.new.self.session.conn)
+    (subst (λ (m : TableStore _ _). CountsOn old (state g.S.Store m.session.conn)) (sym c.in_ok-admit.ensures.ok)
     c.make_ready.ensures.counted)
-    (c.change_so.ensures.taken clean (room_still old (state g.S.Store mid.conn) c.args.change same room))))
+    (c.commit.ensures.taken clean (room_still old (state g.S.Store mid.session.conn) c.args.change same room))))
 
 pub returns-clause-schema : goal.returns-clause-schema
 returns-clause-schema g c =
-    let old = state g.S.Store c.args.self.now.conn in
+    let old = state g.S.Store c.args.self.now.session.conn in
     let mid = c.admit.new.self in
-    schema_merely c.change_so.result old (state g.S.Store mid.conn) (state g.S.Store c.change_so.new.self.conn)
+    schema_merely c.commit.result old (state g.S.Store mid.session.conn) (state g.S.Store c.commit.new.self.session.conn)
     (λ clean. ready_same g.S.Store old c.make_ready.new.self mid c.in_ok-admit.ensures.ok
-    c.in_ok-make_ready.ensures.same (c.change_so.ensures.honest clean)) c.change_so.ensures.schema
+    c.in_ok-make_ready.ensures.same (c.commit.ensures.clean clean)) c.commit.ensures.schema
 
 pub returns-in_err-prepared-clause-applies : goal.returns-in_err-prepared-clause-applies
 returns-in_err-prepared-clause-applies g c =
@@ -263,7 +263,7 @@ returns-in_err-make_ready-clause-applies g c =
     let before = c.args.self.now in
     let now = c.make_ready.new.self in
     let reads = c.in_err-make_ready.ensures.reads in
-    let none : before.failures ≡ 0 = c.in_ok-prepared.ensures.whole in
+    let none : before.session.failures ≡ 0 = c.in_ok-prepared.ensures.whole in
     unwritten before now c.args.change c.from_residual-in_err-make_ready.result c.in_err-make_ready.field-0.0
     c.from_residual-in_err-make_ready.ensures.1 reads.same reads.crash reads.blames
     (λ some. absurd (let h : ⊥ = omega (arith, none, some) in h))
@@ -272,23 +272,23 @@ returns-in_err-make_ready-clause-applies g c =
 pub returns-in_err-make_ready-clause-caused : goal.returns-in_err-make_ready-clause-caused
 returns-in_err-make_ready-clause-caused g c none clean can =
     told_so c.from_residual-in_err-make_ready.result c.in_err-make_ready.field-0.0
-    c.from_residual-in_err-make_ready.ensures.1 (c.in_err-make_ready.ensures.caused clean)
+    c.from_residual-in_err-make_ready.ensures.1 (c.in_err-make_ready.ensures.reads.caused none clean)
 
 pub returns-in_err-make_ready-clause-taken : goal.returns-in_err-make_ready-clause-taken
 returns-in_err-make_ready-clause-taken g c none clean room =
     told_so c.from_residual-in_err-make_ready.result c.in_err-make_ready.field-0.0
-    c.from_residual-in_err-make_ready.ensures.1 (c.in_err-make_ready.ensures.caused clean)
+    c.from_residual-in_err-make_ready.ensures.1 (c.in_err-make_ready.ensures.reads.caused none clean)
 
 pub returns-in_err-prepared-clause-schema : goal.returns-in_err-prepared-clause-schema
 returns-in_err-prepared-clause-schema g c =
-    let old = state g.S.Store c.args.self.now.conn in
+    let old = state g.S.Store c.args.self.now.session.conn in
     told_kept c.from_residual.result c.in_err-prepared.field-0.0 old old c.from_residual.ensures.1
     (λ _ _ _. ∣ refl ∣₁)
 
 pub returns-in_err-make_ready-clause-schema : goal.returns-in_err-make_ready-clause-schema
 returns-in_err-make_ready-clause-schema g c =
     told_kept c.from_residual-in_err-make_ready.result c.in_err-make_ready.field-0.0
-    (state g.S.Store c.args.self.now.conn) (state g.S.Store c.make_ready.new.self.conn)
+    (state g.S.Store c.args.self.now.session.conn) (state g.S.Store c.make_ready.new.self.session.conn)
     c.from_residual-in_err-make_ready.ensures.1 c.in_err-make_ready.ensures.schema
 
 pub returns-in_err-admit-clause-applies : goal.returns-in_err-admit-clause-applies
@@ -299,12 +299,12 @@ returns-in_err-admit-clause-applies g c =
     let fault = c.in_err-admit.field-0.0 in
     let reads = c.in_ok-make_ready.ensures.reads in
     let looks = admit_looks g.S.Store before ready now c.admit.ensures.conn c.admit.ensures.lists
-    (looks_read (state g.S.Store before.conn) (state g.S.Store ready.conn) (content_of before.lists)
+    (looks_read (state g.S.Store before.session.conn) (state g.S.Store ready.session.conn) (content_of before.lists)
     (content_of ready.lists) reads.same reads.crash reads.honest reads.clean) in
-    let none : before.failures ≡ 0 = c.in_ok-prepared.ensures.whole in
+    let none : before.session.failures ≡ 0 = c.in_ok-prepared.ensures.whole in
     unwritten before now c.args.change c.from_residual-in_err-admit.result fault
     c.from_residual-in_err-admit.ensures.1 looks.same looks.crash
-    (λ device. inl (subst (λ n. MoreFailures n now.failures) (c.in_ok-make_ready.ensures.whole ∙ sym none)
+    (λ device. inl (subst (λ n. MoreFailures n now.session.failures) (c.in_ok-make_ready.ensures.whole.0 ∙ sym none)
     (c.in_err-admit.ensures.blames device)))
     (λ some. absurd (let h : ⊥ = omega (arith, none, some) in h))
     (omega (arith, none))
@@ -329,10 +329,10 @@ returns-in_err-admit-clause-taken g c none clean room =
 
 pub returns-in_err-admit-clause-schema : goal.returns-in_err-admit-clause-schema
 returns-in_err-admit-clause-schema g c =
-    told_kept c.from_residual-in_err-admit.result c.in_err-admit.field-0.0 (state g.S.Store c.args.self.now.conn)
-    (state g.S.Store c.admit.new.self.conn) c.from_residual-in_err-admit.ensures.1 (λ memory clean opens.
+    told_kept c.from_residual-in_err-admit.result c.in_err-admit.field-0.0 (state g.S.Store c.args.self.now.session.conn)
+    (state g.S.Store c.admit.new.self.session.conn) c.from_residual-in_err-admit.ensures.1 (λ memory clean opens.
     subst (λ (conn : Held _). ∥ (state g.S.Store conn).now.schema
-    ≡ (state g.S.Store c.args.self.now.conn).now.schema ∥₁) (sym c.admit.ensures.conn)
+    ≡ (state g.S.Store c.args.self.now.session.conn).now.schema ∥₁) (sym c.admit.ensures.conn)
     (∥∥₁_map (c.in_ok-make_ready.ensures.same (subst (λ (conn : Held _). HasCleanDisk (state g.S.Store conn))
     c.admit.ensures.conn clean)) (ap (λ (db : Database). db.schema))))
 
@@ -343,7 +343,7 @@ returns-in_err-is_fit-clause-applies g c =
     let before = c.args.self.now in
     let now = c.make_ready.new.self in
     let reads = c.in_ok-make_ready.ensures.reads in
-    let none : before.failures ≡ 0 = c.in_ok-prepared.ensures.whole in
+    let none : before.session.failures ≡ 0 = c.in_ok-prepared.ensures.whole in
     unwritten before now c.args.change c.from_residual-in_err-is_fit.result c.in_err-is_fit.field-0.0
     c.from_residual-in_err-is_fit.ensures.1 reads.same reads.crash
     (λ device. absurd (let told : Memory ≡ Device = sym c.in_err-is_fit.ensures.memory ∙ device in
@@ -363,6 +363,6 @@ returns-in_err-is_fit-clause-taken g c none clean room =
 
 pub returns-in_err-is_fit-clause-schema : goal.returns-in_err-is_fit-clause-schema
 returns-in_err-is_fit-clause-schema g c =
-    told_kept c.from_residual-in_err-is_fit.result c.in_err-is_fit.field-0.0 (state g.S.Store c.args.self.now.conn)
-    (state g.S.Store c.make_ready.new.self.conn) c.from_residual-in_err-is_fit.ensures.1
+    told_kept c.from_residual-in_err-is_fit.result c.in_err-is_fit.field-0.0 (state g.S.Store c.args.self.now.session.conn)
+    (state g.S.Store c.make_ready.new.self.session.conn) c.from_residual-in_err-is_fit.ensures.1
     (λ memory clean opens. ∥∥₁_map (c.in_ok-make_ready.ensures.same clean) (ap (λ (db : Database). db.schema)))

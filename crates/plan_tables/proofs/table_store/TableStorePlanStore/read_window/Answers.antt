@@ -1,12 +1,12 @@
-use Rattle.std.proofs.Common.{◌≡◌, ◌∙◌, ◌<◌, Err, Ok, ap, arith, refl, subst, sym}
+use Rattle.std.proofs.Common.{◌≡◌, ◌∙◌, Err, Ok, ap, refl, subst, sym}
 use Rattle.std.proofs.Math.Logic.{∥∥₁_map}
 use Rattle.sqlite.specs.Held.{state}
 use Rattle.planner_machine.specs.Content.{Content}
 use Rattle.plan_store.specs.Contents.{content_of}
 use Rattle.plan_store.specs.Views.{Shows}
 use Rattle.plan_store.specs.declared.stores.StoreFault.TheVariants.{Device}
-use Rattle.plan_tables.specs.Kept.{IsKept, kept_in}
-use Rattle.plan_tables.proofs.LookLemmas.{kept_sure, read_failed}
+use Rattle.plan_tables.specs.Kept.{Holds, kept_in}
+use Rattle.plan_tables.proofs.LookLemmas.{kept_sure}
 use Rattle.plan_tables.proofs.WindowLemmas.{window_kept}
 use Rattle.plan_tables.proofs.table_store.TableStorePlanStore.read_window.Goals as goal
 
@@ -15,17 +15,17 @@ pub invariant_of-self : goal.invariant_of-self
 invariant_of-self g c =
     let old = c.make_ready.new.self in
     record {
-      settled = old.settled;
       jobless = ap (λ (k : Content). k.jobs) c.fill_window.ensures.same ∙ old.jobless;
       stored = ∥∥₁_map old.stored (λ h whole clean opens.
-          subst (IsKept (state g.S.Store old.conn)) (sym c.fill_window.ensures.same) (h whole clean opens));
+          subst (λ (k : Content). Holds (state g.S.Store old.session.conn) k old.plan_ready) (sym c.fill_window.ensures.same)
+          (h whole clean opens));
       told = old.told;
     }
 
 pub returns : goal.returns
 returns g c =
     let mid = c.make_ready.new.self in
-    let s = state g.S.Store mid.conn in
+    let s = state g.S.Store mid.session.conn in
     let reads = c.in_ok-make_ready.ensures.reads in (
       (
         refl,
@@ -34,8 +34,8 @@ returns g c =
           right = λ honest. subst (Shows c.args.need c.window.result) (reads.same honest)
               (window_kept c.args.need c.window.result s (content_of mid.lists) (content_of c.fill_window.new.self)
               c.fill_window.ensures.same c.window.ensures.shows c.window.ensures.parts
-              (∥∥₁_map (kept_sure mid.in_doubt mid.failures c.in_ok-make_ready.ensures.sure
-              c.in_ok-make_ready.ensures.whole mid.stored) (λ h. h honest.0)) (reads.right honest));
+              (∥∥₁_map (kept_sure mid.session.in_doubt mid.session.failures c.in_ok-make_ready.ensures.whole.1
+              c.in_ok-make_ready.ensures.whole.0 mid.stored) (λ h. (h honest.0).kept)) (reads.right honest));
           same = λ honest. ap (kept_in s) c.fill_window.ensures.same ∙ reads.same honest;
           crash = reads.crash;
           blames = tt;
@@ -52,8 +52,3 @@ returns g c =
       ),
       tt,
     )
-
-pub returns-then-self-gt0 : goal.returns-then-self-gt0
-returns-then-self-gt0 g c =
-    let some : 0 < c.args.self.now.failures = omega (arith, c.if-self-gt0.true) in
-    ((refl, λ _. tt, read_failed c.args.self.now _ some), tt)

@@ -8,7 +8,7 @@ use Rattle.plan_tables.proofs.table_store.TableStorePlanStore.rows_to.Goals as g
 pub returns-then-self-gt0-clause-part : goal.returns-then-self-gt0-clause-part
 returns-then-self-gt0-clause-part g c honest either numbered =
     let (items, is) = c.has_listings_with.ensures
-    (told_rest (tables_of (state g.S.Store c.args.self.now.conn).now.trees)) numbered c.args.what
+    (told_rest (tables_of (state g.S.Store c.args.self.now.session.conn).now.trees)) numbered c.args.what
     (option_copied c.args.app) in
     record { done = []; rest = items; whole = is; ends = refl }
 
@@ -18,30 +18,30 @@ returns-then-self-gt0-clause-caused g c none clean _ =
 
 pub returns-in-Ltp-clause-all : goal.returns-in-Ltp-clause-all
 returns-in-Ltp-clause-all g c honest numbered =
-    rw c.in-Ltp.is (c.ltp_to.ensures.all (told_rest (tables_of (state g.S.Store c.args.self.now.conn).now.trees))
+    rw c.in-Ltp.is (c.ltp_to.ensures.all (told_rest (tables_of (state g.S.Store c.args.self.now.session.conn).now.trees))
     numbered)
 
 pub returns-in-Ltp-clause-part : goal.returns-in-Ltp-clause-part
 returns-in-Ltp-clause-part g c honest either numbered =
-    rw c.in-Ltp.is (c.ltp_to.ensures.part (told_rest (tables_of (state g.S.Store c.args.self.now.conn).now.trees))
+    rw c.in-Ltp.is (c.ltp_to.ensures.part (told_rest (tables_of (state g.S.Store c.args.self.now.session.conn).now.trees))
     numbered)
 
 pub returns-in-Cp-clause-all : goal.returns-in-Cp-clause-all
 returns-in-Cp-clause-all g c honest numbered =
-    rw c.in-Cp.is (c.cp_to.ensures.all (told_rest (tables_of (state g.S.Store c.args.self.now.conn).now.trees))
+    rw c.in-Cp.is (c.cp_to.ensures.all (told_rest (tables_of (state g.S.Store c.args.self.now.session.conn).now.trees))
     numbered)
 
 pub returns-in-Cp-clause-part : goal.returns-in-Cp-clause-part
 returns-in-Cp-clause-part g c honest either numbered =
-    rw c.in-Cp.is (c.cp_to.ensures.part (told_rest (tables_of (state g.S.Store c.args.self.now.conn).now.trees))
+    rw c.in-Cp.is (c.cp_to.ensures.part (told_rest (tables_of (state g.S.Store c.args.self.now.session.conn).now.trees))
     numbered)
 
 pub returns-in-Links-clause-all : goal.returns-in-Links-clause-all
 returns-in-Links-clause-all g c honest numbered =
-    rw c.in-Links.is (c.links_to.ensures.all (told_rest (tables_of (state g.S.Store c.args.self.now.conn).now.trees))
+    rw c.in-Links.is (c.links_to.ensures.all (told_rest (tables_of (state g.S.Store c.args.self.now.session.conn).now.trees))
     numbered)
 
 pub returns-in-Links-clause-part : goal.returns-in-Links-clause-part
 returns-in-Links-clause-part g c honest either numbered =
-    rw c.in-Links.is (c.links_to.ensures.part (told_rest (tables_of (state g.S.Store c.args.self.now.conn).now.trees))
+    rw c.in-Links.is (c.links_to.ensures.part (told_rest (tables_of (state g.S.Store c.args.self.now.session.conn).now.trees))
     numbered)
