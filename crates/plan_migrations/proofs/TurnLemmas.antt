@@ -1,7 +1,8 @@
 -- Questions in turn: each leaves the database as the next one finds it.
-use Rattle.std.proofs.Common.{◌≡◌, ◌∙◌, ◌≤◌, ◌+◌, inl, inr, sym, subst, ℕ, List, [], Some, Option, Ok, Err}
+use Rattle.std.proofs.Common.{◌≡◌, ◌∙◌, ◌≤◌, ◌+◌, inl, inr, sym, subst, ℕ, List, [], Some, Option, Ok, Err, Result}
 use Rattle.std.specs.List.{AllWithin, HoldsAt}
 use Rattle.std.proofs.lemmas.List.Elements.{AllWithin-more}
+use Rattle.std.specs.Prelude.{OnErr}
 use Rattle.sqlite.specs.Clock.{timed}
 use Rattle.sqlite.specs.Effect.{Database, RefusesToRead}
 use Rattle.sqlite.specs.Listing.{IsSourceOf, reads_listing, understood}
@@ -224,3 +225,8 @@ module _ (a b c : State) where
   unmigrated known more limit tables Device h = device_since a b c (same_if_version a b SCHEMA_VERSION known) more h
   unmigrated known more limit tables UnknownVersion h = absurd h
   unmigrated known more limit tables Rows h = absurd h
+
+-- what holds holds where there is an error
+pub in_error : {T E X : Type 0} (r : Result T E) → X → OnErr r X
+in_error (Ok v) x = tt
+in_error (Err e) x = x

@@ -36,19 +36,14 @@ pub fn migrate<S: Alter>(
 {
     // its clause says that an open connection has a database
     let _ = conn.schema();
-    match version(conn) {
-        Ok(Some(found)) => if found == SCHEMA_VERSION {
-            match check_tables(conn, &TABLES) {
-                Ok(()) => Ok((found, found)),
-                Err(fault) => Err(fault),
-            }
+    match version(conn)? {
+        Some(found) => if found == SCHEMA_VERSION {
+            check_tables(conn, &TABLES)?;
+            Ok((found, found))
         } else {
-            match renew(alloc, conn) {
-                Ok(()) => Ok((found, SCHEMA_VERSION)),
-                Err(fault) => Err(fault),
-            }
+            renew(alloc, conn)?;
+            Ok((found, SCHEMA_VERSION))
         },
-        Ok(None) => Ok((0, 0)),
-        Err(fault) => Err(fault),
+        None => Ok((0, 0)),
     }
 }

@@ -50,16 +50,13 @@ pub fn migrate_older<S: Alter>(
     ensures crash { Survives (state S.Store conn.old) (state S.Store conn.new)
         (MayRenew (state S.Store conn.old)) }
 {
-    match version(conn) {
-        Ok(Some(found)) => if found == FIRST_VERSION {
-            match migrate(alloc, conn) {
-                Ok((found, _)) => Ok(version_of(found)),
-                Err(fault) => Err(fault),
-            }
+    match version(conn)? {
+        Some(found) => if found == FIRST_VERSION {
+            let (earlier, _) = migrate(alloc, conn)?;
+            Ok(version_of(earlier))
         } else {
             Ok(Some(found))
         },
-        Ok(None) => Ok(None),
-        Err(fault) => Err(fault),
+        None => Ok(None),
     }
 }

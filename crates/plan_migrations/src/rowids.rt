@@ -36,8 +36,8 @@ fn check_staying<S: Alter>(conn: &mut Connection<S>, table: Table) -> Result<(),
 {
     // its clause says that an open connection has a database
     let _ = conn.schema();
-    match ask(conn, rowid_text(table)) {
-        Ok(Some(rows)) => {
+    match ask(conn, rowid_text(table))? {
+        Some(rows) => {
             let mut shown = rows;
             if are_rowids(&mut shown) {
                 Ok(())
@@ -45,8 +45,7 @@ fn check_staying<S: Alter>(conn: &mut Connection<S>, table: Table) -> Result<(),
                 Err(MigrateFault::Rows)
             }
         }
-        Ok(None) => Err(MigrateFault::OtherTable),
-        Err(fault) => Err(fault),
+        None => Err(MigrateFault::OtherTable),
     }
 }
 

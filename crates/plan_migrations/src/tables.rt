@@ -1,7 +1,7 @@
 // Tables that are of their schema.
 
 ghost use Rattle.std.specs.Prelude.{◌≡◌, false, IsTrue};
-ghost use Rattle.sqlite.specs.State.{HasCleanDisk, IsUnchanged, Survives};
+ghost use Rattle.sqlite.specs.State.{HasCleanDisk, Survives};
 ghost use Rattle.sqlite.specs.Held.{state};
 ghost use Rattle.plan_tables_opening.specs.Kept.{IsKept};
 ghost use Rattle.plan_migrations.specs.Migrating.{ChecksTable, ChecksTables};

@@ -17,28 +17,28 @@ returns-then-are_rowids-clause-checked g c clean can other =
     let t = c.args.table in
     let old = state g.S.Store c.args.conn.now in
     let new = state g.S.Store c.ask.new.conn in
-    let rows = c.in-Ok-Some.rows.items in
-    let told = at_some c.in-Ok-Some.field-0 _ _ c.in-Ok-Some.field-0-is (c.in-Ok-Some.ensures.shown clean) in
+    let rows = c.in-Some.rows.items in
+    let told = at_some _ _ _ c.in-Some.is (c.in_ok-rows.ensures.shown clean) in
     (c.are_rowids.ensures (tables_of old.now.trees t) (reads_rowids t old new other can.has rows c.schema.ensures.live
     (subst (λ (sql : List ℕ). Shown sql [] old new rows) c.rowid_text.ensures told))).0 c.if-are_rowids.true
 
-pub returns-in-Ok-Some-clause-checked : goal.returns-in-Ok-Some-clause-checked
-returns-in-Ok-Some-clause-checked g c clean can have =
+pub returns-in-Some-clause-checked : goal.returns-in-Some-clause-checked
+returns-in-Some-clause-checked g c clean can have =
     let t = c.args.table in
     let old = state g.S.Store c.args.conn.now in
     let new = state g.S.Store c.ask.new.conn in
     let other = c.requires.stays in
-    let rows = c.in-Ok-Some.rows.items in
-    let told = at_some c.in-Ok-Some.field-0 _ _ c.in-Ok-Some.field-0-is (c.in-Ok-Some.ensures.shown clean) in
+    let rows = c.in-Some.rows.items in
+    let told = at_some _ _ _ c.in-Some.is (c.in_ok-rows.ensures.shown clean) in
     let good = (c.are_rowids.ensures (tables_of old.now.trees t) (reads_rowids t old new other can.has rows
     c.schema.ensures.live (subst (λ (sql : List ℕ). Shown sql [] old new rows) c.rowid_text.ensures told))).1
     (have t other) in
     true≢false (sym good ∙ c.if-are_rowids.false)
 
-pub returns-in-Ok-None-clause-checked : goal.returns-in-Ok-None-clause-checked
-returns-in-Ok-None-clause-checked g c clean can =
+pub returns-clause-checked : goal.returns-clause-checked
+returns-clause-checked g c clean can =
     let old = state g.S.Store c.args.conn.now in
     let new = state g.S.Store c.ask.new.conn in
     refused_rowids c.args.table old new c.requires.stays can.has
     (subst (λ (sql : List ℕ). RefusesToShow sql old new) c.rowid_text.ensures
-    (c.in-Ok-None.ensures.refused clean c.in-Ok-None.field-0-is))
+    (c.in_ok-rows.ensures.refused clean c.in-None.is))
