@@ -1,11 +1,11 @@
 -- Pairs after a change.
-use Rattle.std.proofs.Common.{◌≡◌, ◌↔◌, zero, suc, ◌⊎◌, Bool, true, false, not, List, [], ◌∷◌, get_or, refl, sym, ap, ap₂}
+use Rattle.std.proofs.Common.{◌≡◌, ◌↔◌, ℕ, zero, suc, ◌⊎◌, Bool, true, false, not, List, [], ◌∷◌, get_or, refl, sym, ap, ap₂}
 use Rattle.std.proofs.Common.{subst, ◌∙◌, inl, inr, arith, Ordering}
 use Rattle.std.specs.Prelude.{filter}
 use Rattle.std.specs.declared.cmp.Ordering.TheVariants.{Less, Equal, Greater}
 use Rattle.std.specs.List.{Contains}
 use Rattle.std.specs.Cmp.{IsTotalOrder}
-use Rattle.std.specs.Ordering.{is_eq, ordering_reverse}
+use Rattle.std.specs.Ordering.{is_eq, nat_cmp, ordering_reverse}
 use Rattle.std.proofs.lemmas.Cmp.{nat_cmp_total, on_total, then_total, tied_itself}
 use Rattle.std.proofs.lemmas.Bool.{not-true, not_from_false}
 use Rattle.std.proofs.lemmas.List.Elements.{Contains-get_or}
@@ -17,9 +17,18 @@ use Rattle.external_dependencies.specs.declared.change.PairChange.{PairChange}
 use Rattle.external_dependencies.specs.declared.pairs.Pair.{Pair}
 use Rattle.plan_store_lists.proofs.KeyLemmas.{contains_cases, contains_first, contains_later, contains_filter}
 use Rattle.plan_store_lists.proofs.KeyLemmas.{filter_contains, holds_lacks, holds_none, nothing}
+use Rattle.plan_store_lists.specs.Blocks.{items_of}
 use Rattle.plan_store_lists.specs.Keyed.{holds_key}
+use Rattle.plan_store_lists.specs.PairBlocks.{ArePairBlocks, groups_rise, pair_group}
+use Rattle.plan_store_lists.specs.declared.blocks.Blocks.{Blocks}
+use Rattle.plan_store_lists.proofs.BlockLemmas.{blocks_keyed}
 use Rattle.external_dependencies.proofs.PairLemmas.{pair_ties}
 use Rattle.plan_store.specs.Changes.{LeadsOn, is_among, pairs_after, placed_before, with_pair, with_pairs}
+
+-- pairs in blocks rise
+pub pairs_rise : (list : Blocks ℕ Pair) → ArePairBlocks list → IsRising pair_cmp (items_of list)
+pairs_rise list are =
+    blocks_keyed nat_cmp pair_cmp pair_group (λ (pair : Pair). pair) list.blocks.items are groups_rise
 
 pub pair_total : IsTotalOrder pair_cmp
 pair_total = then_total (on_total (λ (p : Pair). p.successor) nat_cmp_total)

@@ -104,7 +104,7 @@ module _ (t : ℕ) (kept : Kept) (early : List Row) (is : early ≡ filter (arri
   pub early_rows : AreRows of_row early
   early_rows = subst (AreRows of_row) (sym is) (filter_rows of_row (arrives_before t) kept.ltp.items kept.ltp_rows)
 
-  pub early_seats : HasSeats of_row early kept.seats.items
+  pub early_seats : HasSeats of_row early kept.seats
   early_seats row there = kept.ltp_seats row
       (contains_filter (arrives_before t) kept.ltp.items row (subst (λ xs. Contains xs row) is there)).0
 

@@ -1,14 +1,15 @@
 -- Room for a change.
-use Rattle.std.specs.Prelude.{◌≡◌, ℕ, ◌+◌, ◌≤◌, List, Option, None, Vec, length, vec_len, vec_capacity}
-use Rattle.std.specs.declared.alloc.Global.{Global}
+use Rattle.std.specs.Prelude.{◌≡◌, ℕ, ◌+◌, ◌≤◌, List, Option, None, vec_len, vec_capacity}
 use Rattle.app_definitions.specs.declared.definitions.Definitions.{Definitions}
 use Rattle.external_dependencies.specs.declared.links.Link.{Link}
 use Rattle.external_dependencies.specs.declared.pairs.Pair.{Pair}
 use Rattle.planner_machine.specs.Content.{Content}
 use Rattle.planner_machine.specs.declared.content.Bounds.{Bounds}
 use Rattle.planner_machine.specs.declared.job.Job.{Job}
+use Rattle.plan_store_lists.specs.PairBlocks.{HasPairRoom}
 use Rattle.plan_store_lists.specs.Rows.{of_current, of_deletion, of_row}
 use Rattle.plan_store_lists.specs.Seats.{HasSeats}
+use Rattle.plan_store_lists.specs.declared.blocks.Blocks.{Blocks}
 use Rattle.plan_store.specs.declared.changes.Change.{Change}
 use Rattle.plan_store.specs.declared.contents.Content.{Content as Kept}
 
@@ -88,10 +89,10 @@ pub record HasSame (old new : Kept) : Type 0 where
 
 -- each serial that the change puts is found
 pub record HasPutSeats (change : Change) (kept : Kept) : Type 0 where
-  pub ltp_seats : HasSeats of_row change.ltp.put.items kept.seats.items
-  pub cp_seats : HasSeats of_current change.cp.put.items kept.seats.items
-  pub history_seats : HasSeats of_row change.history.put.items kept.seats.items
-  pub deletion_seats : HasSeats of_deletion change.deletions.put.items kept.seats.items
+  pub ltp_seats : HasSeats of_row change.ltp.put.items kept.seats
+  pub cp_seats : HasSeats of_current change.cp.put.items kept.seats
+  pub history_seats : HasSeats of_row change.history.put.items kept.seats
+  pub deletion_seats : HasSeats of_deletion change.deletions.put.items kept.seats
 
 -- there is room for what the change puts into each list of rows, and for a job; and each serial that it puts is found
 pub record HasRowRoom (change : Change) (kept : Kept) : Type 0 where
@@ -100,12 +101,12 @@ pub record HasRowRoom (change : Change) (kept : Kept) : Type 0 where
   pub history : vec_len kept.history + vec_len change.history.put ≤ vec_capacity kept.history
   pub deletions : vec_len kept.deletions + vec_len change.deletions.put ≤ vec_capacity kept.deletions
   pub jobs : vec_len kept.jobs + 1 ≤ vec_capacity kept.jobs
-  pub ltp_seats : HasSeats of_row change.ltp.put.items kept.seats.items
-  pub cp_seats : HasSeats of_current change.cp.put.items kept.seats.items
-  pub history_seats : HasSeats of_row change.history.put.items kept.seats.items
-  pub deletion_seats : HasSeats of_deletion change.deletions.put.items kept.seats.items
+  pub ltp_seats : HasSeats of_row change.ltp.put.items kept.seats
+  pub cp_seats : HasSeats of_current change.cp.put.items kept.seats
+  pub history_seats : HasSeats of_row change.history.put.items kept.seats
+  pub deletion_seats : HasSeats of_deletion change.deletions.put.items kept.seats
 
 -- there is room for all that the change puts, for its pairs among those that are taken out
-pub record HasRoom (change : Change) (kept : Kept) (taken : Vec Pair Global) : Type 0 where
+pub record HasRoom (change : Change) (kept : Kept) (taken : Blocks ℕ Pair) : Type 0 where
   pub rows : HasRowRoom change kept
-  pub pairs : vec_len taken + length change.pairs.added ≤ vec_capacity taken
+  pub pairs : HasPairRoom change.pairs.added taken

@@ -1,6 +1,7 @@
 -- A change that is staged, and then finished or cancelled.
 use Rattle.std.specs.Prelude.{◌≡◌, [], None}
 use Rattle.planner_machine.specs.Content.{Content}
+use Rattle.plan_store_lists.specs.Blocks.{items_of}
 use Rattle.plan_store.specs.Changes.{Fits, redefined}
 use Rattle.plan_store.specs.Contents.{content_of}
 use Rattle.plan_store.specs.Redefining.{CanUndo, ended, half_redefined, undone}
@@ -25,7 +26,7 @@ pub record IsReady (kept : Kept) (staged : Staged) : Type 0 where
 -- are taken out and the definitions are half changed, from where they can be ended or undone
 pub record IsStagedFor (change : Change) (before kept : Content) (staged : Staged) : Type 0 where
   pub rest : staged.rest ≡ record change { definitions = AsBefore }
-  pub pairs : staged.pairs.items ≡ before.pairs
+  pub pairs : items_of staged.pairs ≡ before.pairs
   pub halves : kept ≡ with_definitions (half_redefined change.definitions before.definitions)
       (with_pairs_of [] before)
   pub ends : ended staged.redefining kept.definitions ≡ redefined change.definitions before.definitions

@@ -1,7 +1,7 @@
 //! The pairs of one application, found from its rows, each with both its rows, looked up by serial.
 ghost use Rattle.std.specs.Prelude.{◌≡◌, ◌≢◌, Some, IfOk, IfErr, OnOk, length, map, option_copied, option_map};
 ghost use Rattle.plan_store_lists.specs.Rows.{AreRows, look_up};
-ghost use Rattle.plan_store_lists.specs.Seats.{AreSeats, HasSeats};
+ghost use Rattle.plan_store_lists.specs.Seats.{HasSeats};
 ghost use Rattle.planner_machine.specs.Sound.{AreNumbered};
 ghost use Rattle.plan_store.specs.AppPairs.{AddsPairs, AreBySerials, AreLacking, AreUnknownEnds, HasAppPairs, HasEnds};
 ghost use Rattle.plan_store.specs.AppPairs.{lacks_end, with_others};
@@ -17,14 +17,13 @@ use crate::listings::{Item, ItemSink, ListFault};
 use crate::slices::{of_app, of_serial};
 use external_dependencies::{Pair, Pairs};
 use occurrences::{Row, Serial};
-use plan_store_lists::{PlanRow, Seat};
+use plan_store_lists::{PairBlocks, PlanRow, SeatBlocks};
 use std::alloc::{AllocError, Global};
 use work_calendars::App;
 
 // What the list has under the serial.
-fn row_in<T: PlanRow>(list: &[T], seats: &[Seat], serial: Serial) -> Option<T>
+fn row_in<T: PlanRow>(list: &[T], seats: &SeatBlocks, serial: Serial) -> Option<T>
     requires rows { AreRows T.row_of list.now }
-    requires order { AreSeats seats.now }
     requires seated { HasSeats T.row_of list.now seats.now }
     ensures { result ≡ look_up (λ x. (T.row_of x).serial) list.now serial }
 {
@@ -44,7 +43,7 @@ fn row_among(rows: &[Row], serial: Serial) -> Option<Row>
 // Adds the pairs of each of the rows that is of the application.
 fn push_pairs<T: PlanRow>(
     found: &mut Vec<Pair>,
-    pairs: &Pairs,
+    pairs: &PairBlocks,
     rows: &[T],
     app: &App,
 ) -> Result<(), AllocError>
@@ -163,7 +162,7 @@ impl Content {
             (Some app.now) (with_rest rest (content_of self.now))) sink.old sink.new) }
         ensures blames { IfErr result (λ fault. fault ≢ ListFault.Device) }
     {
-        let _rising = self.pairs.as_slice();
+        self.pairs.rise();
         match self.app_pairs(alloc, others, app) {
             Ok(found) => self.hand_known(others, found.as_slice(), app, sink),
             Err(_) => Err(ListFault::Memory),

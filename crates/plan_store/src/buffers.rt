@@ -1,7 +1,7 @@
 ghost use Rattle.std.specs.Prelude.{◌≡◌, [], false, true};
 
-use external_dependencies::Pairs;
 use occurrences::{Key, Row};
+use plan_store_lists::PairBlocks;
 use std::alloc::Global;
 
 // What windows show that is no part of a list of the content. It is filled before a window is lent.
@@ -18,7 +18,7 @@ pub(crate) struct Buffer {
     // the key of the latest window, if it is on one
     pub(crate) key: Option<Key>,
     // the pairs of a window that shows none
-    pub(crate) no_pairs: Pairs,
+    pub(crate) no_pairs: PairBlocks,
     ghost none: { no_pairs ≡ [] },
 }
 
@@ -33,7 +33,7 @@ impl Buffer {
             plan_lasts: Vec::new(alloc),
             has_plan_lasts: false,
             key: None,
-            no_pairs: Pairs::new(alloc),
+            no_pairs: PairBlocks::new(alloc),
         }
     }
     // Forgets the rows of the window on the long-term plan, unless what they depend on stays.

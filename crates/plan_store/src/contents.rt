@@ -14,9 +14,9 @@ use crate::staged::Staged;
 use crate::stores::Need;
 use crate::views::View;
 use app_definitions::Definitions;
-use external_dependencies::{Links, Pair, Pairs};
+use external_dependencies::{Links, Pair};
 use occurrences::{CurrentRow, Deletion, Row};
-use plan_store_lists::{Seat, note_rows};
+use plan_store_lists::{Blocks, PairBlocks, SeatBlocks, note_rows, reserve_for};
 use planner_machine::{Bounds, Job};
 use std::alloc::{AllocError, Global};
 use std::mem::replace;
@@ -41,11 +41,11 @@ pub struct Content {
     /// The deletions.
     pub deletions: Vec<Deletion>,
     /// The pairs of successors and predecessors.
-    pub pairs: Pairs,
+    pub pairs: PairBlocks,
     /// The kept jobs, by number.
     pub jobs: Vec<Job>,
     // the key of each serial; there may be more of them than rows
-    pub(crate) seats: Vec<Seat>,
+    pub(crate) seats: SeatBlocks,
     // what windows show that is no part of a list
     pub(crate) buffer: Buffer,
     ghost ltp_rows: { AreRows of_row ltp.items },
@@ -53,11 +53,10 @@ pub struct Content {
     ghost history_rows: { AreRows of_row history.items },
     ghost deletion_rows: { AreRows of_deletion deletions.items },
     ghost numbered_jobs: { AreJobs jobs.items },
-    ghost seat_order: { AreSeats seats.items },
-    ghost ltp_seats: { HasSeats of_row ltp.items seats.items },
-    ghost cp_seats: { HasSeats of_current cp.items seats.items },
-    ghost history_seats: { HasSeats of_row history.items seats.items },
-    ghost deletion_seats: { HasSeats of_deletion deletions.items seats.items },
+    ghost ltp_seats: { HasSeats of_row ltp.items seats },
+    ghost cp_seats: { HasSeats of_current cp.items seats },
+    ghost history_seats: { HasSeats of_row history.items seats },
+    ghost deletion_seats: { HasSeats of_deletion deletions.items seats },
     ghost plan_lasts: { buffer.has_plan_lasts ≡ true
         → HasPlanLasts definitions bounds in_force cp.items history.items buffer.plan_lasts.items },
 }
@@ -67,12 +66,12 @@ ghost use Rattle.planner_machine.specs.Moves.{keep, or_else};
 ghost use Rattle.plan_store.specs.Jobs.{AreJobs};
 ghost use Rattle.plan_store.specs.HistoryReads.{HasPlanLasts};
 ghost use Rattle.plan_store_lists.specs.Rows.{HasEachOnce};
-ghost use Rattle.plan_store_lists.specs.Seats.{AreSeats, HasSeats};
+ghost use Rattle.plan_store_lists.specs.Seats.{HasSeats};
 ghost use Rattle.plan_store_lists.specs.declared.seats.Seat.{Seat as SeatValue};
 ghost use Rattle.plan_store.specs.declared.changes.Change.{Change as ChangeValue};
 ghost use Rattle.planner_machine.specs.Content.{Content as ContentValue};
-ghost use Rattle.external_dependencies.specs.Pair.{pair_cmp};
-ghost use Rattle.external_dependencies.specs.Rising.{IsRising};
+ghost use Rattle.plan_store_lists.specs.Blocks.{items_of};
+ghost use Rattle.plan_store_lists.specs.PairBlocks.{ArePairBlocks};
 
 impl Content {
     ghost use Rattle.plan_store.specs.Changes.{Fits, after};
@@ -103,9 +102,9 @@ impl Content {
             cp: Vec::new(alloc),
             history: Vec::new(alloc),
             deletions: Vec::new(alloc),
-            pairs: Pairs::new(alloc),
+            pairs: PairBlocks::new(alloc),
             jobs: Vec::new(alloc),
-            seats: Vec::new(alloc),
+            seats: SeatBlocks::new(alloc),
             buffer: Buffer::new(alloc),
         }
     }
@@ -170,9 +169,9 @@ impl Content {
     // A window of these rows of the two plans, and no other row or pair.
     fn window_of_plans<'a>(&'a self, ltp: &'a [Row], cp: &'a [CurrentRow]) -> View<'a>
         requires ltp_rows { AreRows of_row ltp.now }
-        requires ltp_seats { HasSeats of_row ltp.now self.now.seats.items }
+        requires ltp_seats { HasSeats of_row ltp.now self.now.seats }
         requires cp_rows { AreRows of_current cp.now }
-        requires cp_seats { HasSeats of_current cp.now self.now.seats.items }
+        requires cp_seats { HasSeats of_current cp.now self.now.seats }
         ensures shown { shown result ≡ with_plans_alone (look_up row_serial ltp.now)
             (look_up current_serial cp.now) (content_of self.now) }
         ensures whole { result.content.now ≡ self.now }
@@ -197,7 +196,7 @@ impl Content {
         requires part { (row : RowValue) → Contains lasts.now row
             → Contains self.now.history.items row }
         requires rows { AreRows of_deletion deletions.now }
-        requires seats { HasSeats of_deletion deletions.now self.now.seats.items }
+        requires seats { HasSeats of_deletion deletions.now self.now.seats }
         ensures shown { shown result ≡ with_part self.now.buffer.key (look_up row_serial lasts.now)
             (λ serial. keep (bars self.now.bounds) (look_up deletion_serial deletions.now serial))
             (content_of self.now) }
@@ -281,21 +280,21 @@ impl Content {
 
     // Makes room for all that the change puts, and takes the pairs out of the content. If memory is refused, the content
     // is as it was.
-    fn make_room(&mut self, alloc: Global, change: &Change) -> Result<Vec<Pair>, AllocError>
+    fn make_room(&mut self, alloc: Global, change: &Change) -> Result<Blocks<u32, Pair>, AllocError>
         requires { Fits change.now (content_of self.old) }
-        ensures taken { IfOk result (λ pairs. (pairs.items ≡ (content_of self.old).pairs)
+        ensures taken { IfOk result (λ pairs. (items_of pairs ≡ (content_of self.old).pairs)
             × HasRoom change.now self.new pairs) }
-        ensures rising { IfOk result (λ pairs. IsRising pair_cmp pairs.items) }
+        ensures blocks { IfOk result (λ pairs. ArePairBlocks pairs) }
         ensures ok { OnOk result (content_of self.new ≡ with_pairs_of [] (content_of self.old)) }
         ensures err { OnErr result (content_of self.new ≡ content_of self.old) }
     {
         self.note(alloc, change)?;
         self.reserve(change)?;
-        let mut pairs = replace(&mut self.pairs, Pairs::new(alloc)).into_vec();
-        match pairs.reserve(change.pairs.added.as_slice().len()) {
+        let mut pairs = replace(&mut self.pairs, PairBlocks::new(alloc)).into_blocks();
+        match reserve_for(alloc, &mut pairs, change.pairs.added.as_slice()) {
             Ok(()) => Ok(pairs),
             Err(error) => {
-                self.pairs = Pairs::from_rising(pairs);
+                self.pairs = PairBlocks::from_blocks(pairs);
                 Err(error)
             }
         }
@@ -321,7 +320,7 @@ impl Content {
                 redefining,
             }),
             Err(error) => {
-                self.pairs = Pairs::from_rising(pairs);
+                self.pairs = PairBlocks::from_blocks(pairs);
                 Err(error)
             }
         }
@@ -358,17 +357,17 @@ impl Content {
         } = staged;
         self.buffer.keep_plan_lasts(redefining.is_nothing());
         undo(&mut self.definitions, redefining);
-        self.pairs = Pairs::from_rising(pairs);
+        self.pairs = PairBlocks::from_blocks(pairs);
     }
 
     // Makes a change, but that of the definitions, in the room that was made for it, and puts the pairs back.
-    fn make(&mut self, change: Change, taken: Vec<Pair>)
+    fn make(&mut self, change: Change, taken: Blocks<u32, Pair>)
         requires fits { Fits change (content_of self.old) }
         requires room { HasRoom change self.old taken }
-        requires rising { IsRising pair_cmp taken.items }
+        requires blocks { ArePairBlocks taken }
         requires defined { change.definitions ≡ AsBefore }
         ensures { content_of self.new
-            ≡ after change (with_pairs_of taken.items (content_of self.old)) }
+            ≡ after change (with_pairs_of (items_of taken) (content_of self.old)) }
     {
         self.buffer.keep_plan_lasts(change.keeps_reads());
         let Change {
@@ -385,7 +384,7 @@ impl Content {
         } = change;
         let mut pairs = taken;
         change_pairs(&mut pairs, moves);
-        self.pairs = Pairs::from_rising(pairs);
+        self.pairs = PairBlocks::from_blocks(pairs);
         self.bounds = new_or_old(bounds, self.bounds);
         self.issued = issued.unwrap_or(self.issued);
         put_in_force(&mut self.in_force, in_force);
@@ -409,20 +408,18 @@ impl Content {
 }
 
 // Notes the seats of all that the change puts.
-fn note_puts(alloc: Global, seats: &mut Vec<Seat>, change: &Change) -> Result<(), AllocError>
-    requires seats { AreSeats seats.old.items }
+fn note_puts(alloc: Global, seats: &mut SeatBlocks, change: &Change) -> Result<(), AllocError>
     requires ltp { HasEachOnce of_row change.now.ltp.put.items }
     requires cp { HasEachOnce of_current change.now.cp.put.items }
     requires history { HasEachOnce of_row change.now.history.put.items }
     requires deletions { HasEachOnce of_deletion change.now.deletions.put.items }
-    ensures seats { AreSeats seats.new.items }
-    ensures stay { (seat : SeatValue) → Contains seats.old.items seat
-        → Contains seats.new.items seat }
-    ensures ltp { OnOk result (HasSeats of_row change.now.ltp.put.items seats.new.items) }
-    ensures cp { OnOk result (HasSeats of_current change.now.cp.put.items seats.new.items) }
-    ensures history { OnOk result (HasSeats of_row change.now.history.put.items seats.new.items) }
+    ensures stay { (seat : SeatValue) → Contains seats.old seat
+        → Contains seats.new seat }
+    ensures ltp { OnOk result (HasSeats of_row change.now.ltp.put.items seats.new) }
+    ensures cp { OnOk result (HasSeats of_current change.now.cp.put.items seats.new) }
+    ensures history { OnOk result (HasSeats of_row change.now.history.put.items seats.new) }
     ensures deletions { OnOk result
-        (HasSeats of_deletion change.now.deletions.put.items seats.new.items) }
+        (HasSeats of_deletion change.now.deletions.put.items seats.new) }
 {
     note_rows(alloc, seats, &change.ltp.put)?;
     note_rows(alloc, seats, &change.cp.put)?;

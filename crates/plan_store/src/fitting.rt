@@ -2,7 +2,7 @@
 
 ghost use Rattle.std.specs.Prelude.{◌≡◌, ◌↔◌, ◌++◌, Contains, Some, None, IfOk, IsTrue};
 ghost use Rattle.plan_store_lists.specs.Rows.{AreRows, HasEachOnce, look_up};
-ghost use Rattle.plan_store_lists.specs.Seats.{AreSeats, HasSeats};
+ghost use Rattle.plan_store_lists.specs.Seats.{HasSeats};
 ghost use Rattle.external_dependencies.specs.Nearest.{arrival_of};
 ghost use Rattle.planner_machine.specs.declared.job.Job.{Job as JobValue};
 ghost use Rattle.plan_store.specs.Changes.{Fits, FitsSet};
@@ -13,7 +13,7 @@ use crate::contents::Content;
 use crate::slices::of_serial;
 use itertools::Itertools;
 use occurrences::{CurrentRow, Deletion, Row};
-use plan_store_lists::{PlanRow, Seat};
+use plan_store_lists::{PlanRow, SeatBlocks};
 use planner_machine::Job;
 use std::alloc::{AllocError, Global};
 
@@ -43,9 +43,8 @@ impl Whole for Deletion {
 }
 
 // The row of its serial in the list.
-fn of_same_serial<T: PlanRow>(list: &[T], seats: &[Seat], x: &T) -> Option<T>
+fn of_same_serial<T: PlanRow>(list: &[T], seats: &SeatBlocks, x: &T) -> Option<T>
     requires rows { AreRows T.row_of list.now }
-    requires order { AreSeats seats.now }
     requires seated { HasSeats T.row_of list.now seats.now }
     ensures { result ≡ look_up (λ y. (T.row_of y).serial) list.now (T.row_of x.now).serial }
 {
@@ -53,9 +52,8 @@ fn of_same_serial<T: PlanRow>(list: &[T], seats: &[Seat], x: &T) -> Option<T>
 }
 
 // Whether the list has the row.
-fn stands<T: Whole>(list: &[T], seats: &[Seat], x: &T) -> bool
+fn stands<T: Whole>(list: &[T], seats: &SeatBlocks, x: &T) -> bool
     requires rows { AreRows T.row_of list.now }
-    requires order { AreSeats seats.now }
     requires seated { HasSeats T.row_of list.now seats.now }
     ensures { IsTrue result
         ↔ (look_up (λ y. (T.row_of y).serial) list.now (T.row_of x.now).serial ≡ Some x.now) }
@@ -74,9 +72,8 @@ fn same_key(row: &Row, other: &Row) -> bool
 }
 
 // Whether the list has a row of its serial under its key.
-fn stands_as<T: PlanRow>(list: &[T], seats: &[Seat], x: &T) -> bool
+fn stands_as<T: PlanRow>(list: &[T], seats: &SeatBlocks, x: &T) -> bool
     requires rows { AreRows T.row_of list.now }
-    requires order { AreSeats seats.now }
     requires seated { HasSeats T.row_of list.now seats.now }
     ensures { IsTrue result ↔ ((was : T)
         × (look_up (λ y. (T.row_of y).serial) list.now (T.row_of x.now).serial ≡ Some was)
@@ -89,9 +86,8 @@ fn stands_as<T: PlanRow>(list: &[T], seats: &[Seat], x: &T) -> bool
 }
 
 // Whether the list has no row of its serial.
-fn is_new<T: PlanRow>(list: &[T], seats: &[Seat], x: &T) -> bool
+fn is_new<T: PlanRow>(list: &[T], seats: &SeatBlocks, x: &T) -> bool
     requires rows { AreRows T.row_of list.now }
-    requires order { AreSeats seats.now }
     requires seated { HasSeats T.row_of list.now seats.now }
     ensures { IsTrue result
         ↔ (look_up (λ y. (T.row_of y).serial) list.now (T.row_of x.now).serial ≡ None) }
@@ -122,9 +118,8 @@ fn names_each_once<T: PlanRow>(alloc: Global, moves: &Moves<T>) -> Result<bool, 
 }
 
 // Whether the list has what goes.
-fn gone_stand<T: Whole>(list: &[T], seats: &[Seat], moves: &Moves<T>) -> bool
+fn gone_stand<T: Whole>(list: &[T], seats: &SeatBlocks, moves: &Moves<T>) -> bool
     requires rows { AreRows T.row_of list.now }
-    requires order { AreSeats seats.now }
     requires seated { HasSeats T.row_of list.now seats.now }
     ensures { IsTrue result ↔ ((x : T) → Contains moves.now.gone.items x
         → look_up (λ y. (T.row_of y).serial) list.now (T.row_of x).serial ≡ Some x) }
@@ -133,9 +128,8 @@ fn gone_stand<T: Whole>(list: &[T], seats: &[Seat], moves: &Moves<T>) -> bool
 }
 
 // Whether the list has what changes, under its key.
-fn changed_stand<T: PlanRow>(list: &[T], seats: &[Seat], moves: &Moves<T>) -> bool
+fn changed_stand<T: PlanRow>(list: &[T], seats: &SeatBlocks, moves: &Moves<T>) -> bool
     requires rows { AreRows T.row_of list.now }
-    requires order { AreSeats seats.now }
     requires seated { HasSeats T.row_of list.now seats.now }
     ensures { IsTrue result ↔ ((x : T) → Contains moves.now.changed.items x → (was : T)
         × (look_up (λ y. (T.row_of y).serial) list.now (T.row_of x).serial ≡ Some was)
@@ -145,9 +139,8 @@ fn changed_stand<T: PlanRow>(list: &[T], seats: &[Seat], moves: &Moves<T>) -> bo
 }
 
 // Whether nothing in the list has a serial of what is put.
-fn put_are_new<T: PlanRow>(list: &[T], seats: &[Seat], moves: &Moves<T>) -> bool
+fn put_are_new<T: PlanRow>(list: &[T], seats: &SeatBlocks, moves: &Moves<T>) -> bool
     requires rows { AreRows T.row_of list.now }
-    requires order { AreSeats seats.now }
     requires seated { HasSeats T.row_of list.now seats.now }
     ensures { IsTrue result ↔ ((x : T) → Contains moves.now.put.items x
         → look_up (λ y. (T.row_of y).serial) list.now (T.row_of x).serial ≡ None) }
@@ -159,11 +152,10 @@ fn put_are_new<T: PlanRow>(list: &[T], seats: &[Seat], moves: &Moves<T>) -> bool
 fn fits_set<T: Whole>(
     alloc: Global,
     list: &[T],
-    seats: &[Seat],
+    seats: &SeatBlocks,
     moves: &Moves<T>,
 ) -> Result<bool, AllocError>
     requires rows { AreRows T.row_of list.now }
-    requires order { AreSeats seats.now }
     requires seated { HasSeats T.row_of list.now seats.now }
     ensures { IfOk result (λ fits. IsTrue fits
         ↔ FitsSet T.row_of moves.now (look_up (λ x. (T.row_of x).serial) list.now)) }

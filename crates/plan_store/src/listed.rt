@@ -346,9 +346,12 @@ impl Content {
             sink.old sink.new) }
         ensures blames { IfErr result (λ fault. fault ≢ ListFault.Device) }
     {
-        let pairs = self.pairs.as_slice();
+        self.pairs.rise();
+        let Ok(pairs) = self.pairs.to_vec(alloc) else {
+            return Err(ListFault::Memory);
+        };
         match self.by_serial(alloc, history, deletions) {
-            Ok(all) => emit_links(&all, pairs, app, sink),
+            Ok(all) => emit_links(&all, &pairs, app, sink),
             Err(_) => Err(ListFault::Memory),
         }
     }
@@ -409,7 +412,7 @@ impl Content {
             → (what : Showable) (app : Option (List ℕ)) → (items : List Shown)
             × IsListing what app (with_rest rest (content_of self.now)) items }
     {
-        let _rising = self.pairs.as_slice();
+        self.pairs.rise();
         let _lists = self.in_force.as_slice();
     }
 }

@@ -1,21 +1,21 @@
-ghost use Rattle.std.specs.Prelude.{◌≡◌, ◌+◌, ◌≤◌, length, vec_len, vec_capacity};
-ghost use Rattle.external_dependencies.specs.Pair.{pair_cmp};
-ghost use Rattle.external_dependencies.specs.Rising.{IsRising};
+ghost use Rattle.std.specs.Prelude.{◌≡◌};
+ghost use Rattle.plan_store_lists.specs.Blocks.{items_of};
+ghost use Rattle.plan_store_lists.specs.PairBlocks.{ArePairBlocks, HasPairRoom};
 ghost use Rattle.plan_store.specs.Changes.{pairs_after};
 
 use external_dependencies::{Pair, PairChange};
-use plan_store_lists::{has_key, insert_all, remove_all};
+use plan_store_lists::{Blocks, has_item, insert_into, remove_from};
 
 // Makes a change in the list of the pairs. There is room for those that come.
-pub(crate) fn change_pairs(pairs: &mut Vec<Pair>, change: PairChange)
-    requires rising { IsRising pair_cmp pairs.old.items }
-    requires room { vec_len pairs.old + length change.added ≤ vec_capacity pairs.old }
-    ensures rising { IsRising pair_cmp pairs.new.items }
-    ensures changed { pairs.new.items ≡ pairs_after change pairs.old.items }
+pub(crate) fn change_pairs(pairs: &mut Blocks<u32, Pair>, change: PairChange)
+    requires blocks { ArePairBlocks pairs.old }
+    requires room { HasPairRoom change.added pairs.old }
+    ensures blocks { ArePairBlocks pairs.new }
+    ensures changed { items_of pairs.new ≡ pairs_after change (items_of pairs.old) }
 {
     let PairChange { removed, added } = change;
-    remove_all(pairs, removed.as_slice());
+    remove_from(pairs, removed.as_slice());
     let mut new = added.into_vec();
-    new.retain(|pair| !has_key(pairs, pair));
-    insert_all(pairs, &new);
+    new.retain(|pair| !has_item(pairs, pair));
+    insert_into(pairs, &new);
 }

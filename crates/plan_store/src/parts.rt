@@ -6,7 +6,7 @@ ghost use Rattle.std.specs.List.{list_any};
 ghost use Rattle.std.specs.List.Sorted.{IsNonDecreasing};
 ghost use Rattle.std.specs.Mem.{FitsInMemory};
 ghost use Rattle.plan_store_lists.specs.Rows.{AreRows, HasEachOnce, look_up, of_current, of_deletion, of_row};
-ghost use Rattle.plan_store_lists.specs.Seats.{AreSeats, HasSeats};
+ghost use Rattle.plan_store_lists.specs.Seats.{HasSeats};
 ghost use Rattle.plan_store_lists.specs.declared.seats.Seat.{Seat as SeatValue};
 ghost use Rattle.plan_store.specs.Parts.{or_this};
 
@@ -14,14 +14,13 @@ use crate::contents::Content;
 use crate::room::grow;
 use crate::slices::{barring, of_key, of_serial};
 use occurrences::{CurrentRow, Deletion, Key, Row, Serial};
-use plan_store_lists::{PlanRow, Seat, insert_all, note_rows};
+use plan_store_lists::{PlanRow, SeatBlocks, insert_all, note_rows};
 use std::alloc::{AllocError, Global};
 use std::slice::from_ref;
 
 // Whether the list has a row of the serial.
-fn has_serial<T: PlanRow>(list: &[T], seats: &[Seat], serial: Serial) -> bool
+fn has_serial<T: PlanRow>(list: &[T], seats: &SeatBlocks, serial: Serial) -> bool
     requires rows { AreRows T.row_of list.now }
-    requires order { AreSeats seats.now }
     requires seated { HasSeats T.row_of list.now seats.now }
     ensures { result ≡ is_some (look_up (λ x. (T.row_of x).serial) list.now serial) }
 {
@@ -53,18 +52,16 @@ pub(crate) fn put_row<T: PlanRow>(list: &mut Vec<T>, row: &T) -> Result<(), Allo
 fn load<T: PlanRow>(
     alloc: Global,
     list: &mut Vec<T>,
-    seats: &mut Vec<Seat>,
+    seats: &mut SeatBlocks,
     row: &T,
 ) -> Result<(), AllocError>
     requires size { FitsInMemory T.row }
     requires rows { AreRows T.row_of list.old.items }
-    requires order { AreSeats seats.old.items }
-    requires seated { HasSeats T.row_of list.old.items seats.old.items }
+    requires seated { HasSeats T.row_of list.old.items seats.old }
     ensures rows { AreRows T.row_of list.new.items }
-    ensures order { AreSeats seats.new.items }
-    ensures stay { (seat : SeatValue) → Contains seats.old.items seat
-        → Contains seats.new.items seat }
-    ensures seated { HasSeats T.row_of list.new.items seats.new.items }
+    ensures stay { (seat : SeatValue) → Contains seats.old seat
+        → Contains seats.new seat }
+    ensures seated { HasSeats T.row_of list.new.items seats.new }
     ensures ok { OnOk result ((serial : ℕ)
         → look_up (λ x. (T.row_of x).serial) list.new.items serial
         ≡ or_this (look_up (λ x. (T.row_of x).serial) list.old.items) (T.row_of row.now).serial
@@ -98,30 +95,24 @@ fn rows_among(alloc: Global, rows: &[Row], serials: &[Serial]) -> Result<Vec<Row
         .collect(alloc)
 }
 
-// The seats of both plans and of these rows of history and deletions, with room for an eighth more.
+// The seats of both plans and of these rows of history and deletions.
 fn seats_for(
     alloc: Global,
     ltp: &[Row],
     cp: &[CurrentRow],
     history: &[Row],
     deletions: &[Deletion],
-) -> Result<Vec<Seat>, AllocError>
+) -> Result<SeatBlocks, AllocError>
     requires ltp { HasEachOnce of_row ltp.now }
     requires cp { HasEachOnce of_current cp.now }
     requires history { HasEachOnce of_row history.now }
     requires deletions { HasEachOnce of_deletion deletions.now }
-    ensures order { IfOk result (λ seats. AreSeats seats.items) }
-    ensures ltp { IfOk result (λ seats. HasSeats of_row ltp.now seats.items) }
-    ensures cp { IfOk result (λ seats. HasSeats of_current cp.now seats.items) }
-    ensures history { IfOk result (λ seats. HasSeats of_row history.now seats.items) }
-    ensures deletions { IfOk result (λ seats. HasSeats of_deletion deletions.now seats.items) }
+    ensures ltp { IfOk result (λ seats. HasSeats of_row ltp.now seats) }
+    ensures cp { IfOk result (λ seats. HasSeats of_current cp.now seats) }
+    ensures history { IfOk result (λ seats. HasSeats of_row history.now seats) }
+    ensures deletions { IfOk result (λ seats. HasSeats of_deletion deletions.now seats) }
 {
-    let count = ltp
-        .len()
-        .saturating_add(cp.len())
-        .saturating_add(history.len())
-        .saturating_add(deletions.len());
-    let mut seats = Vec::with_capacity(alloc, count.saturating_add(count / 8))?;
+    let mut seats = SeatBlocks::new(alloc);
     note_rows(alloc, &mut seats, ltp)?;
     note_rows(alloc, &mut seats, cp)?;
     note_rows(alloc, &mut seats, history)?;
@@ -193,8 +184,8 @@ impl Content {
             (filter (λ pair. is_planned (content_of self.now).sets pair.successor)
             self.now.pairs)) }
     {
-        self.pairs
-            .as_slice()
+        let pairs = self.pairs.to_vec(alloc)?;
+        pairs
             .iter()
             .filter(|pair| self.is_planned(pair.successor))
             .map(|pair| pair.predecessor)

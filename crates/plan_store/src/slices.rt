@@ -4,14 +4,14 @@ ghost use Rattle.occurrences.specs.declared.place.CurrentRow.{CurrentRow as Curr
 ghost use Rattle.occurrences.specs.declared.place.Deletion.{Deletion as DeletionValue};
 ghost use Rattle.planner_machine.specs.DailyPlan.{arrives_before};
 ghost use Rattle.plan_store_lists.specs.Keyed.{IsKeyed};
-ghost use Rattle.plan_store_lists.specs.Seats.{AreSeats, HasSeats};
+ghost use Rattle.plan_store_lists.specs.Seats.{HasSeats};
 ghost use Rattle.external_dependencies.specs.Arrival.{arrival_cmp};
 ghost use Rattle.external_dependencies.specs.Nearest.{arrival_of};
 ghost use Rattle.plan_store.specs.Slices.{HaveOneApp, IsFront};
 ghost use Rattle.plan_store.specs.Views.{bars_from, is_asked, is_by_operator, is_from_plan_end, is_of_key};
 
 use occurrences::{CurrentRow, Deletion, Key, Reason, Row, Serial, Status};
-use plan_store_lists::{PlanRow, Seat, seats_of};
+use plan_store_lists::{PlanRow, SeatBlocks, seats_of};
 use planner_machine::Bounds;
 use std::alloc::AllocError;
 use work_calendars::{App, Moment};
@@ -70,9 +70,8 @@ fn with_serial<T: PlanRow>(rows: &[T], serial: Serial) -> Option<T>
 }
 
 // The row of a serial, found by its key among the seats.
-pub(crate) fn of_serial<T: PlanRow>(list: &[T], seats: &[Seat], serial: Serial) -> Option<T>
+pub(crate) fn of_serial<T: PlanRow>(list: &[T], seats: &SeatBlocks, serial: Serial) -> Option<T>
     requires keyed { IsKeyed arrival_cmp (λ x. arrival_of (T.row_of x)) list.now }
-    requires order { AreSeats seats.now }
     requires seated { HasSeats T.row_of list.now seats.now }
     ensures { MatchOption result ((x : T) → Contains list.now x → (T.row_of x).serial ≢ serial)
         (λ x. Contains list.now x × ((T.row_of x).serial ≡ serial)) }

@@ -1,12 +1,12 @@
 // A change under way.
 
 ghost use Rattle.std.specs.Prelude.{◌≡◌};
-ghost use Rattle.external_dependencies.specs.Pair.{pair_cmp};
-ghost use Rattle.external_dependencies.specs.Rising.{IsRising};
+ghost use Rattle.plan_store_lists.specs.PairBlocks.{ArePairBlocks};
 
 use crate::changes::Change;
 use crate::redefining::Redefining;
 use external_dependencies::Pair;
+use plan_store_lists::Blocks;
 
 /// A change that is staged in a content: there is room for all that it puts, and of the definitions a block's are
 /// there. `finish` makes the rest of it and `cancel` takes it back; neither needs memory.
@@ -15,9 +15,9 @@ pub struct Staged {
     // what is left of the change: all but the definitions
     pub(crate) rest: Change,
     // the pairs of the content, taken out of it, with room for those that come
-    pub(crate) pairs: Vec<Pair>,
+    pub(crate) pairs: Blocks<u32, Pair>,
     pub(crate) redefining: Redefining,
-    ghost rising: { IsRising pair_cmp pairs.items },
+    ghost pair_blocks: { ArePairBlocks pairs },
 }
 
 impl Staged {
@@ -33,12 +33,12 @@ impl Staged {
         &self.rest
     }
 
-    /// The pairs of the content, in rising order, as long as the change is under way.
-    pub fn pairs(&self) -> &[Pair]
-        ensures all { result.now ≡ self.now.pairs.items }
-        ensures rising { IsRising pair_cmp self.now.pairs.items }
+    /// The pairs of the content, as long as the change is under way.
+    pub fn pairs(&self) -> &Blocks<u32, Pair>
+        ensures all { result.now ≡ self.now.pairs }
+        ensures blocks { ArePairBlocks self.now.pairs }
     {
-        self.pairs.as_slice()
+        &self.pairs
     }
 
     /// Leaves out the job, which is stored elsewhere.

@@ -15,8 +15,9 @@ use crate::slices::{
 };
 use crate::spans::next_planned;
 use app_definitions::Definitions;
-use external_dependencies::{Arrival, Links, Pair, Pairs, PlacedRow, arrives_within};
+use external_dependencies::{Arrival, Links, Pair, PlacedRow, arrives_within};
 use occurrences::{CurrentRow, Deletion, Key, Place, Row, Serial};
+use plan_store_lists::PairBlocks;
 use planner_machine::Bounds;
 use std::alloc::{AllocError, Global};
 use work_calendars::{App, Moment, Within};
@@ -33,7 +34,7 @@ pub struct View<'a> {
     // and of these deletions those that keep a planning statement from making their keys
     pub(crate) deletions: &'a [Deletion],
     // and of these pairs those whose successor is open, or is the live row of the key
-    pub(crate) pairs: &'a Pairs,
+    pub(crate) pairs: &'a PairBlocks,
     pub(crate) key: &'a Option<Key>,
     // and of these rows of history the predecessors of those pairs; the live row of the key may be among them
     pub(crate) history: &'a [Row],
@@ -42,11 +43,11 @@ pub struct View<'a> {
     ghost last_rows: { AreRows of_row lasts.now },
     ghost history_rows: { AreRows of_row history.now },
     ghost deletion_rows: { AreRows of_deletion deletions.now },
-    ghost ltp_seats: { HasSeats of_row ltp.now content.now.seats.items },
-    ghost cp_seats: { HasSeats of_current cp.now content.now.seats.items },
-    ghost last_seats: { HasSeats of_row lasts.now content.now.seats.items },
-    ghost history_seats: { HasSeats of_row history.now content.now.seats.items },
-    ghost deletion_seats: { HasSeats of_deletion deletions.now content.now.seats.items },
+    ghost ltp_seats: { HasSeats of_row ltp.now content.now.seats },
+    ghost cp_seats: { HasSeats of_current cp.now content.now.seats },
+    ghost last_seats: { HasSeats of_row lasts.now content.now.seats },
+    ghost history_seats: { HasSeats of_row history.now content.now.seats },
+    ghost deletion_seats: { HasSeats of_deletion deletions.now content.now.seats },
 }
 
 ghost use Rattle.plan_store_lists.specs.Rows.{AreRows, look_up, of_current, of_deletion, of_row};

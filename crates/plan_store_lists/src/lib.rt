@@ -1,5 +1,5 @@
-//! The rows and the pairs of a plan as lists in rising order of a key, each key once: found by binary search, and
-//! changed in place.
+//! The rows, the pairs and the seats of a plan as lists in rising order of a key, each key once: found by binary search,
+//! and changed in place. Rows are in one vector each; pairs and seats are in blocks.
 //!
 //! ```text
 //! let mut rows = vec![in alloc; fourth, third]?;
@@ -10,15 +10,23 @@
 //! ```
 #![tactic(auto)]
 
+mod blocks;
 mod changes;
+mod grouped;
 mod keyed;
+mod pair_blocks;
 mod pairs;
 mod rows;
 mod search;
 mod seats;
 
+pub use blocks::{
+    Block, Blocks, all_of, has_item, insert_into, of_group, remove_from, reserve_for,
+};
 pub use changes::{insert_all, remove_all, replace_all};
+pub use grouped::Grouped;
 pub use keyed::Keyed;
+pub use pair_blocks::PairBlocks;
 pub use rows::PlanRow;
 pub use search::{find, has_key, sort};
-pub use seats::{Seat, note_rows, seats_of};
+pub use seats::{Seat, SeatBlocks, note_rows, seats_of};

@@ -48,7 +48,7 @@ fn is_bare(content: &Content) -> bool
 {
     content.issued == 0
         && has_no_rows(content)
-        && content.pairs.as_slice().is_empty()
+        && content.pairs.is_empty()
         && content.in_force.as_slice().is_empty()
 }
 

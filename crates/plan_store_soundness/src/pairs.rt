@@ -31,6 +31,14 @@ fn same_pairs(pairs: &Pairs, others: &Pairs) -> bool
     pairs.as_slice() == others.as_slice()
 }
 
+// The pairs as one list.
+fn pairs_of(alloc: Global, content: &Content) -> Result<Pairs, AllocError>
+    ensures { IfOk result (λ pairs. pairs ≡ (content_of content.now).pairs) }
+{
+    content.pairs.rise();
+    Ok(Pairs::from_rising(content.pairs.to_vec(alloc)?))
+}
+
 /// Whether the pairs are those that follow from the rows and the lists in force, where the rows are sound: of open
 /// occurrences those with their nearest predecessors, and no others but of occurrences that are live and no longer
 /// open.
@@ -40,8 +48,9 @@ pub(crate) fn has_settled_pairs(alloc: Global, content: &Content) -> Result<bool
         (content_of content.now).sets (content_of content.now).pairs) }
 {
     let rows = live_rows(alloc, &content.ltp, &content.cp, &content.history)?;
-    let settled = settled_pairs(alloc, &content.pairs, &rows, &content.in_force)?;
-    Ok(same_pairs(&content.pairs, &settled))
+    let pairs = pairs_of(alloc, content)?;
+    let settled = settled_pairs(alloc, &pairs, &rows, &content.in_force)?;
+    Ok(same_pairs(&pairs, &settled))
 }
 
 // Whether the place is live and no longer open.
@@ -142,7 +151,10 @@ pub(crate) fn has_closed_pairs(
         ↔ AreClosedPairs (content_of content.now).sets (content_of content.now).pairs) }
 {
     match table_of(alloc, content.issued, all)? {
-        Some(table) => are_fitting(alloc, &table, content.pairs.as_slice()),
+        Some(table) => {
+            let pairs = pairs_of(alloc, content)?;
+            are_fitting(alloc, &table, pairs.as_slice())
+        }
         None => Ok(false),
     }
 }

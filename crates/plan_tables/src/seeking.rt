@@ -58,14 +58,16 @@ pub(crate) fn loaded_rows(lists: &Content) -> usize {
     lists.history.len().saturating_add(lists.deletions.len())
 }
 
-// How many of these the lists may have before they are cut, where a cut left so many: twice as many, as many as the
-// lists have of all else, and a thousand. So what a cut costs was loaded since the last one.
-fn greatest_load(lists: &Content, kept: usize) -> usize {
-    kept.saturating_mul(2)
-        .saturating_add(lists.pairs.as_slice().len())
+// Whether the lists have so many of these that they are to be cut, where a cut left so many: more than twice as many, as
+// many as the lists have of all else, and a thousand. So what a cut costs was loaded since the last one.
+fn have_loaded_much(lists: &Content, kept: usize) -> bool {
+    let loaded = loaded_rows(lists);
+    let rows = kept
+        .saturating_mul(2)
         .saturating_add(lists.ltp.len())
         .saturating_add(lists.cp.len())
-        .saturating_add(1_000)
+        .saturating_add(1_000);
+    loaded > rows && !lists.pairs.has_more_than(loaded - rows - 1)
 }
 
 /// Cuts lists that loaded much: it drops the rows of history and the deletions that no plan needs. If memory is refused,
@@ -82,7 +84,7 @@ pub(crate) fn cut_lists(alloc: Global, lists: &mut Content, kept: &mut usize, is
     ensures ready { is_ready.new ≡ true
         → (is_ready.old ≡ true) × (content_of lists.new ≡ content_of lists.old) }
 {
-    if loaded_rows(lists) <= greatest_load(lists, *kept) {
+    if !have_loaded_much(lists, *kept) {
         return;
     }
     *is_ready = false;

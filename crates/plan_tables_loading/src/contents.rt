@@ -17,6 +17,7 @@ use crate::lists::{PlanLists, PlanRows};
 use app_definitions::Definitions;
 use external_dependencies::{Links, Pair, Pairs};
 use plan_store::{Change, Content};
+use plan_store_lists::PairBlocks;
 use planner_machine::{Bounds, Job};
 use std::alloc::{AllocError, Global};
 
@@ -69,20 +70,25 @@ fn put_links(content: &mut Content, links: Links)
     content.set_in_force(links);
 }
 
-fn replace_pairs(old: &mut Pairs, new: Pairs)
+// The pairs in blocks.
+fn blocks_of(alloc: Global, pairs: Vec<Pair>) -> Result<PairBlocks, AllocError>
+    ensures same { IfOk result (λ blocks. HaveSame blocks pairs.items) }
+    ensures rising { IfOk result (λ blocks. IsRising pair_cmp blocks) }
+{
+    let rising = Pairs::from_vec(pairs);
+    PairBlocks::from_slice(alloc, rising.as_slice())
+}
+
+fn replace_pairs(old: &mut PairBlocks, new: PairBlocks)
     ensures { old.new ≡ new }
 {
     *old = new;
 }
 
-fn put_pairs(content: &mut Content, pairs: Vec<Pair>)
-    ensures kept { content_of content.new ≡ with_pairs_of content.new.pairs
-        (content_of content.old) }
-    ensures same { HaveSame content.new.pairs pairs.items }
-    ensures rising { IsRising pair_cmp content.new.pairs }
+fn put_pairs(content: &mut Content, pairs: PairBlocks)
+    ensures kept { content_of content.new ≡ with_pairs_of pairs (content_of content.old) }
 {
-    replace_pairs(&mut content.pairs, Pairs::from_vec(pairs));
-    let _rising = content.pairs.as_slice();
+    replace_pairs(&mut content.pairs, pairs);
 }
 
 fn replace_jobs(old: &mut Vec<Job>, new: Vec<Job>)
@@ -116,6 +122,7 @@ pub fn content_of_lists(
         jobs,
     } = lists;
     let mut content = content_of_rows(alloc, rows)?;
+    let pairs = blocks_of(alloc, pairs)?;
     put_definitions(&mut content, definitions);
     put_bounds(&mut content, meta.bounds, meta.issued);
     put_links(&mut content, links);

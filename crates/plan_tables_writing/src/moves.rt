@@ -4,8 +4,8 @@ ghost use Rattle.std.specs.Prelude.{◌≡◌, IfOk, Some, ⊤};
 ghost use Rattle.plan_tables_writing.specs.Accepted.{AreKeysOf, AcceptsLinks, AcceptsMoves, AcceptsPairs};
 ghost use Rattle.plan_tables_writing.specs.Accepted.{AcceptsRows, WritesAccepted};
 ghost use Rattle.plan_tables_writing.specs.Writing.{AreStorable, StandAlone, moved_in, rows_moved, pairs_moved};
-ghost use Rattle.external_dependencies.specs.Pair.{pair_cmp};
-ghost use Rattle.external_dependencies.specs.Rising.{IsRising};
+ghost use Rattle.plan_store_lists.specs.Blocks.{items_of};
+ghost use Rattle.plan_store_lists.specs.PairBlocks.{ArePairBlocks};
 ghost use Rattle.plan_store.specs.Changes.{is_among};
 ghost use Rattle.plan_tables_writing.specs.Writing.{beside, holds_link, links_moved, links_replaced, standing};
 
@@ -14,7 +14,7 @@ use crate::loops::{delete_each, put_each};
 use crate::steps::{DeleteEach, PutEach, Step};
 use external_dependencies::{Link, Links, Pair, PairChange};
 use plan_store::{Change, Moves};
-use plan_store_lists::has_key;
+use plan_store_lists::{Blocks, has_item};
 use plan_tables_schema::Table;
 use sqlite::{Alter, Error, Transaction};
 use std::alloc::{AllocError, Global};
@@ -66,16 +66,21 @@ pub(crate) fn write_rows<S: Alter>(
 }
 
 // Whether the pair is one of these.
-fn has_pair(pairs: &[Pair], pair: &Pair) -> bool
-    ensures { IsRising pair_cmp pairs.now → result ≡ is_among pairs.now pair.now }
+fn has_pair(pairs: &Blocks<u32, Pair>, pair: &Pair) -> bool
+    requires { ArePairBlocks pairs.now }
+    ensures { result ≡ is_among (items_of pairs.now) pair.now }
 {
-    has_key(pairs, pair)
+    has_item(pairs, pair)
 }
 
 // Those of the added pairs that are among these.
-fn standing(alloc: Global, pairs: &[Pair], added: &[Pair]) -> Result<Vec<Pair>, AllocError>
-    requires { IsRising pair_cmp pairs.now }
-    ensures { IfOk result (λ found. found.items ≡ standing pairs.now added.now) }
+fn standing(
+    alloc: Global,
+    pairs: &Blocks<u32, Pair>,
+    added: &[Pair],
+) -> Result<Vec<Pair>, AllocError>
+    requires { ArePairBlocks pairs.now }
+    ensures { IfOk result (λ found. found.items ≡ standing (items_of pairs.now) added.now) }
 {
     added
         .iter()
@@ -89,12 +94,13 @@ fn standing(alloc: Global, pairs: &[Pair], added: &[Pair]) -> Result<Vec<Pair>, 
 pub(crate) fn write_pairs<S: Alter>(
     tx: &mut Transaction<'_, S>,
     alloc: Global,
-    old: &[Pair],
+    old: &Blocks<u32, Pair>,
     change: &PairChange,
 ) -> Result<(), Error>
-    requires { IsRising pair_cmp old.now }
-    ensures { WritesAccepted (λ _. ⊤) (AcceptsPairs old.now change.now) S.Store tx.old tx.new result
-        (pairs_moved old.now change.now) }
+    requires { ArePairBlocks old.now }
+    ensures { WritesAccepted (λ _. ⊤) (AcceptsPairs (items_of old.now) change.now) S.Store
+        tx.old tx.new result
+        (pairs_moved (items_of old.now) change.now) }
 {
     let there = standing(alloc, old, change.added.as_slice())?;
     delete_each(tx, Table::Dependency, change.removed.as_slice())?;

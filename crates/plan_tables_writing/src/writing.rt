@@ -7,6 +7,7 @@ ghost use Rattle.planner_machine.specs.Moves.{or_else};
 ghost use Rattle.planner_machine.specs.declared.job.Job.{Job as JobValue};
 ghost use Rattle.plan_store.specs.Contents.{content_of};
 ghost use Rattle.plan_store.specs.Room.{with_pairs_of};
+ghost use Rattle.plan_store_lists.specs.Blocks.{items_of};
 ghost use Rattle.plan_tables_content.specs.Content.{answer_text};
 ghost use Rattle.plan_tables_writing.specs.Redefining.{AreStorableMoves, written};
 ghost use Rattle.plan_tables_writing.specs.Accepted.{AcceptsChange, AcceptsJob, AcceptsNewMeta, AcceptsPlans};
@@ -79,9 +80,11 @@ fn write_plans<S: Alter>(
     requires line { IfSome staged.now.rest.job
         (λ (job : JobValue). line.now ≡ answer_text job.reply) }
     ensures { WritesAccepted (λ _. ⊤)
-        (AcceptsPlans (with_pairs_of staged.now.pairs.items (content_of old.now)) staged.now.rest)
+        (AcceptsPlans (with_pairs_of (items_of staged.now.pairs)
+        (content_of old.now)) staged.now.rest)
         S.Store tx.old tx.new result
-        (plans_written (with_pairs_of staged.now.pairs.items (content_of old.now)) staged.now.rest) }
+        (plans_written (with_pairs_of (items_of staged.now.pairs)
+        (content_of old.now)) staged.now.rest) }
 {
     let change = staged.rest();
     write_rows(tx, change)?;
@@ -106,9 +109,10 @@ pub(crate) fn write_change<S: Alter>(
         (λ (job : JobValue). line.now ≡ answer_text job.reply) }
     ensures { WritesAccepted (λ _. AreStorableMoves moves.now)
         (λ all. AreStorableMoves moves.now
-        × AcceptsChange (with_pairs_of staged.now.pairs.items (content_of content.now)) moves.now
+        × AcceptsChange (with_pairs_of (items_of staged.now.pairs)
+        (content_of content.now)) moves.now
         staged.now.rest all) S.Store tx.old tx.new result
-        (written (with_pairs_of staged.now.pairs.items (content_of content.now)) moves.now
+        (written (with_pairs_of (items_of staged.now.pairs) (content_of content.now)) moves.now
         staged.now.rest) }
 {
     write_definitions(tx, alloc, content, moves)?;
@@ -131,12 +135,14 @@ pub fn commit_change<S: Alter>(
     requires line { IfSome staged.now.rest.job
         (λ (job : JobValue). line.now ≡ answer_text job.reply) }
     ensures { Commits S.Store conn.old conn.new result IsPlan
-        (HasRows (written (with_pairs_of staged.now.pairs.items (content_of content.now)) moves.now
+        (HasRows (written (with_pairs_of (items_of staged.now.pairs)
+        (content_of content.now)) moves.now
         staged.now.rest))
-        (MayFailWhere (AcceptsChange (with_pairs_of staged.now.pairs.items (content_of content.now))
+        (MayFailWhere (AcceptsChange (with_pairs_of (items_of staged.now.pairs)
+        (content_of content.now))
         moves.now staged.now.rest))
         (λ old. HoldsWritten old
-        (written (with_pairs_of staged.now.pairs.items (content_of content.now)) moves.now
+        (written (with_pairs_of (items_of staged.now.pairs) (content_of content.now)) moves.now
         staged.now.rest (tables_of old.now.trees))) }
 {
     let settled = conn.is_autocommit();

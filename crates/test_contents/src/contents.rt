@@ -3,7 +3,7 @@ use crate::definitions::unlike_definitions;
 use external_dependencies::Links;
 use plan_store::{Content, ListStore};
 use planner_cli::run;
-use std::alloc::Global;
+use std::alloc::{AllocError, Global};
 
 /// Whether the jobs are the same.
 fn are_same_jobs(kept: &Content, wanted: &Content) -> bool {
@@ -20,7 +20,13 @@ fn are_same_links(kept: &Links, wanted: &Links) -> bool {
 }
 
 /// The first part of the content, apart from the definitions, that is not as it should be.
-fn unlike_plans(kept: &Content, wanted: &Content) -> Option<&'static str> {
+fn unlike_plans(
+    alloc: Global,
+    kept: &Content,
+    wanted: &Content,
+) -> Result<Option<&'static str>, AllocError> {
+    let pairs = kept.pairs.to_vec(alloc)?;
+    let wanted_pairs = wanted.pairs.to_vec(alloc)?;
     let parts = [
         ("bounds", kept.bounds == wanted.bounds),
         ("serials issued", kept.issued == wanted.issued),
@@ -41,16 +47,18 @@ fn unlike_plans(kept: &Content, wanted: &Content) -> Option<&'static str> {
             "deletions",
             kept.deletions.as_slice() == wanted.deletions.as_slice(),
         ),
-        ("pairs", kept.pairs.as_slice() == wanted.pairs.as_slice()),
+        ("pairs", pairs.as_slice() == wanted_pairs.as_slice()),
         ("jobs", are_same_jobs(kept, wanted)),
     ];
-    parts.iter().find(|part| !part.1).map(|part| part.0)
+    Ok(parts.iter().find(|part| !part.1).map(|part| part.0))
 }
 
 /// Nothing where both contents are the same, else the first part of them that isn't.
 fn is_same(alloc: Global, kept: &Content, wanted: &Content) -> Result<(), &'static str> {
-    if let Some(part) = unlike_plans(kept, wanted) {
-        return Err(part);
+    match unlike_plans(alloc, kept, wanted) {
+        Ok(None) => {}
+        Ok(Some(part)) => return Err(part),
+        Err(_) => return Err("memory"),
     }
     match unlike_definitions(alloc, &kept.definitions, &wanted.definitions) {
         Ok(None) => Ok(()),

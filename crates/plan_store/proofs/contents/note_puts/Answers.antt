@@ -11,7 +11,7 @@ pub returns-clause-ltp : goal.returns-clause-ltp
 returns-clause-ltp c =
     let puts = c.args.change.now.ltp.put.items in
     let noted = rw c.deref.ensures.value at c.in_ok-note_rows.ensures.noted in
-    always c.note_rows-4.result _ (seats_stay of_row puts c.note_rows.new.seats.items c.note_rows-4.new.seats.items
+    always c.note_rows-4.result _ (seats_stay of_row puts c.note_rows.new.seats c.note_rows-4.new.seats
     noted (λ s there. c.note_rows-4.ensures.stay s
     (c.note_rows-3.ensures.stay s (c.note_rows-2.ensures.stay s there))))
 
@@ -19,13 +19,22 @@ pub returns-clause-cp : goal.returns-clause-cp
 returns-clause-cp c =
     let puts = c.args.change.now.cp.put.items in
     let noted = rw c.deref-2.ensures.value at c.in_ok-note_rows-2.ensures.noted in
-    always c.note_rows-4.result _ (seats_stay of_current puts c.note_rows-2.new.seats.items
-    c.note_rows-4.new.seats.items noted (λ s there. c.note_rows-4.ensures.stay s
+    always c.note_rows-4.result _ (seats_stay of_current puts c.note_rows-2.new.seats
+    c.note_rows-4.new.seats noted (λ s there. c.note_rows-4.ensures.stay s
     (c.note_rows-3.ensures.stay s there)))
 
 pub returns-clause-history : goal.returns-clause-history
 returns-clause-history c =
     let puts = c.args.change.now.history.put.items in
     let noted = rw c.deref-3.ensures.value at c.in_ok-note_rows-3.ensures.noted in
-    always c.note_rows-4.result _ (seats_stay of_row puts c.note_rows-3.new.seats.items c.note_rows-4.new.seats.items
+    always c.note_rows-4.result _ (seats_stay of_row puts c.note_rows-3.new.seats c.note_rows-4.new.seats
     noted (λ s there. c.note_rows-4.ensures.stay s there))
+
+pub returns-in_err-note_rows-3-clause-stay : goal.returns-in_err-note_rows-3-clause-stay
+returns-in_err-note_rows-3-clause-stay c s there =
+    c.note_rows-3.ensures.stay s (c.note_rows-2.ensures.stay s (c.note_rows.ensures.stay s there))
+
+pub returns-clause-stay : goal.returns-clause-stay
+returns-clause-stay c s there =
+    c.note_rows-4.ensures.stay s
+    (c.note_rows-3.ensures.stay s (c.note_rows-2.ensures.stay s (c.note_rows.ensures.stay s there)))

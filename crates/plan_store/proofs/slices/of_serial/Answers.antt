@@ -33,6 +33,6 @@ returns g c x there same =
     let row = g.T.PlanRow.row_of x in
     let found = c.seats_of-found.result.now in
     let whole : take c.loop-seat.seat-index found ≡ found = take_all c.loop-seat.seat-index found (omega arith) in
-    let held = (c.seats_of-found.ensures c.requires.order (seat_of row)).1
+    let held = (c.seats_of-found.ensures (seat_of row)).1
     (seat_held seats (seat_of row) (c.requires.seated x there), same) in
     c.loop-seat.invariant x there (subst (λ l. Contains l (seat_of row)) (sym whole) held) same

@@ -2,7 +2,7 @@ use Rattle.std.proofs.Common.{List, subst, sym}
 use Rattle.occurrences.specs.declared.place.CurrentRow.{CurrentRow}
 use Rattle.occurrences.specs.declared.row.Row.{Row}
 use Rattle.planner_machine.specs.Content.{Sets}
-use Rattle.plan_store_pairs.specs.LiveRows.{HasLists}
+use Rattle.plan_store_pairs.specs.LiveRows.{HasLists, HasPairsAfter}
 use Rattle.plan_store.specs.Contents.{content_of}
 use Rattle.plan_store_soundness.proofs.NumberedLemmas.{has_rows}
 use Rattle.plan_store_soundness.proofs.PairLemmas.{has_lists, settled_from, settled_to}
@@ -18,10 +18,13 @@ returns c sound =
     (subst (λ (l : List CurrentRow). HasLists s kept.ltp.items l c.deref-3.result.now) (sym c.deref-2.ensures.value)
     (subst (λ (l : List Row). HasLists s kept.ltp.items kept.cp.items l) (sym c.deref-3.ensures.value) lists)) in
     let live = c.in_ok-rows.ensures.live s lent in
-    let after = c.in_ok-settled.ensures s live in
-    let rising = c.same_pairs.ensures.1 in (
-      λ yes. let both = c.same_pairs.ensures.0.0 yes in
-          settled_to kept.in_force s kept.pairs c.in_ok-settled.settled rising after both.0 both.1,
-      λ are. c.same_pairs.ensures.0.1
-          (settled_from kept.in_force s kept.pairs c.in_ok-settled.settled rising after are),
+    let settled = c.in_ok-settled.settled in
+    let after : HasPairsAfter kept.pairs kept.in_force s settled =
+    subst (λ l. HasPairsAfter l kept.in_force s settled) c.in_ok-pairs.ensures (c.in_ok-settled.ensures s live) in
+    let same = rw c.in_ok-pairs.ensures at c.same_pairs.ensures in
+    let rising = same.1 in (
+      λ yes. let both = same.0.0 yes in
+          settled_to kept.in_force s kept.pairs settled rising after both.0 both.1,
+      λ are. same.0.1
+          (settled_from kept.in_force s kept.pairs settled rising after are),
     )

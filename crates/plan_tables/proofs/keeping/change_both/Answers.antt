@@ -3,6 +3,7 @@ use Rattle.sqlite.specs.Held.{state}
 use Rattle.sqlite.specs.State.{HasCleanDisk}
 use Rattle.sqlite.proofs.StateLemmas.{survives_then, survives_weaker}
 use Rattle.plan_store.specs.Contents.{content_of}
+use Rattle.plan_store_lists.specs.Blocks.{items_of}
 use Rattle.plan_store.specs.Parts.{with_rest}
 use Rattle.plan_store.specs.Staged.{jobless}
 use Rattle.plan_tables_schema.specs.Rows.{tables_of}
@@ -38,7 +39,7 @@ returns-in-Ok-commit_change-clause-done g c clean rest met =
       content = tables_after (with_rest rest (content_of c.args.lists.now)) c.args.change c.args.moves.now met.fits
           met.told c.requires.told c.in-Ok.staged.rest c.in-Ok.ensures.staged.rest
           (state g.S.Store c.args.conn.now) (state g.S.Store c.commit_change.new.conn).now.trees
-          (with_rest rest (content_of c.stage.new.self)) c.in-Ok.staged.pairs.items
+          (with_rest rest (content_of c.stage.new.self)) (items_of c.in-Ok.staged.pairs)
           (ap (with_rest rest) c.in-Ok.ensures.staged.halves) c.in-Ok.ensures.staged.pairs met.stored d.1;
     }
 
@@ -47,7 +48,7 @@ returns-in-Ok-commit_change-clause-crash g c =
     survives_weaker (state g.S.Store c.args.conn.now) (state g.S.Store c.commit_change.new.conn) _ _
     (λ clean db h rest met. tells_after (with_rest rest (content_of c.args.lists.now)) c.args.change c.args.moves.now
     met.fits met.told c.requires.told c.in-Ok.staged.rest c.in-Ok.ensures.staged.rest
-    (state g.S.Store c.args.conn.now) db (with_rest rest (content_of c.stage.new.self)) c.in-Ok.staged.pairs.items
+    (state g.S.Store c.args.conn.now) db (with_rest rest (content_of c.stage.new.self)) (items_of c.in-Ok.staged.pairs)
     (ap (with_rest rest) c.in-Ok.ensures.staged.halves) c.in-Ok.ensures.staged.pairs met.stored
     (h met.stored.plan))
     c.commit_change.ensures.crash
@@ -58,7 +59,7 @@ returns-in-Err-commit_change-clause-crash g c =
     (state g.S.Store c.cause_of.new.conn) _ (λ _. ⊥) _
     (λ clean db h rest met. tells_after (with_rest rest (content_of c.args.lists.now)) c.args.change c.args.moves.now
     met.fits met.told c.requires.told c.in-Ok.staged.rest c.in-Ok.ensures.staged.rest
-    (state g.S.Store c.args.conn.now) db (with_rest rest (content_of c.stage.new.self)) c.in-Ok.staged.pairs.items
+    (state g.S.Store c.args.conn.now) db (with_rest rest (content_of c.stage.new.self)) (items_of c.in-Ok.staged.pairs)
     (ap (with_rest rest) c.in-Ok.ensures.staged.halves) c.in-Ok.ensures.staged.pairs met.stored
     (h met.stored.plan))
     (λ _ _ none. absurd none)
@@ -71,7 +72,7 @@ returns-in-Err-commit_change-clause-blames g c clean rest met can is =
     let new = state g.S.Store c.cause_of.new.conn in
     let calm : HasCleanDisk mid = omega (arith, c.cause_of.ensures.survives.clean, clean) in
     let taken = taken_rest (with_rest rest (content_of c.args.lists.now)) c.args.change c.args.moves.now
-    c.in-Ok.staged.rest c.in-Ok.ensures.staged.rest (with_rest rest (content_of c.stage.new.self)) c.in-Ok.staged.pairs.items
+    c.in-Ok.staged.rest c.in-Ok.ensures.staged.rest (with_rest rest (content_of c.stage.new.self)) (items_of c.in-Ok.staged.pairs)
     (ap (with_rest rest) c.in-Ok.ensures.staged.halves) c.in-Ok.ensures.staged.pairs
     (tables_of old.now.trees) (can.1 c.args.moves.now met.told) in
     failed_so old mid new _ _ _ met.stored.is_open calm c.commit_change.ensures.crash c.cause_of.ensures.survives

@@ -1,4 +1,4 @@
 use Rattle.plan_tables_writing.proofs.moves.has_pair.Goals as goal
 
 pub returns : goal.returns
-returns c rising = c.has_key.ensures rising
+returns c = c.has_item.ensures

@@ -13,11 +13,11 @@ returns-then-not-branch c = refused c.in_ok-fits_set.field-0 c.in_ok-fits_set.en
 
 pub returns-then-not-branch-2 : goal.returns-then-not-branch-2
 returns-then-not-branch-2 c = refused c.in_ok-fits_set-2.field-0 c.in_ok-fits_set-2.ensures c.if-not-branch-2.true
-    (λ fits. of_items of_current c.args.change.now.cp _ _ (sym c.deref-3.ensures.value) fits.cp)
+    (λ fits. of_items of_current c.args.change.now.cp _ _ (sym c.deref-2.ensures.value) fits.cp)
 
 pub returns-then-not-branch-3 : goal.returns-then-not-branch-3
 returns-then-not-branch-3 c = refused c.in_ok-fits_set-3.field-0 c.in_ok-fits_set-3.ensures c.if-not-branch-3.true
-    (λ fits. of_items of_row c.args.change.now.history _ _ (sym c.deref-5.ensures.value) fits.history)
+    (λ fits. of_items of_row c.args.change.now.history _ _ (sym c.deref-3.ensures.value) fits.history)
 
 pub returns : goal.returns
 returns c =
@@ -25,11 +25,11 @@ returns c =
     last_test c.fits_set-4.result
     (λ fits. record {
       ltp = of_items of_row change.ltp _ _ c.deref.ensures.value (c.in_ok-fits_set.ensures.0 c.if-not-branch.false);
-      cp = of_items of_current change.cp _ _ c.deref-3.ensures.value
+      cp = of_items of_current change.cp _ _ c.deref-2.ensures.value
           (c.in_ok-fits_set-2.ensures.0 c.if-not-branch-2.false);
-      history = of_items of_row change.history _ _ c.deref-5.ensures.value
+      history = of_items of_row change.history _ _ c.deref-3.ensures.value
           (c.in_ok-fits_set-3.ensures.0 c.if-not-branch-3.false);
-      deletions = of_items of_deletion change.deletions _ _ c.deref-7.ensures.value fits;
+      deletions = of_items of_deletion change.deletions _ _ c.deref-4.ensures.value fits;
       job = c.takes_job.ensures.0 c.if-not-takes_job.false;
-    }) (λ fits. of_items of_deletion change.deletions _ _ (sym c.deref-7.ensures.value) fits.deletions)
+    }) (λ fits. of_items of_deletion change.deletions _ _ (sym c.deref-4.ensures.value) fits.deletions)
     c.fits_set-4.ensures

@@ -44,6 +44,6 @@ returns-in-Err-clause-part g c rest numbered has =
     record {
       done = [];
       rest = map link_shown links;
-      whole = (links, lists_links whole app numbered c.as_slice-rising.ensures.rising, refl);
+      whole = (links, lists_links whole app numbered c.rise.ensures, refl);
       ends = refl;
     }

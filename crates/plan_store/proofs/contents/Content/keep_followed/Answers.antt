@@ -53,7 +53,6 @@ invariant_of-self-3 c =
       history_rows = stays kept c.in_ok-history.history.items c.in_ok-history.ensures;
       deletion_rows = barring kept c.in_ok-deletions.deletions.items c.in_ok-deletions.ensures;
       numbered_jobs = kept.numbered_jobs;
-      seat_order = c.in_ok-seats.ensures.order;
       ltp_seats = rw c.deref.ensures.value at c.in_ok-seats.ensures.ltp;
       cp_seats = rw c.deref-2.ensures.value at c.in_ok-seats.ensures.cp;
       history_seats = rw c.deref-3.ensures.value at c.in_ok-seats.ensures.history;

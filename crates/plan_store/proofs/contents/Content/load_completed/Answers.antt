@@ -8,7 +8,7 @@ use Rattle.plan_store.proofs.contents.Content.load_completed.Goals as goal
 pub invariant_of-self : goal.invariant_of-self
 invariant_of-self c =
     let kept = c.args.self.now in
-    let seats = c.load.new.seats.items in
+    let seats = c.load.new.seats in
     let stay = c.load.ensures.stay in
     record {
       ltp_rows = kept.ltp_rows;
@@ -16,11 +16,10 @@ invariant_of-self c =
       history_rows = c.load.ensures.rows;
       deletion_rows = kept.deletion_rows;
       numbered_jobs = kept.numbered_jobs;
-      seat_order = c.load.ensures.order;
-      ltp_seats = seats_stay of_row kept.ltp.items kept.seats.items seats kept.ltp_seats stay;
-      cp_seats = seats_stay of_current kept.cp.items kept.seats.items seats kept.cp_seats stay;
+      ltp_seats = seats_stay of_row kept.ltp.items kept.seats seats kept.ltp_seats stay;
+      cp_seats = seats_stay of_current kept.cp.items kept.seats seats kept.cp_seats stay;
       history_seats = c.load.ensures.seated;
-      deletion_seats = seats_stay of_deletion kept.deletions.items kept.seats.items seats kept.deletion_seats stay;
+      deletion_seats = seats_stay of_deletion kept.deletions.items kept.seats seats kept.deletion_seats stay;
       plan_lasts = λ on. subst (HasPlanLasts kept.definitions kept.bounds kept.in_force kept.cp.items
           c.load.new.list.items) (sym c.keep_plan_lasts.ensures.rows)
           (plan_loaded c.load.result kept.definitions kept.bounds kept.in_force kept.cp.items kept.history.items

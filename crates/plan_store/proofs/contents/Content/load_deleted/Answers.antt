@@ -5,7 +5,7 @@ use Rattle.plan_store.proofs.contents.Content.load_deleted.Goals as goal
 pub invariant_of-self : goal.invariant_of-self
 invariant_of-self c =
     let kept = c.args.self.now in
-    let seats = c.load.new.seats.items in
+    let seats = c.load.new.seats in
     let stay = c.load.ensures.stay in
     record {
       ltp_rows = kept.ltp_rows;
@@ -13,10 +13,9 @@ invariant_of-self c =
       history_rows = kept.history_rows;
       deletion_rows = c.load.ensures.rows;
       numbered_jobs = kept.numbered_jobs;
-      seat_order = c.load.ensures.order;
-      ltp_seats = seats_stay of_row kept.ltp.items kept.seats.items seats kept.ltp_seats stay;
-      cp_seats = seats_stay of_current kept.cp.items kept.seats.items seats kept.cp_seats stay;
-      history_seats = seats_stay of_row kept.history.items kept.seats.items seats kept.history_seats stay;
+      ltp_seats = seats_stay of_row kept.ltp.items kept.seats seats kept.ltp_seats stay;
+      cp_seats = seats_stay of_current kept.cp.items kept.seats seats kept.cp_seats stay;
+      history_seats = seats_stay of_row kept.history.items kept.seats seats kept.history_seats stay;
       deletion_seats = c.load.ensures.seated;
       plan_lasts = kept.plan_lasts;
     }

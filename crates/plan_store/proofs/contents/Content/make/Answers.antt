@@ -17,16 +17,15 @@ invariant_of-self c =
       history_rows = c.move_rows-3.ensures.rows;
       deletion_rows = c.move_rows-4.ensures.rows;
       numbered_jobs = c.keep_job.ensures.numbered;
-      seat_order = kept.seat_order;
-      ltp_seats = seats_after of_row change.ltp kept.ltp.items c.move_rows.new.list.items kept.seats.items
+      ltp_seats = seats_after of_row change.ltp kept.ltp.items c.move_rows.new.list.items kept.seats
           c.move_rows.ensures.rows c.move_rows.ensures.moved c.requires.fits.ltp kept.ltp_seats room.ltp_seats;
-      cp_seats = seats_after of_current change.cp kept.cp.items c.move_rows-2.new.list.items kept.seats.items
+      cp_seats = seats_after of_current change.cp kept.cp.items c.move_rows-2.new.list.items kept.seats
           c.move_rows-2.ensures.rows c.move_rows-2.ensures.moved c.requires.fits.cp kept.cp_seats room.cp_seats;
-      history_seats = seats_after of_row change.history kept.history.items c.move_rows-3.new.list.items kept.seats.items
+      history_seats = seats_after of_row change.history kept.history.items c.move_rows-3.new.list.items kept.seats
           c.move_rows-3.ensures.rows c.move_rows-3.ensures.moved c.requires.fits.history kept.history_seats
           room.history_seats;
       deletion_seats = seats_after of_deletion change.deletions kept.deletions.items c.move_rows-4.new.list.items
-          kept.seats.items c.move_rows-4.ensures.rows c.move_rows-4.ensures.moved c.requires.fits.deletions
+          kept.seats c.move_rows-4.ensures.rows c.move_rows-4.ensures.moved c.requires.fits.deletions
           kept.deletion_seats room.deletion_seats;
       plan_lasts = λ on. subst (HasPlanLasts kept.definitions c.new_or_old-self.result c.put_in_force.new.links
           c.move_rows-2.new.list.items c.move_rows-3.new.list.items) (sym c.keep_plan_lasts.ensures.rows)
@@ -49,6 +48,6 @@ returns c = λ i. record {
     deletions = λ serial. c.move_rows-4.ensures.moved serial i;
   };
   in_force = c.put_in_force.ensures i;
-  pairs = (c.from_rising.ensures ∙ c.change_pairs.ensures.changed) i;
+  pairs = (c.from_blocks.ensures ∙ c.change_pairs.ensures.changed) i;
   jobs = λ number. c.keep_job.ensures.kept number i;
 }

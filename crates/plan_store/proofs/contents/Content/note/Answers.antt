@@ -12,12 +12,11 @@ invariant_of-self c =
       history_rows = kept.history_rows;
       deletion_rows = kept.deletion_rows;
       numbered_jobs = kept.numbered_jobs;
-      seat_order = c.note_puts.ensures.seats;
-      ltp_seats = seats_stay of_row kept.ltp.items kept.seats.items c.note_puts.new.seats.items kept.ltp_seats stay;
-      cp_seats = seats_stay of_current kept.cp.items kept.seats.items c.note_puts.new.seats.items kept.cp_seats stay;
-      history_seats = seats_stay of_row kept.history.items kept.seats.items c.note_puts.new.seats.items
+      ltp_seats = seats_stay of_row kept.ltp.items kept.seats c.note_puts.new.seats kept.ltp_seats stay;
+      cp_seats = seats_stay of_current kept.cp.items kept.seats c.note_puts.new.seats kept.cp_seats stay;
+      history_seats = seats_stay of_row kept.history.items kept.seats c.note_puts.new.seats
           kept.history_seats stay;
-      deletion_seats = seats_stay of_deletion kept.deletions.items kept.seats.items c.note_puts.new.seats.items
+      deletion_seats = seats_stay of_deletion kept.deletions.items kept.seats c.note_puts.new.seats
           kept.deletion_seats stay;
       plan_lasts = kept.plan_lasts;
     }

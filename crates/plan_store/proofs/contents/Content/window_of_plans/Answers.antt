@@ -11,7 +11,7 @@ invariant_of-result c = record {
   deletion_rows = no_rows of_deletion;
   ltp_seats = c.requires.ltp_seats;
   cp_seats = c.requires.cp_seats;
-  last_seats = no_seats of_row c.args.self.now.seats.items;
-  history_seats = no_seats of_row c.args.self.now.seats.items;
-  deletion_seats = no_seats of_deletion c.args.self.now.seats.items;
+  last_seats = no_seats of_row c.args.self.now.seats;
+  history_seats = no_seats of_row c.args.self.now.seats;
+  deletion_seats = no_seats of_deletion c.args.self.now.seats;
 }

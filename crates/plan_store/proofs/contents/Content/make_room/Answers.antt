@@ -1,0 +1,24 @@
+use Rattle.std.proofs.Common.{◌∙◌}
+use Rattle.plan_store.proofs.contents.Content.make_room.Goals as goal
+
+-- the pairs are taken out, and there is room for all that the change puts
+pub returns-in-Ok-clause-taken : goal.returns-in-Ok-clause-taken
+returns-in-Ok-clause-taken c =
+    let has = c.in_ok-reserve.ensures.room in (
+      c.reserve_for.ensures.same ∙ c.into_blocks-pairs.ensures.all ∙ c.replace.ensures.value
+          ∙ c.reserve.ensures.same.pairs ∙ c.note.ensures.same.pairs,
+      record {
+        rows = record {
+          ltp = has.ltp;
+          cp = has.cp;
+          history = has.history;
+          deletions = has.deletions;
+          jobs = has.jobs;
+          ltp_seats = has.ltp_seats;
+          cp_seats = has.cp_seats;
+          history_seats = has.history_seats;
+          deletion_seats = has.deletion_seats;
+        };
+        pairs = rw c.as_slice.ensures.all at c.in-Ok.ensures.room;
+      },
+    )
