@@ -1,6 +1,6 @@
 //! The examples of the libraries of plans in files. `lib.rt` and the `README.md` of each have the lines between the two
-//! marks. `tools/gate/examples` compiles and runs this file as a module of `test_adoption`, without a proof: a proof
-//! of these takes many minutes.
+//! marks. `tools/gate/examples` compiles and runs this file, without a proof: a proof of these
+//! takes many minutes.
 ghost use Rattle.std.specs.Prelude.{◌≡◌, ⊤, false, IfOk};
 
 use crate::plans::{other, plan, settled};

@@ -1,6 +1,6 @@
 //! The examples of the store in memory, of the decisions over it, and of a run. `lib.rt` and the `README.md` of each
-//! library have the lines between the two marks. `tools/gate/examples` compiles and runs this file as a module of
-//! `test_planner`, without a proof: a proof of these takes many minutes.
+//! library have the lines between the two marks. `tools/gate/examples` compiles and runs this file, without
+//! a proof: a proof of these takes many minutes.
 use crate::windows::planned;
 use daily_planning::extend;
 use long_term_plan::create;
