@@ -1,15 +1,13 @@
 -- What one statement does to its table, wherever the table stands.
-use Rattle.std.proofs.Common.{◌≡◌, ◌≢◌, ◌==◌, ◌&&◌, ◌/◌, ◌∙◌, ℕ, Bool, true, false, not, cond, List, [], ◌∷◌, ◌++◌, append-nil, length, map, filter, Option, Some, None, Ok, IsTrue, refl, ap, subst, arith}
+use Rattle.std.proofs.Common.{◌≡◌, ◌≢◌, ◌==◌, ◌&&◌, ◌∙◌, ℕ, Bool, true, false, not, cond, List, [], ◌∷◌, length, map, filter, Option, Some, None, Ok, refl, ap, subst, arith}
 use Rattle.std.specs.List.{AllByRecursion, flat_map, filter_map}
 use Rattle.std.specs.List.Sorted.{IsPermutation}
 use Rattle.std.proofs.lemmas.Bool.Decides.{nat_tests}
 use Rattle.sqlite.specs.Order.{Row}
-use Rattle.sqlite.specs.Term.{col}
-use Rattle.sqlite.specs.Tree.{Trees, put_row, rowid}
-use Rattle.sqlite.specs.View.{is_int}
+use Rattle.sqlite.specs.Term.{Term, col}
+use Rattle.sqlite.specs.Tree.{Trees, rowid}
 use Rattle.sqlite.specs.Source.TheVariants.{Values}
 use Rattle.sqlite.specs.Command.TheVariants.{Insert, Delete}
-use Rattle.sqlite.specs.Effect.{value_rows}
 use Rattle.sqlite.specs.Listing.{understood}
 use Rattle.sqlite.specs.Program.{overlay}
 use Rattle.sqlite.specs.Query.{IsAnswer}
@@ -21,8 +19,7 @@ use Rattle.sqlite_rules.proofs.PlaceLemmas.{named_parent}
 use Rattle.sqlite_rules.proofs.RuleLemmas.{same_table}
 use Rattle.sqlite_rules.specs.Action.{Writes, deed_for, pairs, work_by, work_for, works}
 use Rattle.sqlite_rules.specs.Calls.{ids_of}
-use Rattle.sqlite_rules.specs.Cast.{cast_row}
-use Rattle.sqlite_rules.specs.Edit.{Applies, edit_of, is_taken, taken_by, with_rowid}
+use Rattle.sqlite_rules.specs.Edit.{Applies, edit_of, taken_by}
 use Rattle.sqlite_rules.specs.Lists.{Has}
 use Rattle.sqlite_rules.specs.declared.action.Deed.{Deed}
 use Rattle.sqlite_schema.specs.Names.{same_name}
@@ -33,16 +30,16 @@ use Rattle.sqlite_schema.specs.declared.schema.Reference.{Reference}
 use Rattle.sqlite_schema.specs.declared.schema.Schema.{Schema}
 use Rattle.sqlite_schema.specs.declared.schema.Table.{Table as Described}
 use Rattle.sqlite_trees.specs.Tree.{IsAscending}
-use Rattle.plan_tables_schema.proofs.RowLemmas.{left_after, put_is_placed}
+use Rattle.plan_tables_schema.proofs.RowLemmas.{left_after}
+use Rattle.plan_tables_schema.proofs.SeveralLemmas.{PutsRows, placed_all, puts_are_placed}
 use Rattle.plan_tables_schema.proofs.Steps.{deletes, inserts, plain_query, plain_rows}
-use Rattle.plan_tables_schema.specs.Cells.{delete_tests, insert_terms, width}
-use Rattle.plan_tables_schema.specs.Rows.{AreOfKinds, HaveRowids, matches, placed, stored}
+use Rattle.plan_tables_schema.specs.Cells.{delete_tests, width}
+use Rattle.plan_tables_schema.specs.Rows.{AreOfKinds, HaveRowids, matches}
 use Rattle.plan_tables_schema.specs.Schema.{checks, columns, key, name, orders, primary, references, table_at, uniques}
-use Rattle.plan_tables_schema.specs.Texts.{delete_sql, insert_sql}
+use Rattle.plan_tables_schema.specs.Texts.{delete_sql}
 use Rattle.plan_tables_schema.specs.declared.tables.Table.{Table}
-use Rattle.plan_tables_schema.specs.declared.tables.Table.TheVariants.{Meta}
 use Rattle.plan_tables_schema.specs.Places.{TableIsAt, TreesDiffer}
-use Rattle.plan_tables_schema.proofs.TextMeanings.{delete_means, insert_means}
+use Rattle.plan_tables_schema.proofs.TextMeanings.{delete_means}
 
 -- ---- what a step sets off
 
@@ -101,54 +98,29 @@ module _ (schema : Schema) (table : Described) (has : Has schema.tables table) (
 
 -- ---- the effect
 
-one_fresh : (a : Bool) → (not a && true) ≡ true → a ≡ false
-one_fresh true h = cc
-one_fresh false h = refl
-
-one_int : (a : Bool) → (a && true) ≡ true → a ≡ true
-one_int true h = refl
-one_int false h = cc
-
 -- the rows of each other table stay
 abbrev pub KeepsOthers : Schema → ℕ → Trees → Trees → Type 0
 KeepsOthers schema tree old new = AllByRecursion (λ d. d.tree ≢ tree → new d.tree ≡ old d.tree) schema.tables
-
--- the row as it is stored is the one that is given
-pub given_rows : (t : Table) (cells : Row) → value_rows cells (width t) (length (insert_terms t) / width t)
-    (insert_terms t) ≡ stored t cells ∷ []
-given_rows Meta cells = refl
-given_rows t cells = refl
 
 module _ (schema : Schema) (at tree : ℕ) (t : Table) (it : TableIsAt schema (table_at tree t) at) where
   pub own : (db : Trees) → overlay db [] tree ≡ db tree
   own db = rw it.stored refl
 
-  pub puts_row : (cells : Row) (old new : State) (count : ℕ) → old.now.schema ≡ schema → AreOfKinds t cells
-      → Executes (insert_sql t) cells old new (Ok count)
-      → (new.now.schema ≡ schema)
-      × (new.now.trees tree ≡ placed (with_rowid Chosen (old.now.trees tree) (stored t cells)) (old.now.trees tree))
+  pub puts_rows : (sql : List ℕ) (terms : List Term) (given : ℕ) (values : Row) (rows : List Row)
+      → PutsRows t sql terms given values rows → (old new : State) (count : ℕ) → old.now.schema ≡ schema
+      → AllByRecursion (AreOfKinds t) rows → Executes sql values old new (Ok count)
+      → (new.now.schema ≡ schema) × (new.now.trees tree ≡ placed_all t rows (old.now.trees tree))
       × KeepsOthers schema tree old.now.trees new.now.trees
-      × IsTrue (is_int (rowid (with_rowid Chosen (old.now.trees tree) (stored t cells))))
-      × (is_taken (old.now.trees tree) (with_rowid Chosen (old.now.trees tree) (stored t cells)) ≡ false)
-  puts_row cells old new count has kinds h =
-      let means = insert_means schema at tree t it in
-      let text = statement_of (insert_sql t) (understood schema (insert_sql t)) in
-      let w = runs_as (insert_sql t) cells old new schema has (Insert at (Values (insert_terms t) (width t))) means.is means.plain count h in
+      × (HaveRowids (old.now.trees tree) → HaveRowids (placed_all t rows (old.now.trees tree)))
+  puts_rows sql terms given values rows puts old new count has kinds h =
+      let means = puts.means schema at tree it in
+      let text = statement_of sql (understood schema sql) in
+      let w = runs_as sql values old new schema has (Insert at (Values terms (width t))) means.is means.plain count h in
       let step = inserts schema at (name t) tree (columns t) (key t) (primary t) (uniques t) (orders t) (checks t) (references t) it.got
-      (none_taken schema Enforced 0 tree) old new (insert_terms t) (width t) cells text count has w in
-      let was = old.now.trees tree in
-      let row = with_rowid Chosen was (stored t cells) in
-      let given : value_rows (cells ++ []) (width t) (length (insert_terms t) / width t) (insert_terms t) ≡ stored t cells ∷ []
-      = ap (λ c. value_rows c (width t) (length (insert_terms t) / width t) (insert_terms t)) (append-nil cells) ∙ given_rows t cells in
-      let applies = subst (λ l. Applies schema Enforced old.now.trees (edit_of old.now.trees (table_at tree t) [] Chosen 0 l) new.now.trees) given step.1 in
-      let same : with_rowid Chosen was (cast_row (table_at tree t) (stored t cells)) ≡ row = ap (with_rowid Chosen was) kinds in
-      let fresh : is_taken was row ≡ false = subst (λ r. is_taken was r ≡ false) same (one_fresh _ applies.fresh) in (
-        step.0,
-        applies.rows ∙ ap (λ r. put_row r was) same ∙ put_is_placed row was fresh,
-        applies.tables,
-        subst (λ r. IsTrue (is_int (rowid r))) same (one_int _ applies.keyed),
-        fresh,
-      )
+      (none_taken schema Enforced 0 tree) old new terms (width t) values text count has w in
+      let applies = subst (λ l. Applies schema Enforced old.now.trees (edit_of old.now.trees (table_at tree t) [] Chosen 0 l) new.now.trees) puts.rows_are step.1 in
+      let put = puts_are_placed t rows (old.now.trees tree) kinds (applies.keyed, applies.fresh) in
+      (step.0, applies.rows ∙ put.0, applies.tables, put.1)
 
   -- the rows that have the key go, where what that sets off leaves it at one step
   pub takes_rows_by : (values : Row) (old new : State) (count : ℕ) → old.now.schema ≡ schema → HaveRowids (old.now.trees tree)

@@ -1,4 +1,4 @@
--- The values of a row fit the text of INSERT.
+-- The values of rows fit the text of INSERT.
 use Rattle.std.proofs.Common.{◌≡◌, zero, suc, Bool, true, false, not, T, cond, is_nan, List, [], ◌∷◌, drop}
 use Rattle.std.proofs.Common.{Some, None, is_some, refl}
 use Rattle.std.specs.List.{AllByRecursion, list_all}
@@ -12,22 +12,17 @@ use Rattle.sqlite_sql.specs.Ops.{is_null}
 use Rattle.sqlite_typing.specs.Types.{class_of, term_class}
 use Rattle.sqlite_typing.specs.Types as types
 use Rattle.sqlite_value.specs.Order.{column, number}
-use Rattle.plan_tables_schema.specs.Cells.{insert_terms}
+use Rattle.plan_tables_schema.specs.Rows.{stored}
 use Rattle.plan_tables_schema.specs.declared.tables.Table.{Table}
-use Rattle.plan_tables_schema.specs.declared.tables.Table.TheVariants.{Meta}
 
 -- no value of a row is a NaN, so each can be bound
 
-abbrev is_given : Term → Bool
+abbrev pub is_given : Term → Bool
 is_given (lit v) = true
 is_given (col zero at) = true
 is_given _ = false
 
-terms_given : (t : Table) → list_all is_given (insert_terms t) ≡ true
-terms_given Meta = refl
-terms_given t = refl
-
-abbrev IsBindable : Value → Type 0
+abbrev pub IsBindable : Value → Type 0
 IsBindable v = is_some (class_of v) ≡ true
 
 bindable : (v : Value) → NotNan (number v) → IsBindable v
@@ -52,7 +47,7 @@ all_bindable : (values : Row) → AllByRecursion (λ v. NotNan (number v)) value
 all_bindable [] all = tt
 all_bindable (v ∷ vs) all = (bindable v all.0, all_bindable vs all.1)
 
-accepted : (terms : List Term) (cells : Row) → list_all is_given terms ≡ true
+pub accepted : (terms : List Term) (cells : Row) → list_all is_given terms ≡ true
     → AllByRecursion IsBindable (eval_all terms (cells ∷ []))
     → list_all (λ t. is_some (term_class cells [] t)) terms ≡ true
 accepted [] cells given all = refl
@@ -75,8 +70,7 @@ as_given id (v ∷ vs) all = go (is_null v) refl all
     go false null all = all
 
 -- the values of a row that can be stored can be bound
-pub values_fit : (t : Table) (cells : Row) (id : Value) → AllByRecursion (λ v. NotNan (number v))
-    (cond (is_null (column (eval_all (insert_terms t) (cells ∷ [])) 0)) (id ∷ drop 1 (eval_all (insert_terms t)
-    (cells ∷ []))) (eval_all (insert_terms t) (cells ∷ []))) → types.accepts_terms (insert_terms t) cells ≡ true
-values_fit t cells id all = accepted (insert_terms t) cells (terms_given t) (as_given id (eval_all (insert_terms t)
-    (cells ∷ [])) (all_bindable _ all))
+pub can_be_bound : (t : Table) (cells : Row) (id : Value) → AllByRecursion (λ v. NotNan (number v))
+    (cond (is_null (column (stored t cells) 0)) (id ∷ drop 1 (stored t cells)) (stored t cells))
+    → AllByRecursion IsBindable (stored t cells)
+can_be_bound t cells id all = as_given id (stored t cells) (all_bindable _ all)

@@ -29,6 +29,7 @@ pub mod RowLemmas
 pub mod RowidQueries
 pub mod RunCycleLemmas
 pub mod SelectTexts
+pub mod SeveralLemmas
 pub mod ShownLemmas
 pub mod StatementLemmas
 pub mod Steps

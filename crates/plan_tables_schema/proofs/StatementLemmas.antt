@@ -1,5 +1,6 @@
 -- What one statement makes of a plan.
-use Rattle.std.proofs.Common.{◌≡◌, ◌≢◌, ◌==◌, ◌∙◌, ℕ, Bool, true, false, cond, IsTrue, List, [], ◌∷◌, map, filter, find, unwrap_or, not, Result, Ok, Err, inl, refl, sym, ap, subst, arith}
+use Rattle.std.proofs.Common.{◌≡◌, ◌≢◌, ◌==◌, ◌∙◌, ℕ, Bool, true, false, cond, List, [], ◌∷◌, map, filter, find, unwrap_or, not, Result, Ok, Err, inl, refl, sym, ap, subst, arith}
+use Rattle.std.specs.List.{AllByRecursion}
 use Rattle.std.specs.List.Sorted.{IsPermutation}
 use Rattle.std.specs.Prelude.{IfErr, IfOk}
 use Rattle.std.proofs.lemmas.Bool.Decides.{nat_tests}
@@ -11,39 +12,39 @@ use Rattle.sqlite.specs.Rowids.TheVariants.{Chosen}
 use Rattle.sqlite.specs.Source.TheVariants.{Values}
 use Rattle.sqlite.specs.State.{CommitsShowing, ExecutesInside, FailsToQuery, IsLive, IsUnchanged, Shown, State, Survives}
 use Rattle.sqlite.specs.Term.{Term, col, eval_all}
-use Rattle.sqlite.specs.Tree.{Trees, rowid}
-use Rattle.sqlite.specs.View.{is_int}
+use Rattle.sqlite.specs.Tree.{Trees}
 use Rattle.sqlite.specs.declared.error.Error.{Error}
 use Rattle.sqlite.proofs.Callers.{IsPlain, never_commits, runs_as}
 use Rattle.sqlite.proofs.StateLemmas.{survives_weaker}
 use Rattle.sqlite_keyed.proofs.ListLemmas.{all_of, filter_all}
 use Rattle.sqlite_rules.proofs.ListLemmas.{all_from, all_has, has_got}
 use Rattle.sqlite_rules.proofs.RuleLemmas.{same_table}
-use Rattle.sqlite_rules.specs.Edit.{is_taken, with_rowid}
+use Rattle.sqlite_rules.specs.Edit.{with_rowid}
 use Rattle.sqlite_rules.specs.Lists.{Has}
 use Rattle.sqlite_schema.specs.Names.{same_name}
 use Rattle.sqlite_schema.specs.declared.schema.Schema.{Schema}
 use Rattle.sqlite_schema.specs.declared.schema.Table.{Table as Described}
 use Rattle.sqlite_trees.specs.Objects.{catalog_tree}
 use Rattle.sqlite_trees.specs.Tree.{IsAscending}
-use Rattle.plan_tables_schema.specs.Cells.{column_names, delete_tests, insert_terms, select_terms, width}
+use Rattle.plan_tables_schema.specs.Cells.{column_names, delete_tests, select_terms, width}
 use Rattle.plan_tables_schema.specs.Places.{TableIsAt, TreesDiffer, tree_named}
 use Rattle.plan_tables_schema.specs.Rows.{AreOfKinds, HaveRowids, IsAlone, IsPlan, KeepsBeside, MayFail, Stands, StaysOrIsUndone, Tables, matches, placed}
-use Rattle.plan_tables_schema.specs.Rows.{shown, stored, tables_of, with_cells, with_rows, without_key}
+use Rattle.plan_tables_schema.specs.Rows.{shown, stored, tables_of, with_cells, with_rows, with_several, without_key}
 use Rattle.plan_tables_schema.specs.Schema.{HasTables, RefersAside, all_tables, name, place, table_at}
-use Rattle.plan_tables_schema.specs.Texts.{delete_sql, insert_sql, select_sql}
+use Rattle.plan_tables_schema.specs.Texts.{delete_sql, select_sql}
 use Rattle.plan_tables_schema.specs.declared.tables.Table.{Table}
 use Rattle.plan_tables_schema.specs.declared.tables.Table.TheVariants.{Meta}
 use Rattle.plan_tables_schema.specs.declared.tables.Table.TheVariants.{Offset}
-use Rattle.plan_tables_schema.proofs.EffectLemmas.{KeepsOthers, puts_row}
+use Rattle.plan_tables_schema.proofs.EffectLemmas.{KeepsOthers, puts_rows}
 use Rattle.plan_tables_schema.proofs.NamedLemmas.{rows_are, tells}
 use Rattle.plan_tables_schema.proofs.PlanLemmas.{accepts}
 use Rattle.plan_tables_schema.proofs.QueryMeanings.{ShowsRows}
-use Rattle.plan_tables_schema.proofs.RowLemmas.{rowids_filter, rowids_placed}
+use Rattle.plan_tables_schema.proofs.RowLemmas.{rowids_filter}
 use Rattle.plan_tables_schema.proofs.SelectTexts.{selects}
+use Rattle.plan_tables_schema.proofs.SeveralLemmas.{PutsRows, placed_all}
 use Rattle.plan_tables_schema.proofs.ShownLemmas as caller
 use Rattle.plan_tables_schema.proofs.Steps.{plain_query}
-use Rattle.plan_tables_schema.proofs.TextMeanings.{delete_means, insert_means}
+use Rattle.plan_tables_schema.proofs.TextMeanings.{delete_means}
 
 -- ---- the tables are told apart by their names, and by their numbers
 
@@ -62,6 +63,9 @@ own_place : (t : Table) → by_place (place t) ≡ t
 unfolding by_place
 own_place Meta = refl
 own_place t = refl
+
+same_place : (u t : Table) → place u ≡ place t → u ≡ t
+same_place u t same = sym (own_place u) ∙ ap by_place same ∙ own_place t
 
 -- the tables stand in a schema that is the same
 abbrev pub moved : (a b : Schema) → a ≡ b → HasTables a → HasTables b
@@ -92,7 +96,7 @@ module _ (schema : Schema) (has : HasTables schema) where
       sym (own_name u) ∙ ap (λ (d : Described). by_name d.name) one ∙ own_name t
 
   -- one table has these rows, and the others those that they had
-  same_rows : (t : Table) (rows : List Row) (old new : Trees) → new (has.trees t) ≡ rows
+  pub same_rows : (t : Table) (rows : List Row) (old new : Trees) → new (has.trees t) ≡ rows
       → KeepsOthers schema (has.trees t) old new
       → ◌≡◌ {A = Tables} (λ u. new (has.trees u)) (with_rows t rows (λ u. old (has.trees u)))
   same_rows t rows old new here others = λ i u. go u (place u == place t) refl i
@@ -100,8 +104,7 @@ module _ (schema : Schema) (has : HasTables schema) where
       go : (u : Table) (b : Bool) → (place u == place t) ≡ b → new (has.trees u) ≡ cond b rows (old (has.trees u))
       go u true e =
           let same : place u ≡ place t = grind (arith, nat_tests) in
-          let one : u ≡ t = sym (own_place u) ∙ ap by_place same ∙ own_place t in
-          ap (λ v. new (has.trees v)) one ∙ here
+          ap (λ v. new (has.trees v)) (same_place u t same) ∙ here
       go u false e = all_has (λ (d : Described). d.tree ≢ has.trees t → new d.tree ≡ old d.tree) schema.tables (table_at
           (has.trees u) u) others (known u) (λ same. let number = ap place (trees_tell u t same) in
           absurd (grind (arith, nat_tests, number)))
@@ -149,35 +152,68 @@ keeps_beside t old new plan others = all_from (λ (d : Described). ((u : Table) 
 
 -- ---- INSERT
 
-module _ (t : Table) (cells : Row) (old new : State) (count : ℕ) (plan : IsPlan old) (kinds : AreOfKinds t cells)
-    (h : ExecutesInside 0 (insert_sql t) cells old new (Ok count)) where
+-- rows that are placed one after another are those of the tables to which they are added one after another
+several_placed : (t : Table) (rows : List Row) (all : Tables)
+    → with_rows t (placed_all t rows (all t)) all ≡ with_several t rows all
+several_placed t [] all = λ i u. go u (place u == place t) refl i
+  where
+    go : (u : Table) (b : Bool) → (place u == place t) ≡ b → cond b (all t) (all u) ≡ all u
+    go u true e = ap all (sym (same_place u t (grind (arith, nat_tests))))
+    go u false e = refl
+several_placed t (cells ∷ more) all = (λ i u. twice (place u == place t) (all u) i)
+    ∙ ap (λ was. with_rows t (placed_all t more was) next) (sym here) ∙ several_placed t more next
+  where
+    next : Tables
+    next = with_cells t cells all
+
+    row_placed : List Row
+    row_placed = placed (with_rowid Chosen (all t) (stored t cells)) (all t)
+
+    own : (place t == place t) ≡ true
+    own = grind (arith, nat_tests)
+
+    here : cond (place t == place t) row_placed (all t) ≡ row_placed
+    here = ap (λ b. cond b row_placed (all t)) own
+
+    twice : (b : Bool) (others : List Row) → cond b (placed_all t more row_placed) others
+        ≡ cond b (placed_all t more row_placed) (cond b row_placed others)
+    twice true others = refl
+    twice false others = refl
+
+module _ (t : Table) (sql : List ℕ) (terms : List Term) (given : ℕ) (values : Row) (rows : List Row)
+    (puts : PutsRows t sql terms given values rows) (old new : State) (count : ℕ) (plan : IsPlan old)
+    (kinds : AllByRecursion (AreOfKinds t) rows) (h : ExecutesInside 0 sql values old new (Ok count)) where
+  put_effect : (new.now.schema ≡ old.now.schema)
+      × (new.now.trees (plan.schema.trees t) ≡ placed_all t rows (tables_of old.now.trees t))
+      × KeepsOthers old.now.schema (plan.schema.trees t) old.now.trees new.now.trees
+      × HaveRowids (placed_all t rows (tables_of old.now.trees t))
+  put_effect =
+      let has = plan.schema in
+      let step = puts_rows old.now.schema (has.at t) (has.trees t) t (has.stands t) sql terms given values rows puts old
+      new count refl kinds h.0 in
+      let is = subst (λ was. (new.now.trees (has.trees t) ≡ placed_all t rows was)
+      × (HaveRowids was → HaveRowids (placed_all t rows was))) (sym (ap old.now.trees (plan.told t))) (step.1, step.3) in
+      (step.0, is.0, step.2, is.1 (plan.rowids t))
+
   pub put_soundly : (new.now.schema ≡ old.now.schema) × IsDatabase new.now
   put_soundly =
       let has = plan.schema in
-      let means = insert_means old.now.schema (has.at t) (has.trees t) t (has.stands t) in
-      let w = runs_as (insert_sql t) cells old new old.now.schema refl (Insert (has.at t) (Values (insert_terms t)
-      (width t))) means.is means.plain count h.0 in
-      ((puts_row old.now.schema (has.at t) (has.trees t) t (has.stands t) cells old new count refl kinds h.0).0, w.sound)
+      let means = puts.means old.now.schema (has.at t) (has.trees t) (has.stands t) in
+      let w = runs_as sql values old new old.now.schema refl (Insert (has.at t) (Values terms (width t))) means.is
+      means.plain count h.0 in
+      (put_effect.0, w.sound)
 
-  pub inserted : Stands old new (with_cells t cells (tables_of old.now.trees))
+  pub inserted : Stands old new (with_several t rows (tables_of old.now.trees))
   inserted =
-      let has = plan.schema in
-      let step = puts_row old.now.schema (has.at t) (has.trees t) t (has.stands t) cells old new count refl kinds h.0 in
-      let was = tables_of old.now.trees t in
-      let row = with_rowid Chosen was (stored t cells) in
-      let is = subst (λ rows. (new.now.trees (has.trees t) ≡ placed (with_rowid Chosen rows (stored t cells)) rows)
-      × IsTrue (is_int (rowid (with_rowid Chosen rows (stored t cells))))
-      × (is_taken rows (with_rowid Chosen rows (stored t cells)) ≡ false)) (sym (ap old.now.trees (plan.told t)))
-      (step.1, step.3, step.4) in
-      let after = plan_after t (placed row was) old new plan step.0 put_soundly.1 is.0 step.2
-      (rowids_placed row was is.1 is.2 (plan.rowids t)) in
+      let after = plan_after t (placed_all t rows (tables_of old.now.trees t)) old new plan put_effect.0 put_soundly.1 put_effect.1
+      put_effect.2 put_effect.3 in
       record {
         plan = after.0;
-        schema = step.0;
+        schema = put_effect.0;
         same = after.2;
-        others = keeps_beside t old new plan step.2;
+        others = keeps_beside t old new plan put_effect.2;
         obeys = λ _. put_soundly.1;
-        rows_are = after.1;
+        rows_are = after.1 ∙ several_placed t rows (tables_of old.now.trees);
         committed = h.1.committed_is;
         mode = h.1.mode;
       }

@@ -1,10 +1,10 @@
--- A row that the table takes is put in, but for the common causes of a failure.
+-- Rows that the table takes are put in, but for the common causes of a failure.
 use Rattle.std.proofs.Common.{◌≡◌, ◌≢◌, ◌⊎◌, ◌&&◌, ◌||◌, ◌++◌, ◌/◌, ◌∙◌, ℕ, zero, suc, Bool, true, false}
-use Rattle.std.proofs.Common.{inl, inr, List, [], ◌∷◌, length, length-append, append-nil, Option, Some, None, IsSome, IsTrue}
+use Rattle.std.proofs.Common.{inl, inr, List, [], ◌∷◌, length, map, nat_lt, length-append, append-nil, Option, Some, None, IsSome, IsTrue}
 use Rattle.std.proofs.Common.{Ok, Err, refl, sym, ap, subst, arith, true≢false, cond, ◌==◌}
 use Rattle.std.proofs.lemmas.Bool.Decides.{nat_tests}
 use Rattle.std.specs.Ordering.{is_ne}
-use Rattle.std.specs.List.{AllByRecursion, list_all, list_any}
+use Rattle.std.specs.List.{AllByRecursion, flat_map, list_all, list_any}
 use Rattle.std.proofs.lemmas.Bool.{and_from, and_parts, both_ways, cases_eq, eqb-true, false_from_ne_true, not_from_false}
 use Rattle.std.proofs.lemmas.Bool.{or_cases, or_left, or_right}
 use Rattle.std.proofs.lemmas.Cmp.{tied_itself}
@@ -16,6 +16,7 @@ use Rattle.sqlite.specs.Effect.{IsDatabase, value_rows}
 use Rattle.sqlite.specs.Edit.{Applies, Edit, edit_of}
 use Rattle.sqlite.specs.Listing.{understood}
 use Rattle.sqlite.specs.Order.{Row}
+use Rattle.sqlite.specs.Term.{Term}
 use Rattle.sqlite.specs.Rowids.TheVariants.{Chosen}
 use Rattle.sqlite.specs.Rows.{Inserts, Task, Written}
 use Rattle.sqlite.specs.Schema.{Schema}
@@ -30,15 +31,16 @@ use Rattle.sqlite.specs.declared.run.Mode.{Mode}
 use Rattle.sqlite.specs.declared.types.Value.{Value}
 use Rattle.sqlite.specs.declared.types.Value.TheVariants.{Int}
 use Rattle.sqlite.proofs.Callers.{one_step, statement_of}
-use Rattle.sqlite_rules.proofs.ListLemmas.{all_has, some_from, some_has}
+use Rattle.sqlite_keyed.proofs.ListLemmas.{all-append, test_from_all}
+use Rattle.sqlite_rules.proofs.ListLemmas.{all_from, all_has, some_from, some_has}
 use Rattle.sqlite_rules.proofs.RuleLemmas.{refers_at}
 use Rattle.sqlite_rules.proofs.TableLemmas.{put_all_keeps, put_has}
 use Rattle.sqlite_rules.specs.Action.{Leads, Settles, Writes, works}
-use Rattle.sqlite_rules.specs.Edit.{IsOversized, IsRefused, are_fresh, edited, id_in, next_rowid, put_all, with_rowid}
+use Rattle.sqlite_rules.specs.Edit.{IsOversized, IsRefused, are_fresh, edited, id_in, next_rowid, numbered, put_all, with_rowid}
 use Rattle.sqlite_rules.specs.Lists.{Has}
 use Rattle.sqlite_rules.specs.declared.error.Refusal.{Refusal}
 use Rattle.sqlite_rules.specs.declared.error.Refusal.TheVariants.{Violates, Mismatch, NoRowid, BadReference, TooDeep}
-use Rattle.sqlite_schema.specs.Rules.{Keeps, Refers, agree, clashes, differ, guards, has_null, has_parent, index_reals, is_held, parent_key, passes, table_reals}
+use Rattle.sqlite_schema.specs.Rules.{Keeps, Refers, agree, clashes, differ, guards, has_null, has_parent, index_reals, is_held, parent_key, passes, references_fit, table_reals}
 use Rattle.sqlite_schema.specs.declared.schema.Among.TheVariants.{All as Whole}
 use Rattle.sqlite_schema.specs.declared.schema.Constraint.TheVariants.{Datatype, NotNull, Check, PrimaryKey, Unique, ForeignKey}
 use Rattle.sqlite_schema.specs.declared.schema.Index.{Index}
@@ -47,14 +49,13 @@ use Rattle.sqlite_sql.specs.Catalog.{entry_of}
 use Rattle.sqlite_typing.specs.Types.{accepts_terms}
 use Rattle.sqlite_sql.specs.Ops.{binary, fits_i64, is_null}
 use Rattle.sqlite_trees.specs.Tree.{with_tree}
-use Rattle.sqlite_trees.specs.View.{IsStorable, IsStorableRow, is_int}
+use Rattle.sqlite_trees.specs.View.{IsStorable, is_int}
 use Rattle.sqlite_value.proofs.OrderLemmas.{value_cmp_total}
 use Rattle.sqlite_value.specs.Keys.{plain}
 use Rattle.sqlite_value.specs.Order.{value_cmp}
-use Rattle.plan_tables_schema.specs.Cells.{insert_terms, width}
-use Rattle.plan_tables_schema.specs.Rows.{MayFail, Stands, Tables, stored, tables_of, with_cells}
-use Rattle.plan_tables_schema.specs.Accepted.{HasNone, IsSoundPlan, AcceptsRow, new_row}
-use Rattle.plan_tables_schema.specs.Texts.{insert_sql}
+use Rattle.plan_tables_schema.specs.Cells.{width}
+use Rattle.plan_tables_schema.specs.Rows.{AreOfKinds, MayFail, Stands, Tables, stored, tables_of, with_cells, with_several}
+use Rattle.plan_tables_schema.specs.Accepted.{AcceptsInTurn, AcceptsRow, HasNone, IsSoundPlan, new_row}
 use Rattle.plan_tables_schema.specs.declared.tables.Table.{Table}
 use Rattle.plan_tables_schema.specs.declared.tables.Table.TheVariants.{RunCycle}
 use Rattle.plan_tables_schema.specs.declared.tables.Table.TheVariants.{Offset}
@@ -68,12 +69,13 @@ use Rattle.sqlite_rules.proofs.RuleLemmas.{same_table}
 use Rattle.sqlite_value.specs.Keys.{joined}
 use Rattle.plan_tables_schema.specs.Schema.{HasOnlyKeyIndexes, HasTables, IsKeyIndex, references, table_at, to_run_cycle}
 use Rattle.plan_tables_schema.proofs.CycleLemmas.{name_order}
-use Rattle.plan_tables_schema.proofs.FitLemmas.{values_fit}
+use Rattle.plan_tables_schema.proofs.FitLemmas.{IsBindable, accepted, can_be_bound}
 use Rattle.plan_tables_schema.proofs.MeaningLemmas.{IsWhole}
-use Rattle.plan_tables_schema.proofs.TextMeanings.{insert_means}
-use Rattle.plan_tables_schema.proofs.EffectLemmas.{given_rows, none_taken}
+use Rattle.plan_tables_schema.proofs.RowLemmas.{put_is_placed}
+use Rattle.plan_tables_schema.proofs.SeveralLemmas.{PutsRows, sources}
+use Rattle.plan_tables_schema.proofs.EffectLemmas.{none_taken}
 use Rattle.plan_tables_schema.proofs.NamedLemmas.{rows_are}
-use Rattle.plan_tables_schema.proofs.StatementLemmas.{inserted, put_soundly}
+use Rattle.plan_tables_schema.proofs.StatementLemmas.{inserted, put_soundly, same_rows}
 use Rattle.plan_tables_schema.proofs.PlanLemmas.{offsets_refer}
 use Rattle.plan_tables_schema.proofs.RunCycleLemmas.{key_is}
 use Rattle.plan_tables_schema.proofs.StillLemmas.{is_listed, refers_still, unique_still}
@@ -102,6 +104,9 @@ pub in_plain_order : name_order ≡ plain
 unfolding joined
 in_plain_order = refl
 
+parent_is : (schema : Schema) (it : HasTables schema) → parent_key schema.tables to_run_cycle ≡ Some (it.trees RunCycle, 1 ∷ 2 ∷ [], plain)
+parent_is schema it = key_is schema (it.at RunCycle) (it.trees RunCycle) (it.trees Offset) (it.stands RunCycle) (is_listed schema it RunCycle) it.apart (offsets_refer schema it) ∙ ap (λ o. Some (it.trees RunCycle, 1 ∷ 2 ∷ [], o)) in_plain_order
+
 module _ (schema : Schema) (it : HasTables schema) (own : AllByRecursion (IsKeyIndex it.trees) schema.indexes) (t : Table) (cells : Row)
     (db : Trees) (accepts : AcceptsRow t cells (λ u. db (it.trees u))) where
   abbrev was : List Row
@@ -110,24 +115,8 @@ module _ (schema : Schema) (it : HasTables schema) (own : AllByRecursion (IsKeyI
   abbrev row : Row
   row = new_row t cells (λ u. db (it.trees u))
 
-  abbrev edit : Edit
-  edit = edit_of db (table_at (it.trees t) t) [] Chosen 0 (stored t cells ∷ [])
-
-  news_are : edit.news ≡ row ∷ []
-  news_are = ap (λ r. with_rowid Chosen was r ∷ []) accepts.kinds
-
-  adds_fit : is_key_of schema to_run_cycle ≡ true → (u : Table) → list_all (is_key_of schema) (references u) ≡ true
-  adds_fit keyed Offset = and_from _ _ keyed refl
-  adds_fit keyed t = refl
-
-  all_pass : (p : Row → Bool) → p row ≡ true → list_all p edit.news ≡ true
-  all_pass p h = subst (λ news. list_all p news ≡ true) (sym news_are) (and_from _ _ h refl)
-
   is_fresh : are_fresh was (row ∷ []) ≡ true
   is_fresh = and_from _ _ (not_from_false _ accepts.fresh) refl
-
-  edited_is : edited db edit ≡ put_row row was
-  edited_is = ap (λ news. put_all was news) news_are
 
   none_agrees : (i : Index) → Has schema.indexes i → i.table ≡ it.trees t → (other : Row) → Has was other
       → agree i.order i.columns other i.columns row ≡ false
@@ -135,9 +124,6 @@ module _ (schema : Schema) (it : HasTables schema) (own : AllByRecursion (IsKeyI
       let key = all_has (IsKeyIndex it.trees) schema.indexes i own listed t there in
       subst (λ o. agree o i.columns other i.columns row ≡ false) (sym key.1) (all_has (λ other. agree plain i.columns
       other i.columns row ≡ false) was other (subst (AllByRecursion (HasNone was row)) key.0 accepts.unique).0 has)
-
-  parent_is : parent_key schema.tables to_run_cycle ≡ Some (it.trees RunCycle, 1 ∷ 2 ∷ [], plain)
-  parent_is = key_is schema (it.at RunCycle) (it.trees RunCycle) (it.trees Offset) (it.stands RunCycle) (is_listed schema it RunCycle) it.apart (offsets_refer schema it) ∙ ap (λ o. Some (it.trees RunCycle, 1 ∷ 2 ∷ [], o)) in_plain_order
 
   tree_tells : it.trees Offset ≡ it.trees t → table_at (it.trees Offset) Offset ≡ table_at (it.trees t) t
   tree_tells same = same_table schema.tables _ _ it.apart (is_listed schema it Offset) (is_listed schema it t) same
@@ -181,7 +167,7 @@ module _ (schema : Schema) (it : HasTables schema) (own : AllByRecursion (IsKeyI
     held : (r p : Row) → Has (db (it.trees RunCycle)) p → agree plain (1 ∷ 2 ∷ []) p (1 ∷ 2 ∷ []) r ≡ true
         → has_parent schema.tables next r to_run_cycle ≡ true
     held r p has agrees = or_right (has_null (1 ∷ 2 ∷ []) r) (is_held next (1 ∷ 2 ∷ []) r (parent_key schema.tables
-        to_run_cycle)) (rw parent_is (some_from (λ p. agree plain (1 ∷ 2 ∷ []) p (1 ∷ 2 ∷ []) r)
+        to_run_cycle)) (rw (parent_is schema it) (some_from (λ p. agree plain (1 ∷ 2 ∷ []) p (1 ∷ 2 ∷ []) r)
         (next (it.trees RunCycle)) p (kept_parent p has) agrees))
 
     old_parent : Refers Whole schema db → (r : Row) → Has (db (it.trees Offset)) r
@@ -192,7 +178,7 @@ module _ (schema : Schema) (it : HasTables schema) (own : AllByRecursion (IsKeyI
           | inl null ↦ or_left (has_null (1 ∷ 2 ∷ []) r) (is_held next (1 ∷ 2 ∷ []) r (parent_key schema.tables
               to_run_cycle)) null
           | inr in_db ↦
-              let parent = some_has (λ p. agree plain (1 ∷ 2 ∷ []) p (1 ∷ 2 ∷ []) r) (db (it.trees RunCycle)) (rw parent_is at in_db) in
+              let parent = some_has (λ p. agree plain (1 ∷ 2 ∷ []) p (1 ∷ 2 ∷ []) r) (db (it.trees RunCycle)) (rw (parent_is schema it) at in_db) in
               held r parent.0 parent.1 parent.2
         ]
 
@@ -219,43 +205,166 @@ module _ (schema : Schema) (it : HasTables schema) (own : AllByRecursion (IsKeyI
               other) has)
         ])
 
-  -- ---- it is not refused
+-- ---- rows that are accepted in turn
 
-  abbrev with_row : Trees
-  with_row = with_tree db (it.trees t) (edited db edit)
+module _ (schema : Schema) (it : HasTables schema) (own : AllByRecursion (IsKeyIndex it.trees) schema.indexes) (t : Table) where
+  abbrev Taken : List Row → Trees → Type 0
+  Taken rows db = AcceptsInTurn t rows (λ u. db (it.trees u))
+
+  abbrev first_row : Row → Trees → Row
+  first_row cells db = new_row t cells (λ u. db (it.trees u))
+
+  -- with the row of these values
+  abbrev after : Row → Trees → Trees
+  after cells db = with_tree db (it.trees t) (put_row (first_row cells db) (db (it.trees t)))
+
+  here_after : (cells : Row) (db : Trees) → after cells db (it.trees t) ≡ put_row (first_row cells db) (db (it.trees t))
+  here_after cells db = at_own db (it.trees t) _
+
+  others_after : (cells : Row) (db : Trees) (d : Described) → Has schema.tables d → d.tree ≢ it.trees t
+      → after cells db d.tree ≡ db d.tree
+  others_after cells db d listed other = at_other db d.tree (it.trees t) _ other
+
+  next_taken : (cells : Row) (more : List Row) (db : Trees) → Taken (cells ∷ more) db → Taken more (after cells db)
+  next_taken cells more db h = subst (AcceptsInTurn t more) (sym (same_rows schema it t _ db (after cells db)
+      (here_after cells db ∙ put_is_placed (first_row cells db) (db (it.trees t)) h.0.fresh)
+      (all_from (λ (d : Described). d.tree ≢ it.trees t → after cells db d.tree ≡ db d.tree) schema.tables
+      (others_after cells db)))) h.1
+
+  abbrev news : List Row → Trees → List Row
+  news [] db = []
+  news (cells ∷ more) db = first_row cells db ∷ news more (after cells db)
+
+  news_are : (rows : List Row) (db : Trees) → Taken rows db
+      → numbered Chosen (db (it.trees t)) (sources t rows) ≡ news rows db
+  news_are [] db h = refl
+  news_are (cells ∷ more) db h =
+      ap (λ s. with_rowid Chosen (db (it.trees t)) s ∷ numbered Chosen (put_row (with_rowid Chosen (db (it.trees t)) s)
+      (db (it.trees t))) (sources t more)) h.0.kinds ∙ ap (λ l. first_row cells db ∷ l)
+      (ap (λ was. numbered Chosen was (sources t more)) (sym (here_after cells db))
+      ∙ news_are more (after cells db) (next_taken cells more db h))
+
+  -- what holds of a row that is accepted holds of each
+  each_new : (P : Row → Type 0) → ((cells : Row) (db : Trees) → AcceptsRow t cells (λ u. db (it.trees u)) → P (first_row cells db))
+      → (rows : List Row) (db : Trees) → Taken rows db → AllByRecursion P (news rows db)
+  each_new P holds [] db h = tt
+  each_new P holds (cells ∷ more) db h =
+      (holds cells db h.0, each_new P holds more (after cells db) (next_taken cells more db h))
+
+  all_fresh : (rows : List Row) (db : Trees) → Taken rows db → are_fresh (db (it.trees t)) (news rows db) ≡ true
+  all_fresh [] db h = refl
+  all_fresh (cells ∷ more) db h = and_from _ _ (not_from_false _ h.0.fresh)
+      (subst (λ was. are_fresh was (news more (after cells db)) ≡ true) (here_after cells db)
+      (all_fresh more (after cells db) (next_taken cells more db h)))
+
+  all_bound : (rows : List Row) (db : Trees) → Taken rows db → AllByRecursion IsBindable (flat_map (stored t) rows)
+  all_bound [] db h = tt
+  all_bound (cells ∷ more) db h = all-append IsBindable (stored t cells) (flat_map (stored t) more)
+      (can_be_bound t cells (Int (next_rowid (db (it.trees t)))) (recursion_from_All _ (first_row cells db)
+      h.0.storable.0.numbers)) (all_bound more (after cells db) (next_taken cells more db h))
+
+  -- with all of them
+  abbrev HasAll : List Row → (db next : Trees) → Type 0
+  HasAll rows db next = (next (it.trees t) ≡ put_all (db (it.trees t)) (news rows db))
+      × ((d : Described) → Has schema.tables d → d.tree ≢ it.trees t → next d.tree ≡ db d.tree)
+
+  then_more : (cells : Row) (more : List Row) (db next : Trees) → HasAll (cells ∷ more) db next
+      → HasAll more (after cells db) next
+  then_more cells more db next has = (
+    has.0 ∙ ap (λ was. put_all was (news more (after cells db))) (sym (here_after cells db)),
+    λ d listed other. has.1 d listed other ∙ sym (others_after cells db d listed other),
+  )
+
+  unique_with : (rows : List Row) (db next : Trees) → Taken rows db → HasAll rows db next → Keeps Unique schema db
+      → Keeps Unique schema next
+  unique_with [] db next h has keeps = unique_still schema (table_at (it.trees t) t) (is_listed schema it t) it.apart db next [] has.1
+      (λ r there. inr (subst (λ rows. Has rows r) has.0 there)) (λ i listed on r none. absurd none) keeps
+  unique_with (cells ∷ more) db next h has keeps = unique_with more (after cells db) next (next_taken cells more db h)
+      (then_more cells more db next has)
+      (unique_after schema it own t cells db h.0 (after cells db) (here_after cells db) (others_after cells db) keeps)
+
+  all_same : (db next : Trees) → HasAll [] db next → (u : Table) → next (it.trees u) ≡ db (it.trees u)
+  all_same db next has u = elim (cases_eq (it.trees u) (it.trees t)) [
+    | inl same ↦ ap next same ∙ has.0 ∙ sym (ap db same)
+    | inr other ↦ has.1 (table_at (it.trees u) u) (is_listed schema it u) other
+  ]
+
+  refers_with : (rows : List Row) (db next : Trees) → Taken rows db → HasAll rows db next → Refers Whole schema db
+      → Refers Whole schema next
+  refers_with [] db next h has refers = refers_still schema it t db next [] has.1
+      (λ r there. inr (subst (λ rows. Has rows r) has.0 there)) refers (λ r there.
+      let was = refers_at Whole schema db (table_at (it.trees Offset) Offset) r to_run_cycle refers
+      (is_listed schema it Offset) (subst (λ rows. Has rows r) (all_same db next has Offset) there) (inl refl) refl in
+      rw (parent_is schema it, all_same db next has RunCycle) (rw (parent_is schema it) at was))
+  refers_with (cells ∷ more) db next h has refers = refers_with more (after cells db) next (next_taken cells more db h)
+      (then_more cells more db next has)
+      (refers_after schema it own t cells db h.0 (after cells db) (here_after cells db) (others_after cells db) refers)
+
+-- ---- a statement that puts them in is not refused
+
+adds_fit : (schema : Schema) → is_key_of schema to_run_cycle ≡ true → (u : Table) → list_all (is_key_of schema) (references u) ≡ true
+adds_fit schema keyed Offset = and_from _ _ keyed refl
+adds_fit schema keyed t = refl
+
+module _ (schema : Schema) (it : HasTables schema) (own : AllByRecursion (IsKeyIndex it.trees) schema.indexes) (t : Table)
+    (sql : List ℕ) (terms : List Term) (size : ℕ) (values : Row) (rows : List Row)
+    (puts : PutsRows t sql terms size values rows) (db : Trees) (taken : AcceptsInTurn t rows (λ u. db (it.trees u))) where
+  abbrev edit : Edit
+  edit = edit_of db (table_at (it.trees t) t) [] Chosen 0 (map (stored t) rows)
+
+  news_of : edit.news ≡ news schema it own t rows db
+  news_of = news_are schema it own t rows db taken
+
+  all_pass : (p : Row → Bool) → ((cells : Row) (db : Trees) → AcceptsRow t cells (λ u. db (it.trees u))
+      → p (first_row schema it own t cells db) ≡ true) → list_all p edit.news ≡ true
+  all_pass p passes_one = subst (λ all. list_all p all ≡ true) (sym news_of)
+      (test_from_all p (news schema it own t rows db) (each_new schema it own t (λ r. p r ≡ true) passes_one rows db taken))
+
+  has_all : (next : Trees) → next (it.trees t) ≡ edited db edit
+      → ((d : Described) → Has schema.tables d → d.tree ≢ it.trees t → next d.tree ≡ db d.tree)
+      → HasAll schema it own t rows db next
+  has_all next here others = (here ∙ ap (put_all (db (it.trees t))) news_of, others)
 
   -- no two rows of a table have one key, and what the offsets refer to is one
   abbrev HasKeys : Type 0
   HasKeys = Keeps Unique schema db × (is_key_of schema to_run_cycle ≡ true)
 
+  referred : (b : Bool) → is_key_of schema to_run_cycle ≡ true → references_fit schema (table_at (it.trees t) t) b false ≡ true
+  referred true keyed = and_from _ _ (adds_fit schema keyed t) refl
+  referred false keyed = refl
+
   not_refused : HasKeys → (why : Refusal) → IsRefused schema Enforced db edit why → ⊥
-  not_refused keeps (Violates Datatype) h =
-      true≢false (sym (all_pass (passes Datatype schema db (table_at (it.trees t) t)) (and_from _ _ accepts.typed refl)) ∙ h)
+  not_refused keeps (Violates Datatype) h = true≢false (sym (all_pass (passes Datatype schema db (table_at (it.trees t) t))
+      (λ cells db one. and_from _ _ one.typed refl)) ∙ h)
   not_refused keeps (Violates NotNull) h =
-      true≢false (sym (all_pass (passes NotNull schema db (table_at (it.trees t) t)) accepts.present) ∙ h)
+      true≢false (sym (all_pass (passes NotNull schema db (table_at (it.trees t) t)) (λ cells db one. one.present)) ∙ h)
   not_refused keeps (Violates Check) h =
-      true≢false (sym (all_pass (passes Check schema db (table_at (it.trees t) t)) accepts.checked) ∙ h)
-  not_refused keeps (Violates PrimaryKey) h =
-      true≢false (sym is_fresh ∙ subst (λ news. are_fresh was news ≡ false) news_are h)
-  not_refused keeps (Violates Unique) h = h (unique_after with_row (at_own db (it.trees t) (edited db edit) ∙ edited_is)
-      (λ d listed other. at_other db d.tree (it.trees t) (edited db edit) other) keeps.0)
+      true≢false (sym (all_pass (passes Check schema db (table_at (it.trees t) t)) (λ cells db one. one.checked)) ∙ h)
+  not_refused keeps (Violates PrimaryKey) h = true≢false (sym (all_fresh schema it own t rows db taken)
+      ∙ subst (λ all. are_fresh (db (it.trees t)) all ≡ false) news_of h)
+  not_refused keeps (Violates Unique) h = h (unique_with schema it own t rows db
+      (with_tree db (it.trees t) (edited db edit)) taken (has_all (with_tree db (it.trees t) (edited db edit))
+      (at_own db (it.trees t) (edited db edit)) (λ d listed other. at_other db d.tree (it.trees t) (edited db edit) other))
+      keeps.0)
   not_refused keeps (Violates ForeignKey) h = h
-  not_refused keeps Mismatch h = true≢false (sym (all_pass (λ r. is_int (rowid r)) accepts.numbered) ∙ h)
-  not_refused keeps NoRowid h = true≢false (sym (all_pass (λ r. fits_i64 (id_in (rowid r))) accepts.within) ∙ h)
-  not_refused keeps BadReference h = true≢false (sym (and_from _ _ (adds_fit keeps.1 t) refl) ∙ h)
+  not_refused keeps Mismatch h = true≢false (sym (all_pass (λ r. is_int (rowid r)) (λ cells db one. one.numbered)) ∙ h)
+  not_refused keeps NoRowid h =
+      true≢false (sym (all_pass (λ r. fits_i64 (id_in (rowid r))) (λ cells db one. one.within)) ∙ h)
+  not_refused keeps BadReference h = true≢false (sym (referred (nat_lt 0 (length edit.news)) keeps.1) ∙ h)
   not_refused keeps TooDeep h = h
 
   not_oversized : (r : Row) → Has edit.news r → IsOversized schema (table_at (it.trees t) t) r → ⊥
-  not_oversized r has big = go (subst (λ news. Has news r) news_are has) big
+  not_oversized r has = all_has (λ r. ¬ IsOversized schema (table_at (it.trees t) t) r) (news schema it own t rows db) r
+      (each_new schema it own t (λ r. ¬ IsOversized schema (table_at (it.trees t) t) r) fits_in rows db taken)
+      (subst (λ all. Has all r) news_of has)
     where
-      go : Has (row ∷ []) r → IsOversized schema (table_at (it.trees t) t) r → ⊥
-      go (inr none) big = none
-      go (inl same) (inl bad) = subst (λ r. ¬ IsStorableRow (table_reals (table_at (it.trees t) t)) r) same bad accepts.storable
-      go (inl same) (inr (i, there, mine, bad)) =
+      fits_in : (cells : Row) (db : Trees) → AcceptsRow t cells (λ u. db (it.trees u))
+          → ¬ IsOversized schema (table_at (it.trees t) t) (first_row schema it own t cells db)
+      fits_in cells db one (inl bad) = bad one.storable
+      fits_in cells db one (inr (i, there, mine, bad)) =
           let key = all_has (IsKeyIndex it.trees) schema.indexes i own there t mine in
-          subst (λ r. ¬ IsStorable (index_reals (table_reals (table_at (it.trees t) t)) i.columns) (entry_of i.columns r)) same bad
-          (subst (AllByRecursion (λ places. IsStorable (index_reals (table_reals (table_at (it.trees t) t)) places)
-          (entry_of places row))) key.0 accepts.entries).0
+          bad (subst (AllByRecursion (λ places. IsStorable (index_reals (table_reals (table_at (it.trees t) t)) places)
+          (entry_of places (first_row schema it own t cells db)))) key.0 one.entries).0
 
   led_on : (why : Option Refusal) (next : Trees) (n : ℕ) → Leads schema Enforced n next [] (Err why) → ⊥
   led_on why next zero h = let e = h.1 in cc
@@ -277,60 +386,60 @@ module _ (schema : Schema) (it : HasTables schema) (own : AllByRecursion (IsKeyI
   never keeps why (inr (inr (next, applies, leads))) = settled (Some why) next leads
 
   holds : Refers Whole schema db → (next : Trees) → Applies schema Enforced db edit next → Refers Whole schema next
-  holds refers next applies = refers_after next (applies.rows ∙ edited_is) (λ d listed other. all_has (λ (u : Described).
-      u.tree ≢ it.trees t → next u.tree ≡ db u.tree) schema.tables d applies.tables listed other) refers
+  holds refers next applies = refers_with schema it own t rows db next taken (has_all next applies.rows
+      (λ d listed other. all_has (λ (u : Described). u.tree ≢ it.trees t → next u.tree ≡ db u.tree) schema.tables d
+      applies.tables listed other)) refers
 
   -- ---- the statement
 
-  given : (rows : List Row) → rows ≡ value_rows (cells ++ []) (width t) (length (insert_terms t) / width t) (insert_terms t)
-      → rows ≡ stored t cells ∷ []
-  given rows is = is ∙ ap (λ c. value_rows c (width t) (length (insert_terms t) / width t) (insert_terms t))
-      (append-nil cells) ∙ given_rows t cells
+  given : (all : List Row) → all ≡ value_rows (values ++ []) (width t) (length terms / width t) terms
+      → all ≡ map (stored t) rows
+  given all is = is ∙ puts.rows_are
 
-  takes_terms : accepts_terms (insert_terms t) (cells ++ []) ≡ true
-  takes_terms = ap (accepts_terms (insert_terms t)) (append-nil cells)
-      ∙ values_fit t cells (Int (next_rowid was)) (recursion_from_All _ row accepts.storable.0.numbers)
+  takes_terms : accepts_terms terms (values ++ []) ≡ true
+  takes_terms = ap (accepts_terms terms) (append-nil values) ∙ accepted terms values puts.terms_are
+      (subst (AllByRecursion IsBindable) (sym puts.values_are) (all_bound schema it own t rows db taken))
 
   module _ (limit : Option ℕ) where
     abbrev task : Task
-    task = record { limit = limit; keys = Enforced; schema = schema; table = table_at (it.trees t) t; params = cells }
+    task = record { limit = limit; keys = Enforced; schema = schema; table = table_at (it.trees t) t; params = values }
 
-    puts_none : Inserts task (Values (insert_terms t) (width t)) db (Err None) → ⊥
-    puts_none (inl (Some e, h, is)) = absurd (let k = is in cc)
-    puts_none (inl (None, h, is)) = absurd h
-    puts_none (inr (rows, from, inl (s, counter, is))) = absurd (let e = counter in cc)
-    puts_none (inr (rows, from, inr (c, counter, inl (s, (Some why, h, told), is)))) = absurd (let e = is in let k = told in cc)
-    puts_none (inr (rows, from, inr (c, counter, inl (s, (None, h, told), is)))) = never_big (subst (λ rows. Writes
-        schema Enforced db (edit_of db (table_at (it.trees t) t) [] Chosen 0 rows) (Err None)) (given rows from.1) h)
-    puts_none (inr (rows, from, inr (c, counter, inr (mid, h, inl (s, counted, is))))) = absurd (let e = counted in cc)
-    puts_none (inr (rows, from, inr (c, counter, inr (mid, h, inr (next, counted, is))))) = absurd (let e = is in cc)
+    none_put : Inserts task (Values terms (width t)) db (Err None) → ⊥
+    none_put (inl (Some e, h, is)) = absurd (let k = is in cc)
+    none_put (inl (None, h, is)) = absurd h
+    none_put (inr (all, from, inl (s, counter, is))) = absurd (let e = counter in cc)
+    none_put (inr (all, from, inr (c, counter, inl (s, (Some why, h, told), is)))) = absurd (let e = is in let k = told in cc)
+    none_put (inr (all, from, inr (c, counter, inl (s, (None, h, told), is)))) = never_big (subst (λ all. Writes
+        schema Enforced db (edit_of db (table_at (it.trees t) t) [] Chosen 0 all) (Err None)) (given all from.1) h)
+    none_put (inr (all, from, inr (c, counter, inr (mid, h, inl (s, counted, is))))) = absurd (let e = counted in cc)
+    none_put (inr (all, from, inr (c, counter, inr (mid, h, inr (next, counted, is))))) = absurd (let e = is in cc)
 
-    puts : HasKeys → (stop : Option Error) → Inserts task (Values (insert_terms t) (width t)) db (Err stop)
+    put : HasKeys → (stop : Option Error) → Inserts task (Values terms (width t)) db (Err stop)
         → (stop ≡ Some (SqliteFailure OperationInterrupted)) × IsSome limit
-    puts keeps stop (inl (Some e, inl h, is)) = absurd (true≢false (sym takes_terms ∙ h.1))
-    puts keeps stop (inl (Some e, inr h, is)) = (same_error is ∙ ap Some h.0, h.1)
-    puts keeps stop (inl (None, h, is)) = absurd h
-    puts keeps stop (inr (rows, from, inl (s, counter, is))) = absurd (let e = counter in cc)
-    puts keeps stop (inr (rows, from, inr (c, counter, inl (s, (Some why, h, told), is)))) = absurd (never keeps why
-        (subst (λ rows. Writes schema Enforced db (edit_of db (table_at (it.trees t) t) [] Chosen 0 rows) (Err (Some why))) (given rows
+    put keeps stop (inl (Some e, inl h, is)) = absurd (true≢false (sym takes_terms ∙ h.1))
+    put keeps stop (inl (Some e, inr h, is)) = (same_error is ∙ ap Some h.0, h.1)
+    put keeps stop (inl (None, h, is)) = absurd h
+    put keeps stop (inr (all, from, inl (s, counter, is))) = absurd (let e = counter in cc)
+    put keeps stop (inr (all, from, inr (c, counter, inl (s, (Some why, h, told), is)))) = absurd (never keeps why
+        (subst (λ all. Writes schema Enforced db (edit_of db (table_at (it.trees t) t) [] Chosen 0 all) (Err (Some why))) (given all
         from.1) h))
-    puts keeps stop (inr (rows, from, inr (c, counter, inl (s, (None, h, told), is)))) = absurd (never_big (subst
-        (λ rows. Writes schema Enforced db (edit_of db (table_at (it.trees t) t) [] Chosen 0 rows) (Err None)) (given rows from.1) h))
-    puts keeps stop (inr (rows, from, inr (c, counter, inr (mid, h, inl (s, counted, is))))) =
+    put keeps stop (inr (all, from, inr (c, counter, inl (s, (None, h, told), is)))) = absurd (never_big (subst
+        (λ all. Writes schema Enforced db (edit_of db (table_at (it.trees t) t) [] Chosen 0 all) (Err None)) (given all from.1) h))
+    put keeps stop (inr (all, from, inr (c, counter, inr (mid, h, inl (s, counted, is))))) =
         absurd (let e = counted in cc)
-    puts keeps stop (inr (rows, from, inr (c, counter, inr (mid, h, inr (next, counted, is))))) =
+    put keeps stop (inr (all, from, inr (c, counter, inr (mid, h, inr (next, counted, is))))) =
         absurd (let e = is in cc)
 
-    refers_then : Refers Whole schema db → (w : Written) → Inserts task (Values (insert_terms t) (width t)) db (Ok w)
+    refers_then : Refers Whole schema db → (w : Written) → Inserts task (Values terms (width t)) db (Ok w)
         → Refers Whole schema w.trees
     refers_then refers w (inl (s, from, is)) = absurd (let e = is in cc)
-    refers_then refers w (inr (rows, from, inl (s, counter, is))) = absurd (let e = is in cc)
-    refers_then refers w (inr (rows, from, inr (c, counter, inl (s, h, is)))) = absurd (let e = is in cc)
-    refers_then refers w (inr (rows, from, inr (c, counter, inr (mid, h, inl (s, counted, is))))) =
+    refers_then refers w (inr (all, from, inl (s, counter, is))) = absurd (let e = is in cc)
+    refers_then refers w (inr (all, from, inr (c, counter, inl (s, h, is)))) = absurd (let e = is in cc)
+    refers_then refers w (inr (all, from, inr (c, counter, inr (mid, h, inl (s, counted, is))))) =
         absurd (let e = is in cc)
-    refers_then refers w (inr (rows, from, inr (c, counter, inr (mid, h, inr (next, counted, is))))) =
-        let made = one_step schema Enforced db mid edit (none_taken schema Enforced 0 (it.trees t) edit.news) (subst (λ rows. Writes
-        schema Enforced db (edit_of db (table_at (it.trees t) t) [] Chosen 0 rows) (Ok mid)) (given rows from.1) h) in
+    refers_then refers w (inr (all, from, inr (c, counter, inr (mid, h, inr (next, counted, is))))) =
+        let made = one_step schema Enforced db mid edit (none_taken schema Enforced 0 (it.trees t) edit.news) (subst (λ all. Writes
+        schema Enforced db (edit_of db (table_at (it.trees t) t) [] Chosen 0 all) (Ok mid)) (given all from.1) h) in
         let trees : w.trees ≡ mid = ap (λ (it : Written). it.trees) (same_value is) ∙ same_value counted in
         subst (Refers Whole schema) (sym trees) (holds refers mid made)
 
@@ -338,16 +447,16 @@ module _ (schema : Schema) (it : HasTables schema) (own : AllByRecursion (IsKeyI
     mode = record { keys = Enforced; in_doubt = false; may_wait = false }
 
     abbrev command : Command
-    command = Insert (it.at t) (Values (insert_terms t) (width t))
+    command = Insert (it.at t) (Values terms (width t))
 
     abbrev DoesSo : List ℕ → Option Error → Type 0
-    DoesSo text stop = Does limit mode cells (record { schema = schema; trees = db }) text None command (Err stop)
+    DoesSo text stop = Does limit mode values (record { schema = schema; trees = db }) text None command (Err stop)
 
     pub never_stops : (text : List ℕ) → DoesSo text None → ⊥
     never_stops text does = go (rw ((it.stands t).got) at does)
       where
         go : OnRows task mode None command db (Err None) → ⊥
-        go (inl (s, h, is)) = puts_none (subst (λ s. Inserts task (Values (insert_terms t) (width t)) db (Err s)) (sym
+        go (inl (s, h, is)) = none_put (subst (λ s. Inserts task (Values terms (width t)) db (Err s)) (sym
             (same_error is)) h)
         go (inr (w, h, inl (s, tested, is))) = absurd (let e = tested.1 in let k = is in cc)
         go (inr (w, h, inr (in_doubt, tested, inl (s, shown, is)))) = absurd (let e = shown in cc)
@@ -358,13 +467,13 @@ module _ (schema : Schema) (it : HasTables schema) (own : AllByRecursion (IsKeyI
     stops keeps refers text stop does = go (rw ((it.stands t).got) at does)
       where
         go : OnRows task mode None command db (Err stop) → (stop ≡ Some (SqliteFailure OperationInterrupted)) × IsSome limit
-        go (inl (s, h, is)) = let told = puts keeps s h in (same_error is ∙ told.0, told.1)
+        go (inl (s, h, is)) = let told = put keeps s h in (same_error is ∙ told.0, told.1)
         go (inr (w, h, inl (s, tested, is))) = absurd (tested.0 (refers_then refers w h))
         go (inr (w, h, inr (in_doubt, tested, inl (s, shown, is)))) = absurd (let e = shown in cc)
         go (inr (w, h, inr (in_doubt, tested, inr (rows, shown, is)))) = absurd (let e = is in cc)
 
-ordinary : (place : ℕ) (t : Table) → IsOrdinary (Insert place (Values (insert_terms t) (width t)))
-ordinary place t = record { quiet = refl; plain = refl; begins = λ e. cc; commits = λ e. cc; undoes = λ e. cc; releases = λ name e. cc; goes_back = λ name e. cc }
+ordinary : (place : ℕ) (terms : List Term) (width : ℕ) → IsOrdinary (Insert place (Values terms width))
+ordinary place terms width = record { quiet = refl; plain = refl; begins = λ e. cc; commits = λ e. cc; undoes = λ e. cc; releases = λ name e. cc; goes_back = λ name e. cc }
 
 -- in a database the key of the run cycles has its index
 pub cycles_keyed : (schema : Schema) (it : HasTables schema) → AllByRecursion (IsGuarded schema.indexes) schema.tables
@@ -377,32 +486,34 @@ cycles_keyed schema it guarded =
     rw key (some_from (is_index_for (it.trees RunCycle, 1 ∷ 2 ∷ [], name_order)) schema.indexes (automatic (table_at (it.trees RunCycle) RunCycle) 0 (1 ∷ 2 ∷ []) own.0) own.1
     (rw (eq-eqb (it.trees RunCycle) (it.trees RunCycle) refl) refl))
 
-pub take_fails : (t : Table) (cells : Row) (old new : State) (e : Error) → IsSoundPlan old
-    → AcceptsRow t cells (tables_of old.now.trees) → ExecutesInside 0 (insert_sql t) cells old new (Err e)
-    → MayFail old new e
-take_fails t cells old new e sound accepts h =
-    let schema = old.now.schema in
-    let it = sound.plan.schema in
-    let own = sound.own it in
-    let sql = insert_sql t in
-    let text = statement_of sql (understood schema sql) in
-    let command = Insert (it.at t) (Values (insert_terms t) (width t)) in
-    let db = old.now.trees in
-    let row = subst (AcceptsRow t cells) (rows_are old sound.plan) accepts in
-    let means = insert_means schema (it.at t) (it.trees t) t (it.stands t) in
-    in_vain old new cells text command e
-    (λ does. never_stops schema it own t cells db row old.step_limit text does)
-    (λ opened does.
-    let database = sound.sound opened in
-    let keys : Keeps Unique schema db × (is_key_of schema to_run_cycle ≡ true) = (
-      database.obeys.rules Unique,
-      cycles_keyed
-          schema it database.lists.guarded,
-    ) in
-    let told = stops schema it own t cells db row old.step_limit keys (database.obeys.rules ForeignKey) text (Some e) does in
-    (some_same told.0, told.1))
-    (stopped schema sql cells command (subst (IsWhole (understood schema sql) (length sql)) (sym accepts.whole) means.whole)
-    means.plain means.is (ordinary (it.at t) t) old new e refl h)
+module _ (t : Table) (sql : List ℕ) (terms : List Term) (size : ℕ) (values : Row) (rows : List Row)
+    (puts : PutsRows t sql terms size values rows) where
+  pub take_fails : (old new : State) (e : Error) → IsSoundPlan old → length values ≡ size
+      → AcceptsInTurn t rows (tables_of old.now.trees) → ExecutesInside 0 sql values old new (Err e)
+      → MayFail old new e
+  take_fails old new e sound whole accepts h =
+      let schema = old.now.schema in
+      let it = sound.plan.schema in
+      let own = sound.own it in
+      let text = statement_of sql (understood schema sql) in
+      let command = Insert (it.at t) (Values terms (width t)) in
+      let db = old.now.trees in
+      let taken = subst (AcceptsInTurn t rows) (rows_are old sound.plan) accepts in
+      let means = puts.means schema (it.at t) (it.trees t) (it.stands t) in
+      in_vain old new values text command e
+      (λ does. never_stops schema it own t sql terms size values rows puts db taken old.step_limit text does)
+      (λ opened does.
+      let database = sound.sound opened in
+      let keys : Keeps Unique schema db × (is_key_of schema to_run_cycle ≡ true) = (
+        database.obeys.rules Unique,
+        cycles_keyed
+            schema it database.lists.guarded,
+      ) in
+      let told = stops schema it own t sql terms size values rows puts db taken old.step_limit keys
+      (database.obeys.rules ForeignKey) text (Some e) does in
+      (some_same told.0, told.1))
+      (stopped schema sql values command (subst (IsWhole (understood schema sql) (length sql)) (sym whole) means.whole)
+      means.plain means.is (ordinary (it.at t) terms (width t)) old new e refl h)
 
 pub still_sound : (old new : State) (rows : Tables) → IsSoundPlan old → Stands old new rows
     → new.now.schema ≡ old.now.schema → IsDatabase new.now → IsSoundPlan new
@@ -413,10 +524,18 @@ still_sound old new rows sound stands same database = record {
   mode = stands.mode;
 }
 
-pub take_sound : (t : Table) (cells : Row) (old new : State) (count : ℕ) → IsSoundPlan old
-    → AcceptsRow t cells (tables_of old.now.trees) → ExecutesInside 0 (insert_sql t) cells old new (Ok count)
-    → IsSoundPlan new × (IsTrue old.is_open → IsTrue new.is_open) × (tables_of new.now.trees ≡ with_cells t cells (tables_of old.now.trees))
-take_sound t cells old new count sound accepts h =
-    let stands = inserted t cells old new count sound.plan accepts.kinds h in
-    let kept = put_soundly t cells old new count sound.plan accepts.kinds h in
+-- the values of rows that are accepted are of their kinds
+all_kinds : (t : Table) (rows : List Row) (all : Tables) → AcceptsInTurn t rows all → AllByRecursion (AreOfKinds t) rows
+all_kinds t [] all h = tt
+all_kinds t (cells ∷ more) all h = (h.0.kinds, all_kinds t more (with_cells t cells all) h.1)
+
+pub take_sound : (t : Table) (sql : List ℕ) (terms : List Term) (size : ℕ) (values : Row) (rows : List Row)
+    → PutsRows t sql terms size values rows → (old new : State) (count : ℕ) → IsSoundPlan old
+    → AcceptsInTurn t rows (tables_of old.now.trees) → ExecutesInside 0 sql values old new (Ok count)
+    → IsSoundPlan new × (IsTrue old.is_open → IsTrue new.is_open)
+    × (tables_of new.now.trees ≡ with_several t rows (tables_of old.now.trees))
+take_sound t sql terms size values rows puts old new count sound accepts h =
+    let kinds = all_kinds t rows (tables_of old.now.trees) accepts in
+    let stands = inserted t sql terms size values rows puts old new count sound.plan kinds h in
+    let kept = put_soundly t sql terms size values rows puts old new count sound.plan kinds h in
     (still_sound old new _ sound stands kept.0 kept.1, (λ _. h.1.is_open), stands.rows_are)

@@ -1,5 +1,5 @@
 -- The texts of INSERT and DELETE mean the same wherever their table stands.
-use Rattle.std.proofs.Common.{◌≡◌, ℕ, List, ◌-◌, true, [], ◌∷◌, length, Ok, Err, refl, subst, sym}
+use Rattle.std.proofs.Common.{◌≡◌, ℕ, List, ◌-◌, ◌*◌, true, [], ◌∷◌, length, Ok, Err, refl, subst, sym}
 use Rattle.sqlite.specs.Term.{Term, col}
 use Rattle.sqlite.specs.Source.TheVariants.{Values}
 use Rattle.sqlite.specs.Command.TheVariants.{Insert, Delete}
@@ -17,8 +17,8 @@ use Rattle.sqlite_syntax.specs.declared.statement.Parsed.{Parsed}
 use Rattle.plan_tables_schema.specs.Form.{first_place}
 use Rattle.plan_tables_schema.specs.Forms.{form}
 use Rattle.plan_tables_schema.specs.Schema.{table_at}
-use Rattle.plan_tables_schema.specs.Texts.{insert_sql, delete_sql}
-use Rattle.plan_tables_schema.specs.Cells.{insert_terms, width, column_names, delete_tests}
+use Rattle.plan_tables_schema.specs.Texts.{insert_sql, delete_sql, several_sql}
+use Rattle.plan_tables_schema.specs.Cells.{insert_terms, width, column_names, delete_tests, rows_at_once, several_terms}
 use Rattle.plan_tables_schema.proofs.Steps.{plain_query}
 use Rattle.plan_tables_schema.specs.declared.tables.Table.{Table}
 use Rattle.plan_tables_schema.specs.declared.tables.Table.TheVariants.{LinkInForce}
@@ -29,7 +29,7 @@ use Rattle.plan_tables_schema.proofs.Written.{IfRead, Deletes, SaysEqual, SaysPa
 use Rattle.plan_tables_schema.proofs.WrittenKeys.{key_width}
 use Rattle.plan_tables_schema.proofs.TestLemmas.{deletes_equal, deletes_pair}
 use Rattle.plan_tables_schema.proofs.MeaningLemmas.{Means, means, insert_plans, delete_plans}
-use Rattle.plan_tables_schema.proofs.InsertTexts.{insert_says}
+use Rattle.plan_tables_schema.proofs.InsertTexts.{insert_says, several_says}
 use Rattle.plan_tables_schema.proofs.DeleteTexts.{delete_says, key_is_compared, delete_accepted}
 
 abbrev pub key_draft : ℕ → List Term → Draft
@@ -75,6 +75,11 @@ module _ (schema : Schema) (at tree : ℕ) where
       → Means schema (insert_sql t) (Insert at (Values (insert_terms t) (width t))) (length (column_names t))
   insert_means t it = means schema (insert_sql t) _ _ (first (insert_sql t)) refl
       (insert_plans schema (table_at tree t) at it (Values (insert_terms t) (width t)) _ _ refl (first (insert_sql t)) (insert_says schema tree t))
+
+  pub several_means : (t : Table) → TableIsAt schema (table_at tree t) at
+      → Means schema (several_sql t) (Insert at (Values (several_terms t) (width t))) (rows_at_once t * length (column_names t))
+  several_means t it = means schema (several_sql t) _ _ (first (several_sql t)) refl
+      (insert_plans schema (table_at tree t) at it (Values (several_terms t) (width t)) _ _ refl (first (several_sql t)) (several_says schema tree t))
 
   deletes : (t : Table) → TableIsAt schema (table_at tree t) at
       → IfRead (first (delete_sql t)) (Deletes schema (table_at tree t) at (key_draft tree (delete_tests t)) (length (delete_sql t)) (key_width t))

@@ -1,5 +1,5 @@
 -- What the tables of a plan accept.
-use Rattle.std.specs.Prelude.{◌≡◌, ℕ, ℤ, true, false, List, [], ◌∷◌, drop, length, IsTrue}
+use Rattle.std.specs.Prelude.{◌≡◌, ℕ, ℤ, true, false, List, [], ◌∷◌, drop, length, ◌*◌, IsTrue, ⊤}
 use Rattle.std.specs.List.{AllByRecursion, list_any}
 use Rattle.sqlite.specs.Effect.{IsDatabase}
 use Rattle.sqlite.specs.Kind.{Kind}
@@ -16,10 +16,10 @@ use Rattle.sqlite_sql.specs.Catalog.{entry_of}
 use Rattle.sqlite_sql.specs.Ops.{fits_i64}
 use Rattle.sqlite_trees.specs.View.{IsStorable, IsStorableRow}
 use Rattle.sqlite_value.specs.Keys.{plain}
-use Rattle.plan_tables_schema.specs.Cells.{column_names}
+use Rattle.plan_tables_schema.specs.Cells.{column_names, rows_at_once, rows_given}
 use Rattle.plan_tables_schema.specs.Form.{key_kinds}
 use Rattle.plan_tables_schema.specs.Forms.{form}
-use Rattle.plan_tables_schema.specs.Rows.{AreOfKinds, IsAlone, IsPlan, Tables, stored}
+use Rattle.plan_tables_schema.specs.Rows.{AreOfKinds, IsAlone, IsPlan, Tables, stored, with_cells}
 use Rattle.plan_tables_schema.specs.Schema.{HasOnlyKeyIndexes, columns, key, primary, references, table, uniques}
 use Rattle.plan_tables_schema.specs.declared.tables.Table.{Table}
 use Rattle.plan_tables_schema.specs.declared.tables.Table.TheVariants.{RunCycle}
@@ -56,6 +56,16 @@ pub record AcceptsRow (t : Table) (cells : Row) (all : Tables) : Type 0 where
   pub fresh : is_taken (all t) (new_row t cells all) ≡ false
   pub unique : AllByRecursion (HasNone (all t) (new_row t cells all)) (uniques t)
   pub parents : HasParents t (new_row t cells all) all
+
+-- rows of these values in turn, each as the tables are then
+abbrev pub AcceptsInTurn : Table → List Row → Tables → Type 0
+AcceptsInTurn t [] all = ⊤
+AcceptsInTurn t (cells ∷ more) all = AcceptsRow t cells all × AcceptsInTurn t more (with_cells t cells all)
+
+-- the values are those of several rows, as many as one statement inserts, and the table accepts these in turn
+abbrev pub AcceptsSeveral : Table → Row → Tables → Type 0
+AcceptsSeveral t values all = (length values ≡ rows_at_once t * length (column_names t))
+    × AcceptsInTurn t (rows_given t values) all
 
 -- ---- a key by which rows are found
 

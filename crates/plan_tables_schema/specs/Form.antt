@@ -1,5 +1,5 @@
 -- A table as a value, and the texts of its statements.
-use Rattle.std.specs.Prelude.{ℕ, zero, suc, ◌+◌, Bool, true, false, cond, not, nat_lt, List, [], ◌∷◌, ◌++◌, map, take, codes, Option, Some, None, pos}
+use Rattle.std.specs.Prelude.{ℕ, zero, suc, ◌+◌, Bool, true, false, cond, not, nat_lt, List, [], ◌∷◌, ◌++◌, length, map, take, codes, Option, Some, None, pos}
 use Rattle.sqlite.specs.declared.types.Value.TheVariants.{Null, Int}
 use Rattle.sqlite.specs.Collation.TheVariants.{Binary}
 use Rattle.sqlite.specs.Term.{Term, lit, col, op2}
@@ -60,9 +60,18 @@ abbrev pub parameters : ℕ → List (List ℕ) → List (List ℕ)
 parameters n [] = []
 parameters n (x ∷ xs) = parameter n ∷ parameters (n + 1) xs
 
+-- the parameters of so many rows, each row in parentheses
+abbrev pub tuples : ℕ → ℕ → List (List ℕ) → List (List ℕ)
+tuples zero n ns = []
+tuples (suc m) n ns = (codes "(" ++ (listed (parameters n ns) ++ codes ")")) ∷ tuples m (n + length ns) ns
+
+-- inserts so many rows
+abbrev pub several_text : ℕ → Form → List ℕ
+several_text m f = codes "INSERT INTO " ++ (f.name ++ (codes " (" ++ (listed (names f) ++ (codes ") VALUES " ++ listed
+    (tuples m 1 (names f))))))
+
 abbrev pub insert_text : Form → List ℕ
-insert_text f = codes "INSERT INTO " ++ (f.name ++ (codes " (" ++ (listed (names f) ++ (codes ") VALUES (" ++ (listed
-    (parameters 1 (names f)) ++ codes ")")))))
+insert_text f = several_text 1 f
 
 abbrev pub select_text : Form → List ℕ
 select_text f = codes "SELECT " ++ (listed (names f) ++ (codes " FROM " ++ f.name))
@@ -198,6 +207,12 @@ with_rowid_term false ts = lit Null ∷ ts
 
 abbrev pub insert_terms_of : Form → List Term
 insert_terms_of f = with_rowid_term (has_rowid f.key) (given_from 0 f.columns)
+
+-- of so many rows, whose values are given from that place on
+abbrev pub several_terms_of : ℕ → ℕ → Form → List Term
+several_terms_of zero n f = []
+several_terms_of (suc m) n f =
+    with_rowid_term (has_rowid f.key) (given_from n f.columns) ++ several_terms_of m (n + length f.columns) f
 
 abbrev pub shown_from : ℕ → List Col → List Term
 shown_from n [] = []

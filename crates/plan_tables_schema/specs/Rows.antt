@@ -60,6 +60,11 @@ with_rows t rows all u = if place u == place t then rows else all u
 abbrev pub with_cells : Table → Row → Tables → Tables
 with_cells t cells all = with_rows t (placed (with_rowid Chosen (all t) (stored t cells)) (all t)) all
 
+-- with a row of each of these values in one of them, one after another
+abbrev pub with_several : Table → List Row → Tables → Tables
+with_several t [] all = all
+with_several t (cells ∷ more) all = with_several t more (with_cells t cells all)
+
 -- the tables without the rows that have the key in one of them
 abbrev pub without_key : Table → Row → Tables → Tables
 without_key t key all = with_rows t (filter (λ r. not (matches t key r)) (all t)) all

@@ -19,6 +19,6 @@ mod texts;
 
 pub use making::{make_all, make_tables};
 pub use named::first_named;
-pub use statements::{delete, insert, select};
+pub use statements::{delete, insert, insert_several, select};
 pub use tables::{SCHEMA_VERSION, TABLES, Table};
 pub use texts::{create_text, select_text};

@@ -1,7 +1,7 @@
 // The texts of the statements.
 
 ghost use Rattle.std.specs.Prelude.{◌≡◌};
-ghost use Rattle.plan_tables_schema.specs.Texts.{create_sql, delete_sql, insert_sql, select_sql};
+ghost use Rattle.plan_tables_schema.specs.Texts.{create_sql, delete_sql, insert_sql, select_sql, several_sql};
 
 use crate::tables::Table;
 
@@ -117,6 +117,35 @@ pub(crate) fn insert_text(table: Table) -> &'static str
         }
         Table::Dependency => { "INSERT INTO dependency (successor, predecessor) VALUES (?1, ?2)" }
         Table::Job => { "INSERT INTO job (number, body, reply) VALUES (?1, ?2, ?3)" }
+    }
+}
+
+/// The text that inserts several rows into the table; one row if the table gets few.
+pub(crate) fn several_text(table: Table) -> &'static str
+    ensures { result.now ≡ several_sql table }
+{
+    match table {
+        Table::LongTerm => {
+            "INSERT INTO ltp_row (serial, app, ia, deadline, run_cycle) VALUES (?1, ?2, ?3, ?4, ?5), \
+             (?6, ?7, ?8, ?9, ?10), (?11, ?12, ?13, ?14, ?15)"
+        }
+        Table::Current => {
+            "INSERT INTO cp_row (serial, app, ia, deadline, run_cycle, status) VALUES (?1, ?2, ?3, ?4, \
+             ?5, ?6), (?7, ?8, ?9, ?10, ?11, ?12), (?13, ?14, ?15, ?16, ?17, ?18)"
+        }
+        Table::History => {
+            "INSERT INTO history_row (serial, app, ia, deadline, run_cycle) VALUES (?1, ?2, ?3, ?4, ?5), \
+             (?6, ?7, ?8, ?9, ?10), (?11, ?12, ?13, ?14, ?15)"
+        }
+        Table::Deletion => {
+            "INSERT INTO deletion_row (serial, app, ia, deadline, run_cycle, reason) VALUES (?1, ?2, ?3, \
+             ?4, ?5, ?6), (?7, ?8, ?9, ?10, ?11, ?12), (?13, ?14, ?15, ?16, ?17, ?18)"
+        }
+        Table::Dependency => {
+            "INSERT INTO dependency (successor, predecessor) VALUES (?1, ?2), (?3, ?4), (?5, ?6), (?7, \
+             ?8), (?9, ?10), (?11, ?12), (?13, ?14), (?15, ?16), (?17, ?18)"
+        }
+        table => insert_text(table),
     }
 }
 
