@@ -1,7 +1,7 @@
 -- The values of each kind of fact are of the kinds of the columns, and are shown as they are stored.
 use Rattle.std.proofs.Common.{◌≡◌, ℕ, pos, List, Option, Some, None, option_map, refl}
 use Rattle.sqlite.specs.Kind.TheVariants.{Integer}
-use Rattle.sqlite.specs.declared.types.Value.TheVariants.{Null, Int, Text}
+use Rattle.sqlite.specs.declared.types.Value.TheVariants.{Text}
 use Rattle.sqlite.specs.Cast.{cast, as_text}
 use Rattle.plan_tables_schema.specs.Rows.{AreOfKinds}
 use Rattle.plan_tables_schema.specs.declared.tables.Table.TheVariants as table

@@ -2,5 +2,6 @@ pub mod KindLemmas
 pub mod AloneLemmas
 pub mod TakingLemmas
 pub mod LinkLemmas
+pub mod ManyLemmas
 pub mod PairLemmas
 pub mod TurnLemmas

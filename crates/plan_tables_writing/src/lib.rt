@@ -20,6 +20,7 @@ mod cells;
 mod facts;
 mod lone_rows;
 mod loops;
+mod many;
 mod moves;
 mod redefining;
 mod steps;

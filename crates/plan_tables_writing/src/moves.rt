@@ -9,8 +9,8 @@ ghost use Rattle.plan_store_lists.specs.PairBlocks.{ArePairBlocks};
 ghost use Rattle.plan_store.specs.Changes.{is_among};
 ghost use Rattle.plan_tables_writing.specs.Writing.{beside, holds_link, links_moved, links_replaced, standing};
 
-use crate::facts::Fact;
 use crate::loops::{delete_each, put_each};
+use crate::many::{ManyFact, put_many};
 use crate::steps::{DeleteEach, PutEach, Step};
 use external_dependencies::{Link, Links, Pair, PairChange};
 use plan_store::{Change, Moves};
@@ -20,7 +20,7 @@ use sqlite::{Alter, Error, Transaction};
 use std::alloc::{AllocError, Global};
 
 // Makes the moves in the table of a set.
-fn write_moves<R: Fact, S: Alter>(
+fn write_moves<R: ManyFact, S: Alter>(
     tx: &mut Transaction<'_, S>,
     table: Table,
     moves: &Moves<R>,
@@ -105,7 +105,7 @@ pub(crate) fn write_pairs<S: Alter>(
     let there = standing(alloc, old, change.added.as_slice())?;
     delete_each(tx, Table::Dependency, change.removed.as_slice())?;
     delete_each(tx, Table::Dependency, &there)?;
-    put_each(tx, Table::Dependency, change.added.as_slice())
+    put_many(tx, Table::Dependency, change.added.as_slice())
 }
 
 // Whether the link is one of these, with the same limit.

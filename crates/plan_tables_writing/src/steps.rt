@@ -5,7 +5,8 @@ ghost use Rattle.plan_tables_writing.specs.Accepted.{AreKeysOf, AcceptsEach, Wri
 ghost use Rattle.plan_tables_writing.specs.Writing.{AreStorable, StandAlone, with_each, without_each};
 
 use crate::facts::Fact;
-use crate::loops::{delete_each, put_each};
+use crate::loops::delete_each;
+use crate::many::{ManyFact, put_many};
 use plan_tables_schema::Table;
 use sqlite::{Alter, Error, Transaction};
 
@@ -48,7 +49,7 @@ pub(crate) struct PutEach<'a, R> {
     pub facts: &'a [R],
 }
 
-impl<'a, R: Fact> Step for PutEach<'a, R> {
+impl<'a, R: ManyFact> Step for PutEach<'a, R> {
     ghost fits = { λ it _. AreStorable it.table R.values };
 
     ghost accepts = { λ it. AcceptsEach it.table R.values it.facts.now };
@@ -56,7 +57,7 @@ impl<'a, R: Fact> Step for PutEach<'a, R> {
     ghost makes = { λ it. with_each it.table R.values it.facts.now };
 
     fn run<S: Alter>(&self, tx: &mut Transaction<'_, S>) -> Result<(), Error> {
-        put_each(tx, self.table, self.facts)
+        put_many(tx, self.table, self.facts)
     }
 }
 

@@ -7,7 +7,7 @@ returns g c = writes_weaker g.S.Store _ _ _ _ _ _ _ _ (λ all _. ((pairs_alone, 
     (λ all t. (((pairs_keys, pairs_alone), (pairs_keys, pairs_alone)), t))
     (writes_then (writes_then (rw c.as_slice-2.ensures.all at c.in_ok-delete_each.ensures)
     (rw (c.deref.ensures.value, c.in_ok-there.ensures, c.as_slice.ensures.all) at c.in_ok-delete_each-2.ensures))
-    (rw c.as_slice-3.ensures.all at c.put_each.ensures))
+    (rw c.as_slice-3.ensures.all at c.put_many.ensures))
 
 pub returns-in_err-delete_each : goal.returns-in_err-delete_each
 returns-in_err-delete_each g c = writes_no_more c.from_residual-in_err-delete_each.result
