@@ -125,13 +125,13 @@ fn daily_plan(
         c.sets.bounds ≡ Some bounds.now → DoesDaily to c done.0 done.1) }
 {
     let moved = view.ltp_before(alloc, to)?;
-    let rows = view.cp();
-    let finished = finished_rows(alloc, rows)?;
-    let completed = completed_rows(alloc, rows)?;
-    let deleted = deleted_rows(alloc, rows)?;
+    let rows = view.cp().to_vec(alloc)?;
+    let finished = finished_rows(alloc, &rows)?;
+    let completed = completed_rows(alloc, &rows)?;
+    let deleted = deleted_rows(alloc, &rows)?;
     let reply = Reply::Moved {
         moved: moved.len(),
-        carried: count_uncompleted(rows),
+        carried: count_uncompleted(&rows),
         completed: completed.len(),
         deleted: deleted.len(),
     };

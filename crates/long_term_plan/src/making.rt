@@ -76,7 +76,9 @@ fn make_drafts(
     let rows = numbered_rows(alloc, view.issued(), new.as_slice())?;
     drop(new);
     let touch = touch_of(alloc, &[], &rows, view.in_force(), &links)?;
-    let live = live_rows_with(alloc, view.ltp(), &rows, view.cp(), view.lasts())?;
+    let planned = view.ltp().to_vec(alloc)?;
+    let live = live_rows_with(alloc, &planned, &rows, view.cp(), view.lasts())?;
+    drop(planned);
     let before = pairs_of_plans(alloc, view)?;
     let pairs = pair_change(alloc, &before, &live, &links, &touch)?;
     let change = Change {

@@ -33,6 +33,7 @@ use app_occurrences::active;
 use external_dependencies::{Links, PairChange, Touch, find_loop};
 use occurrences::{Deletion, GREATEST_SERIAL, Reason, Refusal, Reply, Row};
 use plan_store::{Change, DefinitionChange, Moves, Need, Verdict, View};
+use plan_store_lists::RowBlocks;
 use plan_store_pairs::{
     are_few, live_rows_of, live_rows_with, pair_change, pairs_of_apps, pairs_of_plans,
     reached_apps, single, touch_of, touch_of_rows,
@@ -120,8 +121,9 @@ fn modify(
     let last = last_planned(bounds);
     let named = named_drafts(alloc, all, apps.as_slice(), bounds.plan_end, last)?;
     let rows = view.ltp();
-    let looked = looked_rows(view, only);
-    let parted = parted_rows(alloc, looked, only, &named)?;
+    let looked = looked_rows(alloc, view, only)?;
+    let parted = parted_rows(alloc, &looked, only, &named)?;
+    drop(looked);
     let Parted { gone, changed, met } = parted;
     let made = unmet_drafts(alloc, view, &named, &met)?;
     drop(met);
@@ -133,14 +135,18 @@ fn modify(
     change_rows(alloc, view, new, pairs, gone, changed, put)
 }
 
-// The rows of the long-term plan of the applications that the statement looks at.
-fn looked_rows<'a>(view: &View<'a>, only: &Option<App>) -> &'a [Row]
-    ensures { ListsSet of_row (shown view.now).sets.ltp (λ row. Looks only.now row.key.app)
-        result.now }
+// The rows of the long-term plan of the applications that the statement looks at, as a list of their own.
+fn looked_rows(alloc: Global, view: &View<'_>, only: &Option<App>) -> Result<Vec<Row>, AllocError>
+    ensures { IfOk result (λ rows. ListsSet of_row (shown view.now).sets.ltp (λ row.
+        Looks only.now row.key.app) rows.items) }
 {
     match only {
-        Some(app) => view.ltp_of(app),
-        None => view.ltp(),
+        Some(app) => {
+            let mut rows = Vec::new(alloc);
+            rows.extend_from_slice(view.ltp_of(app))?;
+            Ok(rows)
+        }
+        None => view.ltp().to_vec(alloc),
     }
 }
 
@@ -174,19 +180,22 @@ fn are_too_many(view: &View<'_>, gone: &[Row], new: &[Draft]) -> bool
 fn pairs_then(
     alloc: Global,
     view: &View<'_>,
-    rows: &[Row],
+    rows: &RowBlocks<Row>,
     only: &Option<App>,
     named: Vec<Draft>,
     gone: &[Row],
     put: &[Row],
     new: &Option<Links>,
 ) -> Result<PairChange, AllocError>
-    ensures { DraftsRise named.items → ListsSet of_row (shown view.now).sets.ltp IsAny rows.now
+    ensures { DraftsRise named.items
+        → ListsSet of_row (shown view.now).sets.ltp IsAny rows.now.items
         → IfOk result (λ change. HoldsOfSound Need.LongTerm view.now
         (λ c. AreKnownLinks c (unwrap_or new.now c.in_force)
         → (s : Sets)
-        → ArePlanned rows.now (filter_map (outcome only.now named.items) rows.now) gone.now put.now
-        → HavePlanned c.sets (filter_map (outcome only.now named.items) rows.now ++ put.now) s
+        → ArePlanned rows.now.items (filter_map (outcome only.now named.items) rows.now.items)
+        gone.now put.now
+        → HavePlanned c.sets (filter_map (outcome only.now named.items) rows.now.items
+        ++ put.now) s
         → ArePairs c.pairs (unwrap_or new.now c.in_force) s (pairs_after change c.pairs)
         × LeadsOn c.pairs change)) }
 {
@@ -200,7 +209,9 @@ fn pairs_then(
         let planned = planned_of(alloc, view, &apps, only, &named, put)?;
         live_rows_of(alloc, view, &apps, &planned)?
     } else {
-        let kept = staying_rows(alloc, rows, only, &named)?;
+        let all = rows.to_vec(alloc)?;
+        let kept = staying_rows(alloc, &all, only, &named)?;
+        drop(all);
         live_rows_with(alloc, &kept, put, current, lasts)?
     };
     drop(named);

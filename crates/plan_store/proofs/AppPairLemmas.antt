@@ -15,8 +15,6 @@ use Rattle.std.proofs.lemmas.List.Sorted.{searchable_from_sorted}
 use Rattle.occurrences.specs.declared.place.CurrentRow.{CurrentRow}
 use Rattle.occurrences.specs.declared.place.Deletion.{Deletion}
 use Rattle.occurrences.specs.declared.row.Row.{Row}
-use Rattle.external_dependencies.specs.Arrival.{arrival_cmp}
-use Rattle.external_dependencies.specs.Nearest.{arrival_of}
 use Rattle.external_dependencies.specs.Pair.{pair_cmp}
 use Rattle.external_dependencies.specs.Rising.{IsRising}
 use Rattle.external_dependencies.specs.declared.pairs.Pair.{Pair}
@@ -24,8 +22,7 @@ use Rattle.planner_machine.specs.Content.{Content, Sets}
 use Rattle.planner_machine.specs.Moves.{or_else}
 use Rattle.planner_machine.specs.Shown.{ListsPairs}
 use Rattle.planner_machine.specs.Sound.{AreNumbered}
-use Rattle.plan_store_lists.specs.Keyed.{IsKeyed}
-use Rattle.plan_store_lists.specs.Rows.{AreRows, OneEach, look_up, of_current, of_deletion, of_row}
+use Rattle.plan_store_lists.specs.Rows.{OneEach, look_up, of_current, of_deletion, of_row}
 use Rattle.plan_store_lists.proofs.KeyLemmas.{contains_first, contains_later, missed_all, nothing}
 use Rattle.plan_store_lists.proofs.LookLemmas.{look_at, look_lacks, look_some}
 use Rattle.plan_store.specs.AppPairs.{AddsPairs, AreBySerials, HasAppPairs, HasEnds, with_others}
@@ -106,16 +103,13 @@ module _ {X : Type 0} (row_of : X → Row) (app : List ℕ) (pairs : List Pair) 
     }
 
 -- the rows of an application in a set are among those of its list
-pub part_has : {X : Type 0} (row_of : X → Row) (xs list part : List X) (app : List ℕ) → AreRows row_of xs → list ≡ xs
-    → (IsKeyed arrival_cmp (λ x. arrival_of (row_of x)) list → (x : X) → Contains part x
-    ↔ (Contains list x × ((row_of x).key.app ≡ app))) → (n : ℕ) (x : X)
+pub part_has : {X : Type 0} (row_of : X → Row) (xs part : List X) (app : List ℕ)
+    → ((x : X) → Contains part x ↔ (Contains xs x × ((row_of x).key.app ≡ app))) → (n : ℕ) (x : X)
     → look_up (λ x. (row_of x).serial) xs n ≡ Some x → (row_of x).key.app ≡ app
     → Contains part x × ((row_of x).serial ≡ n)
-part_has {X} row_of xs list part app rows same all n x at of_app =
-    let all_of = subst (λ (l : List X). IsKeyed arrival_cmp (λ x. arrival_of (row_of x)) l → (x : X) → Contains part x
-    ↔ (Contains l x × ((row_of x).key.app ≡ app))) same all in
+part_has row_of xs part app all n x at of_app =
     let there = look_some (λ x. (row_of x).serial) xs n x at in
-    ((all_of rows.keyed x).1 (there.0, of_app), there.1)
+    ((all x).1 (there.0, of_app), there.1)
 
 -- the pairs of five lists
 module _ (app : List ℕ) (s : Sets) (others : List Row) (pairs : List Pair) (ltp : List Row) (cp : List CurrentRow)

@@ -227,8 +227,3 @@ module _ {X : Type 0} (row_of : X → Row) where
         fits.put_once,
       ),
     )
-
-    -- the same, as a list and as its items
-    pub of_items : (xs ys : List X) → xs ≡ ys → FitsSet row_of moves (look_up serial_of xs) → FitsSet row_of moves
-        (look_up serial_of ys)
-    of_items xs ys same fits = subst (λ l. FitsSet row_of moves (look_up serial_of l)) same fits

@@ -1,4 +1,3 @@
-mod AlikeLemmas
 mod AppPairLemmas
 mod ArrivalLemmas
 mod ReadLemmas

@@ -1,23 +1,28 @@
 -- Rows and pairs in the order of listings.
 use Rattle.std.proofs.Common.{◌≡◌, ◌≢◌, ◌↔◌, ℕ, zero, suc, ◌+◌, ◌<◌, List, [], ◌∷◌, ◌++◌, length, get_or}
-use Rattle.std.proofs.Common.{take, drop, map, false, refl, sym, ap, subst, ◌∙◌, inl, inr, arith, rules}
+use Rattle.std.proofs.Common.{take, drop, map, false, refl, sym, ap, subst, ◌∙◌, inl, inr, arith, rules, append_assoc}
 use Rattle.std.specs.List.{AllPairs, Contains}
 use Rattle.std.specs.List.Sorted.{IsPermutation, IsSortedByKey}
 use Rattle.std.specs.Ordering.{is_lt, MatchOrdering}
 use Rattle.std.specs.declared.cmp.Ordering.TheVariants.{Less, Equal}
 use Rattle.std.proofs.lemmas.Cmp.{tied_itself}
-use Rattle.std.proofs.lemmas.List.{get_or-map, length-map}
+use Rattle.std.proofs.lemmas.List.{get_or-map, length-map, map-append}
 use Rattle.std.proofs.lemmas.List.Elements.{Contains-get_or}
 use Rattle.std.proofs.lemmas.List.Sorted.{IsPermutation-map, IsPermutation-sym, Contains-permutation}
 use Rattle.occurrences.specs.Row.{RowBefore, row_cmp}
 use Rattle.occurrences.specs.declared.row.Row.{Row}
 use Rattle.occurrences.specs.contracts.row.RowOrd.TheImpl.{ghosts}
 use Rattle.occurrences.proofs.RowLemmas.{row_cmp_total, row_equal, row_ranks}
+use Rattle.plan_store_lists.specs.Blocks.{items_in}
 use Rattle.plan_store_lists.specs.Rows.{AreRows}
+use Rattle.plan_store_lists.specs.declared.blocks.Block.{Block}
 use Rattle.plan_store_lists.proofs.EditLemmas.{sorted_keyed}
 use Rattle.plan_store_lists.proofs.KeyLemmas.{contains_cases, contains_first, contains_later, nothing}
+use Rattle.plan_store_lists.proofs.RunLemmas.{items_more}
 use Rattle.plan_store.specs.Listed.{SortsRows}
 use Rattle.plan_store.specs.Listings.{Shown, AcceptsAll}
+use Rattle.plan_store.specs.declared.listings.ItemRefused.{ItemRefused}
+use Rattle.plan_store.specs.declared.listings.ListFault.TheVariants.{Device, Sink}
 use Rattle.plan_store.proofs.ViewLemmas.{once_from_rows}
 
 -- rows compare so
@@ -98,10 +103,34 @@ module _ {X : Type 0} (row_of : X → Row) (xs ys : List X) (moves : IsPermutati
   in_order = record { rising = rows_rise; same = same_rows }
 
 -- the same of references to them
-pub in_order_by : {X B : Type 0} (now : B → X) (row_of : X → Row) (xs : List X) (bs cs : List B) → map now bs ≡ xs
-    → IsPermutation bs cs → IsSortedByKey (λ b. row_of (now b)) ghosts.cmp cs → SortsRows row_of xs (map now cs)
-in_order_by now row_of xs bs cs is moves sorted = subst (λ l. SortsRows row_of l (map now cs)) is
-    (in_order row_of (map now bs) (map now cs) (IsPermutation-map now bs cs moves) (sorted_map now row_of cs sorted))
+pub in_order_by : {X B : Type 0} (now : B → X) (row_of : X → Row) (bs cs : List B) → IsPermutation bs cs
+    → IsSortedByKey (λ b. row_of (now b)) ghosts.cmp cs → SortsRows row_of (map now bs) (map now cs)
+in_order_by now row_of bs cs moves sorted =
+    in_order row_of (map now bs) (map now cs) (IsPermutation-map now bs cs moves) (sorted_map now row_of cs sorted)
+
+-- the rows of one block more
+pub block_more : {X : Type 0} (first : List X) (blocks : List (Block (List ℕ) X)) (index : ℕ) (block : Block (List ℕ) X)
+    (old new part : List X) → index < length blocks → block ≡ get_or blocks index block → part ≡ block.items.items
+    → old ≡ first ++ items_in (take index blocks) → new ≡ old ++ part → new ≡ first ++ items_in (take (index + 1) blocks)
+block_more first blocks index block old new part lt at is_part is_old is =
+    is ∙ (λ i. is_old i ++ is_part i) ∙ append_assoc first (items_in (take index blocks)) block.items.items
+    ∙ ap (λ l. first ++ l) (sym (items_more blocks index block lt at))
+
+-- and what they give
+pub block_more_given : {X Y : Type 0} (f : X → Y) (first : List Y) (blocks : List (Block (List ℕ) X)) (index : ℕ)
+    (block : Block (List ℕ) X) (old new : List Y) (part : List X) → index < length blocks
+    → block ≡ get_or blocks index block → part ≡ block.items.items
+    → old ≡ first ++ map f (items_in (take index blocks)) → new ≡ old ++ map f part
+    → new ≡ first ++ map f (items_in (take (index + 1) blocks))
+block_more_given f first blocks index block old new part lt at is_part is_old is =
+    is ∙ (λ i. is_old i ++ map f (is_part i))
+    ∙ append_assoc first (map f (items_in (take index blocks))) (map f block.items.items)
+    ∙ ap (λ l. first ++ l) (sym (map-append f (items_in (take index blocks)) block.items.items)
+    ∙ ap (map f) (sym (items_more blocks index block lt at)))
+
+-- a sink that refuses is no device that fails
+pub refused_apart : (fault : ItemRefused) → Sink fault ≢ Device
+refused_apart fault is = cc
 
 -- one more item for a sink
 pub takes_more : {K : Type 0} (Accepts : K → Shown → K → Type 0) (old : K) (items : List Shown) (last : K) (item : Shown)

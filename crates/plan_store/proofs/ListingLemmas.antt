@@ -1,13 +1,15 @@
 -- What the rows and pairs of a content show in a listing.
 use Rattle.std.proofs.Common.{◌≡◌, ◌≢◌, ◌↔◌, ◌⊎◌, ℕ, zero, suc, Bool, List, [], ◌∷◌, length}
 use Rattle.std.proofs.Common.{get_or, map, refl, sym, ap, subst, ◌∙◌, inl, inr, arith}
-use Rattle.std.proofs.Common.{Option, Result, Ok, Err, IfOk, IfErr}
+use Rattle.std.proofs.Common.{Option, Some, None, Result, Ok, Err, IfOk, IfErr, filter}
 use Rattle.std.specs.List.{All, AllPairs, Contains}
-use Rattle.std.specs.Ordering.{MatchOrdering}
+use Rattle.std.specs.Cmp.Lexicographic.{slice_cmp}
+use Rattle.std.specs.Ordering.{MatchOrdering, is_eq, nat_cmp}
 use Rattle.std.specs.declared.cmp.Ordering.{Ordering}
 use Rattle.std.specs.declared.cmp.Ordering.TheVariants.{Less, Equal, Greater}
+use Rattle.std.proofs.lemmas.Cmp.{nat_list_cmp_total, tied_itself}
 use Rattle.std.proofs.lemmas.List.Elements.{Contains-get_or}
-use Rattle.std.proofs.lemmas.List.Kept.{AllPairs-cons}
+use Rattle.std.proofs.lemmas.List.Kept.{AllPairs-cons, AllPairs-filter}
 use Rattle.occurrences.specs.Row.{RowBefore, row_cmp}
 use Rattle.occurrences.specs.declared.row.Row.{Row}
 use Rattle.occurrences.proofs.RowLemmas.{row_ranks, row_strict}
@@ -16,7 +18,10 @@ use Rattle.external_dependencies.specs.Nearest.{arrival_of}
 use Rattle.planner_machine.specs.Shown.{IsOfApp}
 use Rattle.plan_store_lists.specs.Keyed.{IsKeyed}
 use Rattle.plan_store_lists.specs.Rows.{AreRows, HasEachOnce}
-use Rattle.plan_store_lists.proofs.KeyLemmas.{contains_cases, contains_first, contains_later, nothing}
+use Rattle.plan_store_lists.proofs.KeyLemmas.{contains_cases, contains_filter, contains_first, contains_later}
+use Rattle.plan_store_lists.proofs.KeyLemmas.{filter_contains, nothing}
+use Rattle.plan_store_lists.proofs.SeatLemmas.{equal_from}
+use Rattle.plan_store_lists.proofs.SliceLemmas.{name_ties}
 use Rattle.plan_store.specs.Listed.{SortsRows, EndsWithin, ShowsSet, shown_as}
 use Rattle.plan_store.specs.Listings.{EmitsAll, EmitsPart, Shown, AcceptsAll}
 use Rattle.plan_store.specs.declared.listings.ListFault.{ListFault}
@@ -195,13 +200,30 @@ module _ {X : Type 0} (row_of : X → Row) where
         ends = h.ends;
       }
 
-    -- memory is refused before the first row
-    pub handed_none : {K : Type 0} (Accepts Refuses : K → Shown → K → Type 0) (old : K) → EmitsPart Accepts Refuses
-        (ShowsSet row_of letter_of is_plain xs app) old old Memory
-    handed_none Accepts Refuses old = let (items, shows) = shows_some in record {
-      done = [];
-      rest = items;
-      whole =
-          shows;
-      ends = refl;
-    }
+  -- the rows of one application, or all
+  part_there : (xs : List X) → IsKeyed arrival_cmp (λ x. arrival_of (row_of x)) xs → (app : Option (List ℕ))
+      → (part : List X) × IsKeyed arrival_cmp (λ x. arrival_of (row_of x)) part
+      × ((x : X) → Contains part x ↔ (Contains xs x × IsOfApp app (row_of x).key.app))
+  part_there xs keyed None = (xs, keyed, λ x. ((λ there. (there, tt)), λ both. both.0))
+  part_there xs keyed (Some only) =
+      let test = λ (x : X). is_eq (slice_cmp nat_cmp (row_of x).key.app only) in (
+        filter test xs,
+        AllPairs-filter (λ x y. arrival_cmp (arrival_of (row_of x)) (arrival_of (row_of y)) ≡ Less) test xs keyed,
+        λ x. (
+          (λ there.
+              let both = contains_filter test xs x there in
+              (both.0, name_ties (row_of x).key.app only (equal_from (slice_cmp nat_cmp (row_of x).key.app only) both.1))),
+          λ both. filter_contains test xs x both.0 (ap is_eq
+              (subst (λ a. slice_cmp nat_cmp (row_of x).key.app a ≡ Equal) both.1
+              (tied_itself nat_list_cmp_total (row_of x).key.app))),
+        ),
+      )
+
+  -- memory is refused before the first row
+  pub handed_none : (letter_of : X → ℕ) (is_plain : Bool) (xs : List X) → AreRows row_of xs → (app : Option (List ℕ))
+      → {K : Type 0} (Accepts Refuses : K → Shown → K → Type 0) (old : K) → EmitsPart Accepts Refuses
+      (ShowsSet row_of letter_of is_plain xs app) old old Memory
+  handed_none letter_of is_plain xs rows app Accepts Refuses old =
+      let (part, keyed, all) = part_there xs rows.keyed app in
+      let (items, shows) = shows_some letter_of is_plain xs rows app part keyed all in
+      record { done = []; rest = items; whole = shows; ends = refl }

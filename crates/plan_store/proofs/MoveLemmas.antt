@@ -53,6 +53,14 @@ module _ {X : Type 0} (row_of : X → Row) where
     kept x at_x y at_y same = look_none serial_of moves.gone.items (serial_of x) (fits.stays x ((changed_is x).0 at_x))
         y ((gone_is y).0 at_y) (same_serial y x same)
 
+    -- what goes stands
+    pub gone_stand : (x : X) → Contains gone x → HasKey seat_of old (seat_of x)
+    gone_stand x at_x = (
+      x,
+      (look_some serial_of old (serial_of x) x (fits.goes x ((gone_is x).0 at_x))).0,
+      refl,
+    )
+
     module _ (rest : List X) (rest_is : (x : X) → Contains rest x
         ↔ (Contains old x × LacksKey seat_of gone (seat_of x))) where
       pub changed_stand : (x : X) → Contains changed x → HasKey seat_of rest (seat_of x)

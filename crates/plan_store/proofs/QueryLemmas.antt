@@ -6,7 +6,8 @@ use Rattle.std.specs.FinMap.{IsAntisymmetric, nat_cmp-IsAntisymmetric, slice_cmp
 use Rattle.std.specs.Cmp.Lexicographic.{slice_cmp}
 use Rattle.std.specs.Ordering.{nat_cmp, ordering_then}
 use Rattle.std.specs.List.{Contains}
-use Rattle.std.proofs.lemmas.List.Elements.{Contains-append_left, Contains-push, Contains-push_cases}
+use Rattle.std.proofs.lemmas.List.Elements.{Contains-append_cases, Contains-append_left, Contains-append_right}
+use Rattle.std.proofs.lemmas.List.Elements.{Contains-push, Contains-push_cases}
 use Rattle.app_definitions.specs.declared.definitions.Definitions.{Definitions}
 use Rattle.app_definition_records.specs.ByName.{AreEntriesOf}
 use Rattle.app_definition_records.specs.declared.predecessors.Predecessor.{Predecessor}
@@ -68,6 +69,27 @@ asks_one queries app moment query of at = record {
     of ∙ sym asked.0,
     asked.1 ∙ ap (λ n. n + 1) (sym at),
   );
+}
+
+-- what two lists ask for, one after the other
+pub asks_both : {X : Type 0} (Asks : X → List ℕ → ℕ → Type 0) (xs ys : List X) (first old new : List LastQuery)
+    → AddsQueries (ReadByOne Asks xs) first old → AddsQueries (ReadByOne Asks ys) old new
+    → AddsQueries (ReadByOne Asks (xs ++ ys)) first new
+asks_both Asks xs ys first old new one two = record {
+  stay = λ query there. two.stay query (one.stay query there);
+  come = λ query there. elim (two.come query there) [
+    | inl before ↦ elim (one.come query before) [
+      | inl was ↦ inl was
+      | inr (x, among, asked) ↦ inr (x, Contains-append_left xs ys x among, asked)
+    ]
+    | inr (x, among, asked) ↦ inr (x, Contains-append_right xs ys x among, asked)
+  ];
+  found = λ app minute (x, among, asked). elim (Contains-append_cases xs ys x among) [
+    | inl here ↦
+        let at = one.found app minute (x, here, asked) in
+        (at.0, two.stay at.0 at.1, at.2, at.3)
+    | inr later ↦ two.found app minute (x, later, asked)
+  ];
 }
 
 -- the same in another order

@@ -1,27 +1,26 @@
 -- Parts of lists of rows.
 use Rattle.std.proofs.Common.{◌≡◌, ◌↔◌, ℕ, zero, suc, ◌<◌, ◌≤◌, Bool, true, false, List, [], ◌∷◌, length, get_or, take}
-use Rattle.std.proofs.Common.{◌+◌, ◌++◌, min, drop, filter, sym, subst, ap, ◌∙◌, inl, inr, arith, refl}
+use Rattle.std.proofs.Common.{◌+◌, ◌++◌, drop, filter, sym, subst, ap, ◌∙◌, inl, inr, arith, refl}
 use Rattle.std.specs.List.Sorted.{IsPartitionPoint}
 use Rattle.std.specs.declared.cmp.Ordering.TheVariants.{Equal}
 use Rattle.std.specs.Cmp.Lexicographic.{slice_cmp}
-use Rattle.std.specs.Ordering.{nat_cmp, ordering_then, ordering_reverse, is_lt, is_le}
+use Rattle.std.specs.Ordering.{nat_cmp, ordering_then}
 use Rattle.std.proofs.lemmas.Cmp.{nat_list_cmp_total, nat_cmp_total, tied_itself}
 use Rattle.std.specs.List.{Contains}
-use Rattle.std.proofs.Math.Seq.{take-add}
 use Rattle.std.specs.Prelude.{◌&&◌, not, if◌then◌else◌}
-use Rattle.std.proofs.lemmas.List.{append-nil, get_or_default, length-drop, length-take}
+use Rattle.std.proofs.lemmas.List.{append-nil}
 use Rattle.std.proofs.lemmas.List.Elements.{Contains-get_or, filter-append}
 use Rattle.std.proofs.lemmas.Bool.{cases_order}
+use Rattle.occurrences.specs.declared.key.Key.{Key}
 use Rattle.occurrences.specs.declared.row.Row.{Row}
 use Rattle.external_dependencies.specs.Arrival.{arrival_cmp}
 use Rattle.external_dependencies.specs.Nearest.{arrival_of}
+use Rattle.plan_store_lists.specs.Blocks.{items_in}
 use Rattle.plan_store_lists.specs.Keyed.{IsKeyed}
-use Rattle.plan_store_lists.proofs.SliceLemmas.{AtMost, Rises, between, less_not_equal, name_ties, then_less}
+use Rattle.plan_store_lists.specs.declared.blocks.Block.{Block}
+use Rattle.plan_store_lists.proofs.RunLemmas.{items_more}
+use Rattle.plan_store_lists.proofs.SliceLemmas.{Rises, less_not_equal, then_less}
 use Rattle.plan_store.specs.Slices.{HaveOneApp}
-
-not_less : (a b : List ℕ) → AtMost nat_list_cmp_total b a → is_lt (slice_cmp nat_cmp a b) ≡ false
-not_less a b (inl less) = ap is_lt (nat_list_cmp_total.antisymm a b ∙ ap ordering_reverse less)
-not_less a b (inr same) = ap is_lt (nat_list_cmp_total.antisymm a b ∙ ap ordering_reverse same)
 
 -- rows by application, input arrival and serial
 module _ {X : Type 0} (row_of : X → Row) (xs : List X) (keyed : IsKeyed arrival_cmp (λ x. arrival_of (row_of x)) xs)
@@ -61,29 +60,35 @@ module _ {X : Type 0} (row_of : X → Row) (xs : List X) (keyed : IsKeyed arriva
       | inr (inr above) ↦ absurd (omega arith)
     ]
 
-    -- the rows up to the first one's application are its own
-    module _ (first : X) (some : 0 < length xs) (at_first : first ≡ get_or xs 0 first) (count : ℕ)
-        (le : count ≤ length xs)
-        (point : IsPartitionPoint (λ x. is_le (slice_cmp nat_cmp (row_of x).key.app (row_of first).key.app) ≡ true)
-        (λ x. is_le (slice_cmp nat_cmp (row_of x).key.app (row_of first).key.app) ≡ false) xs count) where
-      none_less : (k : ℕ) (d : X) → 0 ≤ k → k < length xs
-          → is_lt (slice_cmp nat_cmp (row_of (get_or xs k d)).key.app (row_of first).key.app) ≡ false
-      none_less k d low high = not_less (row_of (get_or xs k d)).key.app (row_of first).key.app
-          (subst (λ (y : X). AtMost nat_list_cmp_total (row_of y).key.app (row_of (get_or xs k d)).key.app)
-          (get_or_default xs 0 d first some ∙ sym at_first) (apps_rise 0 k d low high))
+-- the rows of a key: those of its arrival among those of its application
+pub key_part : {X : Type 0} (row_of : X → Row) (list rows found : List X) (key : Key)
+    → ((x : X) → Contains rows x ↔ (Contains list x × ((row_of x).key.app ≡ key.app)))
+    → ((x : X) → Contains found x ↔ (Contains rows x × ((row_of x).key.ia ≡ key.ia)))
+    → (x : X) → Contains found x ↔ (Contains list x × ((row_of x).key ≡ key))
+key_part row_of list rows found key own at x = (
+  (λ there.
+      let both = (at x).0 there in
+      let app = (own x).0 both.0 in
+      (app.0, λ i. record { ia = both.1 i; app = app.1 i })),
+  λ both. (at x).1 (
+    (own x).1 (both.0, ap (λ (k : Key). k.app) both.1),
+    ap (λ (k : Key). k.ia) both.1,
+  ),
+)
 
-      pub of_first : (x : X) → Contains (take count xs) x ↔ (Contains xs x
-          × ((row_of x).key.app ≡ (row_of first).key.app))
-      of_first = between nat_list_cmp_total (λ x. (row_of x).key.app) name_ties xs (row_of first).key.app 0 count
-          (omega arith) ((λ k d low high. absurd (omega arith)), none_less) le point
+-- the rows of a block are of one application
+pub one_in_block : {X : Type 0} (row_of : X → Row) (block : Block (List ℕ) X)
+    → ((x : X) → Contains block.items.items x → (row_of x).key.app ≡ block.group) → HaveOneApp row_of block.items.items
+one_in_block row_of block own x y at_x at_y = own x at_x ∙ sym (own y at_y)
 
-      pub some_of_first : 0 < length (take count xs)
-      some_of_first =
-          let (k, lt, at) = (of_first first).1 ((0, some, sym at_first), refl) in
-          omega arith
-
-      pub one_of_first : HaveOneApp row_of (take count xs)
-      one_of_first x y at_x at_y = ((of_first x).0 at_x).1 ∙ sym ((of_first y).0 at_y).1
+-- what passes in one block more
+pub filter_block : {X : Type 0} (p : X → Bool) (blocks : List (Block (List ℕ) X)) (index : ℕ)
+    (block : Block (List ℕ) X) (early found after : List X) → index < length blocks → block ≡ get_or blocks index block
+    → early ≡ filter p block.items.items → found ≡ filter p (items_in (take index blocks)) → after ≡ found ++ early
+    → after ≡ filter p (items_in (take (index + 1) blocks))
+filter_block p blocks index block early found after lt at is_early is_found is =
+    is ∙ (λ i. is_found i ++ is_early i) ∙ sym (filter-append p (items_in (take index blocks)) block.items.items)
+    ∙ ap (filter p) (sym (items_more blocks index block lt at))
 
 -- what passes, where that stands at the front
 pub filter_front : {X : Type 0} (p : X → Bool) (xs : List X) (count : ℕ) → count ≤ length xs
@@ -150,17 +155,3 @@ pub push_failing : {X : Type 0} (p : X → Bool) (xs : List X) (x : X) → p x �
 push_failing p xs x is =
     let none : filter p (x ∷ []) ≡ [] = rw is refl in
     filter-append p xs (x ∷ []) ∙ ap (λ l. filter p xs ++ l) none ∙ append-nil (filter p xs)
-
--- one part of a list more
-pub filter_part : {X : Type 0} (p : X → Bool) (xs front early found after : List X) (start : ℕ) → start ≤ length xs
-    → front ≡ take (length front) (drop start xs) → early ≡ filter p front → found ≡ filter p (take start xs)
-    → after ≡ found ++ early
-    → (start + length front ≤ length xs) × (after ≡ filter p (take (start + length front) xs))
-filter_part p xs front early found after start le is_front is_early is_found is =
-    let long : length front ≡ min (length front) (length (drop start xs)) = ap length is_front
-    ∙ length-take (length front) (drop start xs) in
-    let more : take (start + length front) xs ≡ take start xs ++ front = take-add start (length front) xs
-    ∙ ap (λ l. take start xs ++ l) (sym is_front) in (
-      omega (arith, length-drop start xs),
-      is ∙ (λ i. is_found i ++ is_early i) ∙ sym (filter-append p (take start xs) front) ∙ ap (filter p) (sym more),
-    )

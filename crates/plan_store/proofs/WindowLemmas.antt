@@ -154,7 +154,7 @@ module _ (c : Content) (numbered : AreNumbered c.sets) (own : HaveOwnKeys c.sets
 
 -- a window that has the rows of history that were asked for, and all of history, shows what the need names
 module _ (need : Need) (view : View) (kept : Kept) (lasts : List Row) (whole : view.content.now ≡ kept)
-    (asked : IsPrepared need lasts kept) (history : view.history.now ≡ kept.history.items) where
+    (asked : IsPrepared need lasts kept) (history : view.history.now.items ≡ kept.history.items) where
   shows_lasts : shown view ≡ named need (look_up row_serial lasts) (content_of kept)
       → (shown view).sets.history ≡ look_up row_serial lasts
       → (AreNumbered (content_of kept).sets → HaveOwnKeys (content_of kept).sets
@@ -168,7 +168,7 @@ module _ (need : Need) (view : View) (kept : Kept) (lasts : List Row) (whole : v
   }
 
 pub shows_key : (key : KeyValue) (view : View) (kept : Kept) (lasts : List Row) → view.content.now ≡ kept
-    → IsPrepared (Key key) lasts kept → view.history.now ≡ kept.history.items
+    → IsPrepared (Key key) lasts kept → view.history.now.items ≡ kept.history.items
     → shown view ≡ with_part kept.buffer.key (look_up row_serial lasts) (λ _. None) (content_of kept)
     → Shows (Key key) view (content_of kept)
 shows_key key view kept lasts whole asked history is =
@@ -182,7 +182,7 @@ shows_key key view kept lasts whole asked history is =
 
 -- a window of the long-term plan has all deletions, and shows those that keep keys from being made
 pub shows_plan : (view : View) (kept : Kept) (lasts : List Row) → view.content.now ≡ kept
-    → IsPrepared LongTerm lasts kept → view.history.now ≡ kept.history.items
+    → IsPrepared LongTerm lasts kept → view.history.now.items ≡ kept.history.items
     → shown view ≡ with_part kept.buffer.key (look_up row_serial lasts)
     (λ serial. keep (bars kept.bounds) (look_up deletion_serial kept.deletions.items serial)) (content_of kept)
     → Shows LongTerm view (content_of kept)

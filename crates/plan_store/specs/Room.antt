@@ -7,6 +7,7 @@ use Rattle.planner_machine.specs.Content.{Content}
 use Rattle.planner_machine.specs.declared.content.Bounds.{Bounds}
 use Rattle.planner_machine.specs.declared.job.Job.{Job}
 use Rattle.plan_store_lists.specs.PairBlocks.{HasPairRoom}
+use Rattle.plan_store_lists.specs.RowLists.{HasRowRoom as HasRoomForRows}
 use Rattle.plan_store_lists.specs.Rows.{of_current, of_deletion, of_row}
 use Rattle.plan_store_lists.specs.Seats.{HasSeats}
 use Rattle.plan_store_lists.specs.declared.blocks.Blocks.{Blocks}
@@ -96,10 +97,10 @@ pub record HasPutSeats (change : Change) (kept : Kept) : Type 0 where
 
 -- there is room for what the change puts into each list of rows, and for a job; and each serial that it puts is found
 pub record HasRowRoom (change : Change) (kept : Kept) : Type 0 where
-  pub ltp : vec_len kept.ltp + vec_len change.ltp.put ≤ vec_capacity kept.ltp
-  pub cp : vec_len kept.cp + vec_len change.cp.put ≤ vec_capacity kept.cp
-  pub history : vec_len kept.history + vec_len change.history.put ≤ vec_capacity kept.history
-  pub deletions : vec_len kept.deletions + vec_len change.deletions.put ≤ vec_capacity kept.deletions
+  pub ltp : HasRoomForRows of_row change.ltp.put.items kept.ltp
+  pub cp : HasRoomForRows of_current change.cp.put.items kept.cp
+  pub history : HasRoomForRows of_row change.history.put.items kept.history
+  pub deletions : HasRoomForRows of_deletion change.deletions.put.items kept.deletions
   pub jobs : vec_len kept.jobs + 1 ≤ vec_capacity kept.jobs
   pub ltp_seats : HasSeats of_row change.ltp.put.items kept.seats
   pub cp_seats : HasSeats of_current change.cp.put.items kept.seats

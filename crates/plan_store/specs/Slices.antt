@@ -1,11 +1,7 @@
 -- Parts of a list of rows.
-use Rattle.std.specs.Prelude.{◌≡◌, List, Contains, length, take}
+use Rattle.std.specs.Prelude.{◌≡◌, List, Contains}
 use Rattle.occurrences.specs.declared.row.Row.{Row}
 
 -- all are of one application
 abbrev pub HaveOneApp : {X : Type 0} → (X → Row) → List X → Type 0
 HaveOneApp {X} row_of xs = (x y : X) → Contains xs x → Contains xs y → (row_of x).key.app ≡ (row_of y).key.app
-
--- the first items of a list
-abbrev pub IsFront : {X : Type 0} → List X → List X → Type 0
-IsFront front xs = front ≡ take (length front) xs

@@ -100,14 +100,14 @@ shown view = record {
   sets = record {
     bounds = view.content.now.bounds;
     issued = view.content.now.issued;
-    ltp = look_up row_serial view.ltp.now;
-    cp = look_up current_serial view.cp.now;
+    ltp = look_up row_serial view.ltp.now.items;
+    cp = look_up current_serial view.cp.now.items;
     history = look_up row_serial view.lasts.now;
-    deletions = λ serial. keep (bars view.content.now.bounds) (look_up deletion_serial view.deletions.now serial);
+    deletions = λ serial. keep (bars view.content.now.bounds) (look_up deletion_serial view.deletions.now.items serial);
   };
   in_force = view.content.now.in_force;
-  pairs = needed_pairs view.key.now (look_up row_serial view.ltp.now) (look_up current_serial view.cp.now)
-      (look_up row_serial view.history.now) view.pairs.now;
+  pairs = needed_pairs view.key.now (look_up row_serial view.ltp.now.items) (look_up current_serial view.cp.now.items)
+      (look_up row_serial view.history.now.items) view.pairs.now;
   jobs = λ _. None;
 }
 
@@ -193,7 +193,7 @@ key_of (need.Daily t) = None
 -- a pair comes with both its rows: if its predecessor is in history, the window has it
 abbrev pub HasPredecessors : (ℕ → Option Row) → View → Type 0
 HasPredecessors history view = (pair : Pair) → Contains (shown view).pairs pair
-    → look_up row_serial view.history.now pair.predecessor ≡ history pair.predecessor
+    → look_up row_serial view.history.now.items pair.predecessor ≡ history pair.predecessor
 
 -- if the live row of the key is in history, the window shows it
 abbrev pub ShowsLive : Option Key → (ℕ → Option Row) → View → Type 0

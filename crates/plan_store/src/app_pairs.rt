@@ -14,18 +14,18 @@ ghost use Rattle.plan_store.specs.declared.listings.What.{What as Showable};
 
 use crate::contents::Content;
 use crate::listings::{Item, ItemSink, ListFault};
-use crate::slices::{of_app, of_serial};
+use crate::slices::of_serial;
 use external_dependencies::{Pair, Pairs};
-use occurrences::{Row, Serial};
-use plan_store_lists::{PairBlocks, PlanRow, SeatBlocks};
+use occurrences::{Deletion, Row, Serial};
+use plan_store_lists::{PairBlocks, PlanRow, RowBlocks, SeatBlocks};
 use std::alloc::{AllocError, Global};
 use work_calendars::App;
 
 // What the list has under the serial.
-fn row_in<T: PlanRow>(list: &[T], seats: &SeatBlocks, serial: Serial) -> Option<T>
-    requires rows { AreRows T.row_of list.now }
-    requires seated { HasSeats T.row_of list.now seats.now }
-    ensures { result ≡ look_up (λ x. (T.row_of x).serial) list.now serial }
+fn row_in<T: PlanRow>(list: &RowBlocks<T>, seats: &SeatBlocks, serial: Serial) -> Option<T>
+    requires rows { AreRows T.row_of list.now.items }
+    requires seated { HasSeats T.row_of list.now.items seats.now }
+    ensures { result ≡ look_up (λ x. (T.row_of x).serial) list.now.items serial }
 {
     of_serial(list, seats, serial)
 }
@@ -102,10 +102,10 @@ impl Content {
             (with_others others.now (content_of self.now).sets) self.now.pairs found) }
     {
         let mut found = Vec::new(alloc);
-        push_pairs(&mut found, &self.pairs, of_app(&self.ltp, app), app)?;
-        push_pairs(&mut found, &self.pairs, of_app(&self.cp, app), app)?;
-        push_pairs(&mut found, &self.pairs, of_app(&self.history, app), app)?;
-        push_pairs(&mut found, &self.pairs, of_app(&self.deletions, app), app)?;
+        push_pairs(&mut found, &self.pairs, self.ltp.of_app(app), app)?;
+        push_pairs(&mut found, &self.pairs, self.cp.of_app(app), app)?;
+        push_pairs(&mut found, &self.pairs, self.history.of_app(app), app)?;
+        push_pairs(&mut found, &self.pairs, self.deletions.of_app(app), app)?;
         push_pairs(&mut found, &self.pairs, others, app)?;
         Ok(Pairs::from_vec(found))
     }
@@ -169,6 +169,16 @@ impl Content {
         }
     }
 
+    // The rows of history and the deletions that the lists have, as lists of their own.
+    fn own_rest(&self, alloc: Global) -> Result<(Vec<Row>, Vec<Deletion>), AllocError>
+        ensures history { IfOk result (λ rest. rest.0.items ≡ self.now.history.items) }
+        ensures deletions { IfOk result (λ rest. rest.1.items ≡ self.now.deletions.items) }
+    {
+        let history = self.history.to_vec(alloc)?;
+        let deletions = self.deletions.to_vec(alloc)?;
+        Ok((history, deletions))
+    }
+
     /// Hands the sink the pairs, as `rows_to` does, where the lists have all of history and all deletions.
     pub(crate) fn listed_pairs_to<K: ItemSink>(
         &self,
@@ -186,7 +196,13 @@ impl Content {
     {
         match app {
             Some(app) => self.app_pairs_to(alloc, &[], app, sink),
-            None => self.pairs_to(alloc, &self.history, &self.deletions, None, sink),
+            None => {
+                self.pairs.rise();
+                match self.own_rest(alloc) {
+                    Ok(rest) => self.pairs_to(alloc, &rest.0, &rest.1, None, sink),
+                    Err(_) => Err(ListFault::Memory),
+                }
+            }
         }
     }
 

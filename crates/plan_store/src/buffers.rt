@@ -1,14 +1,14 @@
 ghost use Rattle.std.specs.Prelude.{◌≡◌, [], false, true};
 
-use occurrences::{Key, Row};
-use plan_store_lists::PairBlocks;
+use occurrences::{CurrentRow, Deletion, Key, Row};
+use plan_store_lists::{PairBlocks, RowBlocks};
 use std::alloc::Global;
 
 // What windows show that is no part of a list of the content. It is filled before a window is lent.
 #[derive(Drop)]
 pub(crate) struct Buffer {
     // the rows of the long-term plan that the latest daily window shows
-    pub(crate) early: Vec<Row>,
+    pub(crate) early: RowBlocks<Row>,
     // the rows of history that the latest window on a key shows
     pub(crate) lasts: Vec<Row>,
     // the rows of history that the latest window on the long-term plan showed
@@ -19,7 +19,14 @@ pub(crate) struct Buffer {
     pub(crate) key: Option<Key>,
     // the pairs of a window that shows none
     pub(crate) no_pairs: PairBlocks,
+    // the rows of a set of which a window shows none
+    pub(crate) no_rows: RowBlocks<Row>,
+    pub(crate) no_current: RowBlocks<CurrentRow>,
+    pub(crate) no_deletions: RowBlocks<Deletion>,
     ghost none: { no_pairs ≡ [] },
+    ghost no_row: { no_rows.items ≡ [] },
+    ghost no_current_row: { no_current.items ≡ [] },
+    ghost no_deletion: { no_deletions.items ≡ [] },
 }
 
 impl Buffer {
@@ -28,12 +35,15 @@ impl Buffer {
         ensures { result.has_plan_lasts ≡ false }
     {
         Buffer {
-            early: Vec::new(alloc),
+            early: RowBlocks::new(alloc),
             lasts: Vec::new(alloc),
             plan_lasts: Vec::new(alloc),
             has_plan_lasts: false,
             key: None,
             no_pairs: PairBlocks::new(alloc),
+            no_rows: RowBlocks::new(alloc),
+            no_current: RowBlocks::new(alloc),
+            no_deletions: RowBlocks::new(alloc),
         }
     }
     // Forgets the rows of the window on the long-term plan, unless what they depend on stays.

@@ -8,7 +8,6 @@ use crate::moving::move_rows;
 use crate::pairs::change_pairs;
 use crate::queries::last_queries_of;
 use crate::redefining::{begin, end, undo};
-use crate::room::grow;
 use crate::slices::arriving_before;
 use crate::staged::Staged;
 use crate::stores::Need;
@@ -16,12 +15,13 @@ use crate::views::View;
 use app_definitions::Definitions;
 use external_dependencies::{Links, Pair};
 use occurrences::{CurrentRow, Deletion, Row};
-use plan_store_lists::{Blocks, PairBlocks, SeatBlocks, note_rows, reserve_for};
+use plan_store_lists::{Blocks, PairBlocks, RowBlocks, SeatBlocks, note_rows, reserve_for};
 use planner_machine::{Bounds, Job};
 use std::alloc::{AllocError, Global};
 use std::mem::replace;
+use work_calendars::Moment;
 
-/// All that a planner knows, each set of rows as a list by application, input arrival and serial.
+/// All that a planner knows, each set of rows as a list by application, input arrival and serial, in blocks.
 #[derive(Drop)]
 pub struct Content {
     /// The definitions.
@@ -33,13 +33,13 @@ pub struct Content {
     /// The lists in force.
     pub in_force: Links,
     /// The long-term plan.
-    pub ltp: Vec<Row>,
+    pub ltp: RowBlocks<Row>,
     /// The current plan.
-    pub cp: Vec<CurrentRow>,
+    pub cp: RowBlocks<CurrentRow>,
     /// History.
-    pub history: Vec<Row>,
+    pub history: RowBlocks<Row>,
     /// The deletions.
-    pub deletions: Vec<Deletion>,
+    pub deletions: RowBlocks<Deletion>,
     /// The pairs of successors and predecessors.
     pub pairs: PairBlocks,
     /// The kept jobs, by number.
@@ -87,7 +87,7 @@ impl Content {
     ghost use Rattle.plan_store.specs.Room.{no_jobs, with_bounds_of, with_definitions, with_in_force, with_job_set};
     ghost use Rattle.plan_store.specs.Staged.{IsReady, IsStagedFor};
     ghost use Rattle.plan_store.specs.declared.changes.DefinitionChange.TheVariants.{AsBefore};
-    ghost use Rattle.plan_store.specs.declared.stores.Need.TheVariants.{LongTerm};
+    ghost use Rattle.plan_store.specs.declared.stores.Need.TheVariants.{Daily, LongTerm};
 
     /// The content before the first statement.
     pub fn new(alloc: Global) -> Content
@@ -98,10 +98,10 @@ impl Content {
             bounds: None,
             issued: 0,
             in_force: Links::new(alloc),
-            ltp: Vec::new(alloc),
-            cp: Vec::new(alloc),
-            history: Vec::new(alloc),
-            deletions: Vec::new(alloc),
+            ltp: RowBlocks::new(alloc),
+            cp: RowBlocks::new(alloc),
+            history: RowBlocks::new(alloc),
+            deletions: RowBlocks::new(alloc),
             pairs: PairBlocks::new(alloc),
             jobs: Vec::new(alloc),
             seats: SeatBlocks::new(alloc),
@@ -117,11 +117,23 @@ impl Content {
         ensures filled { OnOk result (IsFilled need.now self.new) }
     {
         match need {
-            Need::Daily(moment) => arriving_before(&mut self.buffer.early, &self.ltp, *moment),
+            Need::Daily(moment) => self.fill_early(*moment),
             Need::Key(_) => self.fill_for(need),
             Need::LongTerm => self.fill_plan(),
             Need::Definitions => Ok(()),
         }
+    }
+
+    // Fills the buffer with the rows of the long-term plan that arrive before the moment.
+    fn fill_early(&mut self, moment: Moment) -> Result<(), AllocError>
+        ensures same { content_of self.new ≡ content_of self.old }
+        ensures filled { OnOk result (IsFilled (Daily moment) self.new) }
+    {
+        let alloc = *self.buffer.lasts.allocator();
+        let found = arriving_before(alloc, &self.ltp, moment)?;
+        let early = RowBlocks::from_rows(alloc, &found)?;
+        self.buffer.early = early;
+        Ok(())
     }
 
     // Fills the buffer with the rows of history that a statement with the need reads, which is of a key.
@@ -159,21 +171,27 @@ impl Content {
             → TellsSizes (content_of self.now).sets result }
     {
         match need {
-            Need::Definitions => self.window_of_plans(&[], &[]),
+            Need::Definitions => {
+                self.window_of_plans(&self.buffer.no_rows, &self.buffer.no_current)
+            }
             Need::Daily(_) => self.window_of_plans(&self.buffer.early, &self.cp),
-            Need::Key(_) => self.window_of_lasts(&self.buffer.lasts, &[]),
+            Need::Key(_) => { self.window_of_lasts(&self.buffer.lasts, &self.buffer.no_deletions) }
             Need::LongTerm => self.window_of_lasts(&self.buffer.plan_lasts, &self.deletions),
         }
     }
 
     // A window of these rows of the two plans, and no other row or pair.
-    fn window_of_plans<'a>(&'a self, ltp: &'a [Row], cp: &'a [CurrentRow]) -> View<'a>
-        requires ltp_rows { AreRows of_row ltp.now }
-        requires ltp_seats { HasSeats of_row ltp.now self.now.seats }
-        requires cp_rows { AreRows of_current cp.now }
-        requires cp_seats { HasSeats of_current cp.now self.now.seats }
-        ensures shown { shown result ≡ with_plans_alone (look_up row_serial ltp.now)
-            (look_up current_serial cp.now) (content_of self.now) }
+    fn window_of_plans<'a>(
+        &'a self,
+        ltp: &'a RowBlocks<Row>,
+        cp: &'a RowBlocks<CurrentRow>,
+    ) -> View<'a>
+        requires ltp_rows { AreRows of_row ltp.now.items }
+        requires ltp_seats { HasSeats of_row ltp.now.items self.now.seats }
+        requires cp_rows { AreRows of_current cp.now.items }
+        requires cp_seats { HasSeats of_current cp.now.items self.now.seats }
+        ensures shown { shown result ≡ with_plans_alone (look_up row_serial ltp.now.items)
+            (look_up current_serial cp.now.items) (content_of self.now) }
         ensures whole { result.content.now ≡ self.now }
     {
         View {
@@ -181,26 +199,31 @@ impl Content {
             ltp,
             cp,
             lasts: &[],
-            deletions: &[],
+            deletions: &self.buffer.no_deletions,
             pairs: &self.buffer.no_pairs,
             key: &self.buffer.key,
-            history: &[],
+            history: &self.buffer.no_rows,
         }
     }
 
     // A window of both plans and the pairs that are asked for, with both their rows, of these rows of history, which were
     // asked for, and of these deletions what keeps keys from being made. On which key it is was noted where it was
     // filled.
-    fn window_of_lasts<'a>(&'a self, lasts: &'a [Row], deletions: &'a [Deletion]) -> View<'a>
+    fn window_of_lasts<'a>(
+        &'a self,
+        lasts: &'a [Row],
+        deletions: &'a RowBlocks<Deletion>,
+    ) -> View<'a>
         requires lasts { AreRows of_row lasts.now }
         requires part { (row : RowValue) → Contains lasts.now row
             → Contains self.now.history.items row }
-        requires rows { AreRows of_deletion deletions.now }
-        requires seats { HasSeats of_deletion deletions.now self.now.seats }
+        requires rows { AreRows of_deletion deletions.now.items }
+        requires seats { HasSeats of_deletion deletions.now.items self.now.seats }
         ensures shown { shown result ≡ with_part self.now.buffer.key (look_up row_serial lasts.now)
-            (λ serial. keep (bars self.now.bounds) (look_up deletion_serial deletions.now serial))
+            (λ serial. keep (bars self.now.bounds)
+            (look_up deletion_serial deletions.now.items serial))
             (content_of self.now) }
-        ensures history { result.history.now ≡ self.now.history.items }
+        ensures history { result.history.now.items ≡ self.now.history.items }
         ensures whole { result.content.now ≡ self.now }
     {
         View {
@@ -266,16 +289,21 @@ impl Content {
     }
 
     // Makes room for the rows and the job that the change puts, whose serials are noted.
-    fn reserve(&mut self, change: &Change) -> Result<(), AllocError>
-        requires { HasPutSeats change.now self.old }
+    fn reserve(&mut self, alloc: Global, change: &Change) -> Result<(), AllocError>
+        requires seats { HasPutSeats change.now self.old }
+        requires ltp { HasEachOnce of_row change.now.ltp.put.items }
+        requires cp { HasEachOnce of_current change.now.cp.put.items }
+        requires history { HasEachOnce of_row change.now.history.put.items }
+        requires deletions { HasEachOnce of_deletion change.now.deletions.put.items }
         ensures same { HasSame self.old self.new }
         ensures room { OnOk result (HasRowRoom change.now self.new) }
     {
-        grow(&mut self.ltp, change.ltp.put.len())?;
-        grow(&mut self.cp, change.cp.put.len())?;
-        grow(&mut self.history, change.history.put.len())?;
-        grow(&mut self.deletions, change.deletions.put.len())?;
-        self.jobs.reserve(1)
+        self.ltp.reserve(alloc, &change.ltp.put)?;
+        self.cp.reserve(alloc, &change.cp.put)?;
+        self.history.reserve(alloc, &change.history.put)?;
+        self.deletions.reserve(alloc, &change.deletions.put)?;
+        self.jobs.reserve(1)?;
+        Ok(())
     }
 
     // Makes room for all that the change puts, and takes the pairs out of the content. If memory is refused, the content
@@ -289,7 +317,7 @@ impl Content {
         ensures err { OnErr result (content_of self.new ≡ content_of self.old) }
     {
         self.note(alloc, change)?;
-        self.reserve(change)?;
+        self.reserve(alloc, change)?;
         let mut pairs = replace(&mut self.pairs, PairBlocks::new(alloc)).into_blocks();
         match reserve_for(alloc, &mut pairs, change.pairs.added.as_slice()) {
             Ok(()) => Ok(pairs),

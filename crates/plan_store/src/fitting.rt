@@ -13,7 +13,7 @@ use crate::contents::Content;
 use crate::slices::of_serial;
 use itertools::Itertools;
 use occurrences::{CurrentRow, Deletion, Row};
-use plan_store_lists::{PlanRow, SeatBlocks};
+use plan_store_lists::{PlanRow, RowBlocks, SeatBlocks};
 use planner_machine::Job;
 use std::alloc::{AllocError, Global};
 
@@ -43,20 +43,20 @@ impl Whole for Deletion {
 }
 
 // The row of its serial in the list.
-fn of_same_serial<T: PlanRow>(list: &[T], seats: &SeatBlocks, x: &T) -> Option<T>
-    requires rows { AreRows T.row_of list.now }
-    requires seated { HasSeats T.row_of list.now seats.now }
-    ensures { result ≡ look_up (λ y. (T.row_of y).serial) list.now (T.row_of x.now).serial }
+fn of_same_serial<T: PlanRow>(list: &RowBlocks<T>, seats: &SeatBlocks, x: &T) -> Option<T>
+    requires rows { AreRows T.row_of list.now.items }
+    requires seated { HasSeats T.row_of list.now.items seats.now }
+    ensures { result ≡ look_up (λ y. (T.row_of y).serial) list.now.items (T.row_of x.now).serial }
 {
     of_serial(list, seats, x.row().serial)
 }
 
 // Whether the list has the row.
-fn stands<T: Whole>(list: &[T], seats: &SeatBlocks, x: &T) -> bool
-    requires rows { AreRows T.row_of list.now }
-    requires seated { HasSeats T.row_of list.now seats.now }
+fn stands<T: Whole>(list: &RowBlocks<T>, seats: &SeatBlocks, x: &T) -> bool
+    requires rows { AreRows T.row_of list.now.items }
+    requires seated { HasSeats T.row_of list.now.items seats.now }
     ensures { IsTrue result
-        ↔ (look_up (λ y. (T.row_of y).serial) list.now (T.row_of x.now).serial ≡ Some x.now) }
+        ↔ (look_up (λ y. (T.row_of y).serial) list.now.items (T.row_of x.now).serial ≡ Some x.now) }
 {
     match of_same_serial(list, seats, x) {
         Some(was) => was.is(x),
@@ -72,11 +72,11 @@ fn same_key(row: &Row, other: &Row) -> bool
 }
 
 // Whether the list has a row of its serial under its key.
-fn stands_as<T: PlanRow>(list: &[T], seats: &SeatBlocks, x: &T) -> bool
-    requires rows { AreRows T.row_of list.now }
-    requires seated { HasSeats T.row_of list.now seats.now }
+fn stands_as<T: PlanRow>(list: &RowBlocks<T>, seats: &SeatBlocks, x: &T) -> bool
+    requires rows { AreRows T.row_of list.now.items }
+    requires seated { HasSeats T.row_of list.now.items seats.now }
     ensures { IsTrue result ↔ ((was : T)
-        × (look_up (λ y. (T.row_of y).serial) list.now (T.row_of x.now).serial ≡ Some was)
+        × (look_up (λ y. (T.row_of y).serial) list.now.items (T.row_of x.now).serial ≡ Some was)
         × (arrival_of (T.row_of was) ≡ arrival_of (T.row_of x.now))) }
 {
     match of_same_serial(list, seats, x) {
@@ -86,11 +86,11 @@ fn stands_as<T: PlanRow>(list: &[T], seats: &SeatBlocks, x: &T) -> bool
 }
 
 // Whether the list has no row of its serial.
-fn is_new<T: PlanRow>(list: &[T], seats: &SeatBlocks, x: &T) -> bool
-    requires rows { AreRows T.row_of list.now }
-    requires seated { HasSeats T.row_of list.now seats.now }
+fn is_new<T: PlanRow>(list: &RowBlocks<T>, seats: &SeatBlocks, x: &T) -> bool
+    requires rows { AreRows T.row_of list.now.items }
+    requires seated { HasSeats T.row_of list.now.items seats.now }
     ensures { IsTrue result
-        ↔ (look_up (λ y. (T.row_of y).serial) list.now (T.row_of x.now).serial ≡ None) }
+        ↔ (look_up (λ y. (T.row_of y).serial) list.now.items (T.row_of x.now).serial ≡ None) }
 {
     of_same_serial(list, seats, x).is_none()
 }
@@ -118,32 +118,32 @@ fn names_each_once<T: PlanRow>(alloc: Global, moves: &Moves<T>) -> Result<bool, 
 }
 
 // Whether the list has what goes.
-fn gone_stand<T: Whole>(list: &[T], seats: &SeatBlocks, moves: &Moves<T>) -> bool
-    requires rows { AreRows T.row_of list.now }
-    requires seated { HasSeats T.row_of list.now seats.now }
+fn gone_stand<T: Whole>(list: &RowBlocks<T>, seats: &SeatBlocks, moves: &Moves<T>) -> bool
+    requires rows { AreRows T.row_of list.now.items }
+    requires seated { HasSeats T.row_of list.now.items seats.now }
     ensures { IsTrue result ↔ ((x : T) → Contains moves.now.gone.items x
-        → look_up (λ y. (T.row_of y).serial) list.now (T.row_of x).serial ≡ Some x) }
+        → look_up (λ y. (T.row_of y).serial) list.now.items (T.row_of x).serial ≡ Some x) }
 {
     moves.gone.iter().all(|x| stands(list, seats, x))
 }
 
 // Whether the list has what changes, under its key.
-fn changed_stand<T: PlanRow>(list: &[T], seats: &SeatBlocks, moves: &Moves<T>) -> bool
-    requires rows { AreRows T.row_of list.now }
-    requires seated { HasSeats T.row_of list.now seats.now }
+fn changed_stand<T: PlanRow>(list: &RowBlocks<T>, seats: &SeatBlocks, moves: &Moves<T>) -> bool
+    requires rows { AreRows T.row_of list.now.items }
+    requires seated { HasSeats T.row_of list.now.items seats.now }
     ensures { IsTrue result ↔ ((x : T) → Contains moves.now.changed.items x → (was : T)
-        × (look_up (λ y. (T.row_of y).serial) list.now (T.row_of x).serial ≡ Some was)
+        × (look_up (λ y. (T.row_of y).serial) list.now.items (T.row_of x).serial ≡ Some was)
         × (arrival_of (T.row_of was) ≡ arrival_of (T.row_of x))) }
 {
     moves.changed.iter().all(|x| stands_as(list, seats, x))
 }
 
 // Whether nothing in the list has a serial of what is put.
-fn put_are_new<T: PlanRow>(list: &[T], seats: &SeatBlocks, moves: &Moves<T>) -> bool
-    requires rows { AreRows T.row_of list.now }
-    requires seated { HasSeats T.row_of list.now seats.now }
+fn put_are_new<T: PlanRow>(list: &RowBlocks<T>, seats: &SeatBlocks, moves: &Moves<T>) -> bool
+    requires rows { AreRows T.row_of list.now.items }
+    requires seated { HasSeats T.row_of list.now.items seats.now }
     ensures { IsTrue result ↔ ((x : T) → Contains moves.now.put.items x
-        → look_up (λ y. (T.row_of y).serial) list.now (T.row_of x).serial ≡ None) }
+        → look_up (λ y. (T.row_of y).serial) list.now.items (T.row_of x).serial ≡ None) }
 {
     moves.put.iter().all(|x| is_new(list, seats, x))
 }
@@ -151,14 +151,14 @@ fn put_are_new<T: PlanRow>(list: &[T], seats: &SeatBlocks, moves: &Moves<T>) -> 
 // Whether what moves fits the set.
 fn fits_set<T: Whole>(
     alloc: Global,
-    list: &[T],
+    list: &RowBlocks<T>,
     seats: &SeatBlocks,
     moves: &Moves<T>,
 ) -> Result<bool, AllocError>
-    requires rows { AreRows T.row_of list.now }
-    requires seated { HasSeats T.row_of list.now seats.now }
+    requires rows { AreRows T.row_of list.now.items }
+    requires seated { HasSeats T.row_of list.now.items seats.now }
     ensures { IfOk result (λ fits. IsTrue fits
-        ↔ FitsSet T.row_of moves.now (look_up (λ x. (T.row_of x).serial) list.now)) }
+        ↔ FitsSet T.row_of moves.now (look_up (λ x. (T.row_of x).serial) list.now.items)) }
 {
     if !gone_stand(list, seats, moves) {
         return Ok(false);

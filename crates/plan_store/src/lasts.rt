@@ -10,22 +10,22 @@ ghost use Rattle.plan_store.specs.Views.{key_of, row_serial};
 use crate::arrivals::arrival;
 use crate::parts::put_row;
 use crate::queries::LastQuery;
-use crate::slices::{before, of_app};
+use crate::slices::before;
 use crate::stores::Need;
 use occurrences::{Key, Row};
-use plan_store_lists::has_key;
+use plan_store_lists::{RowBlocks, has_key};
 use std::alloc::AllocError;
 
 /// Fills the list with the last row of each query, by application, input arrival and serial.
 pub(crate) fn fill_lasts(
     lasts: &mut Vec<Row>,
-    history: &[Row],
+    history: &RowBlocks<Row>,
     queries: &[LastQuery],
 ) -> Result<(), AllocError>
-    requires { AreRows of_row history.now }
+    requires { AreRows of_row history.now.items }
     ensures rows { OnOk result (AreRows of_row lasts.new.items) }
     ensures lasts { OnOk result (HasLasts (IsQueriedIn queries.now)
-        (look_up row_serial history.now) (look_up row_serial lasts.new.items)) }
+        (look_up row_serial history.now.items) (look_up row_serial lasts.new.items)) }
 {
     lasts.clear();
     for query in queries {
@@ -35,14 +35,18 @@ pub(crate) fn fill_lasts(
 }
 
 // Adds the last row of the query, unless the list has it.
-fn add_last(lasts: &mut Vec<Row>, history: &[Row], query: &LastQuery) -> Result<(), AllocError>
-    requires history { AreRows of_row history.now }
+fn add_last(
+    lasts: &mut Vec<Row>,
+    history: &RowBlocks<Row>,
+    query: &LastQuery,
+) -> Result<(), AllocError>
+    requires history { AreRows of_row history.now.items }
     requires rows { AreRows of_row lasts.old.items }
     requires part { (serial : ℕ) (row : RowValue)
         → look_up row_serial lasts.old.items serial ≡ Some row
-        → look_up row_serial history.now serial ≡ Some row }
+        → look_up row_serial history.now.items serial ≡ Some row }
     ensures rows { OnOk result (AreRows of_row lasts.new.items) }
-    ensures adds { OnOk result (AddsLast (look_up row_serial history.now) query.now.app
+    ensures adds { OnOk result (AddsLast (look_up row_serial history.now.items) query.now.app
         (query.now.moment + 1) (look_up row_serial lasts.old.items)
         (look_up row_serial lasts.new.items)) }
 {
@@ -56,13 +60,13 @@ fn add_last(lasts: &mut Vec<Row>, history: &[Row], query: &LastQuery) -> Result<
 }
 
 // The last row of the query.
-fn last_row(history: &[Row], query: &LastQuery) -> Option<Row>
-    requires { AreRows of_row history.now }
+fn last_row(history: &RowBlocks<Row>, query: &LastQuery) -> Option<Row>
+    requires { AreRows of_row history.now.items }
     ensures { MatchOption result
-        (LacksBefore (look_up row_serial history.now) query.now.app (query.now.moment + 1))
-        (IsLastOf (look_up row_serial history.now) query.now.app (query.now.moment + 1)) }
+        (LacksBefore (look_up row_serial history.now.items) query.now.app (query.now.moment + 1))
+        (IsLastOf (look_up row_serial history.now.items) query.now.app (query.now.moment + 1)) }
 {
-    let rows = before(of_app(history, &query.app), query.moment.number() + 1);
+    let rows = before(history.of_app(&query.app), query.moment.number() + 1);
     let count = rows.len();
     if count == 0 {
         return None;

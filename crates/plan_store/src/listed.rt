@@ -20,10 +20,9 @@ ghost use Rattle.plan_store.specs.declared.listings.What.{What as Showable};
 
 use crate::contents::Content;
 use crate::listings::{Item, ItemRefused, ItemSink, ListFault, What};
-use crate::slices::of_app;
 use external_dependencies::{Link, Links, Pair};
 use occurrences::{CurrentRow, Deletion, Row, Serial, Status};
-use plan_store_lists::PlanRow;
+use plan_store_lists::{PlanRow, RowBlocks};
 use std::alloc::{AllocError, Global};
 use work_calendars::App;
 
@@ -78,13 +77,55 @@ impl Lettered for Deletion {
     }
 }
 
-// The rows by input arrival, application and serial. They are sorted in place, so that no memory is needed.
-fn in_order<T: PlanRow>(alloc: Global, rows: &[T]) -> Result<Vec<&T>, AllocError>
-    ensures { IfOk result (λ found. SortsRows T.row_of rows.now (map (λ x. x.now) found.items)) }
+// Adds rows to those that are listed.
+fn push_rows<'a, T: PlanRow>(found: &mut Vec<&'a T>, rows: &'a [T]) -> Result<(), AllocError>
+    ensures { OnOk result (map (λ x. x.now) found.new.items
+        ≡ map (λ x. x.now) found.old.items ++ rows.now) }
 {
-    let mut found: Vec<&T> = rows.iter().collect(alloc)?;
-    found.sort_unstable_by_key(|x| x.row());
-    Ok(found)
+    for x in rows {
+        found.push(x)?;
+    }
+    Ok(())
+}
+
+// The rows of one application, or all, in their order.
+fn part_of<'a, T: PlanRow>(
+    alloc: Global,
+    list: &'a RowBlocks<T>,
+    app: Option<&App>,
+) -> Result<Vec<&'a T>, AllocError>
+    ensures keyed { IfOk result (λ found. IsKeyed arrival_cmp (λ x. arrival_of (T.row_of x))
+        (map (λ x. x.now) found.items)) }
+    ensures all { IfOk result (λ found. (x : T) → Contains (map (λ y. y.now) found.items) x
+        ↔ (Contains list.now.items x × IsOfApp (option_copied app.entry) (T.row_of x).key.app)) }
+{
+    let mut found = Vec::new(alloc);
+    match app {
+        Some(app) => {
+            push_rows(&mut found, list.of_app(app))?;
+            Ok(found)
+        }
+        None => {
+            list.rise();
+            push_blocks(&mut found, list)?;
+            Ok(found)
+        }
+    }
+}
+
+// Adds all rows of a set, in their order.
+fn push_blocks<'a, T: PlanRow>(
+    found: &mut Vec<&'a T>,
+    list: &'a RowBlocks<T>,
+) -> Result<(), AllocError>
+    ensures { OnOk result (map (λ x. x.now) found.new.items
+        ≡ map (λ x. x.now) found.old.items ++ list.now.items) }
+{
+    let all = list.blocks();
+    for block in all {
+        push_rows(found, block.items())?;
+    }
+    Ok(())
 }
 
 // Passes the sink one row, with its letter or without one.
@@ -123,41 +164,38 @@ fn emit_each<T: Lettered, K: ItemSink>(
     Ok(rows.len())
 }
 
-// The rows of one application, or all.
-fn part_of<'a, T: PlanRow>(rows: &'a [T], app: Option<&App>) -> &'a [T]
-    ensures keyed { IsKeyed arrival_cmp (λ x. arrival_of (T.row_of x)) rows.now
-        → IsKeyed arrival_cmp (λ x. arrival_of (T.row_of x)) result.now }
-    ensures all { IsKeyed arrival_cmp (λ x. arrival_of (T.row_of x)) rows.now → (x : T)
-        → Contains result.now x
-        ↔ (Contains rows.now x × IsOfApp (option_copied app.entry) (T.row_of x).key.app) }
-{
-    match app {
-        Some(app) => of_app(rows, app),
-        None => rows,
-    }
-}
-
 // Passes the sink the rows of a set, of one application or all, by input arrival, application and serial.
 fn emit_rows<T: Lettered, K: ItemSink>(
     alloc: Global,
-    rows: &[T],
+    list: &RowBlocks<T>,
     app: Option<&App>,
     is_plain: bool,
     sink: &mut K,
 ) -> Result<usize, ListFault>
-    ensures all { AreRows T.row_of rows.now
-        → IfOk result (EmitsAll K.accepts (ShowsSet T.row_of T.letter_of is_plain rows.now
+    ensures all { AreRows T.row_of list.now.items
+        → IfOk result (EmitsAll K.accepts (ShowsSet T.row_of T.letter_of is_plain list.now.items
         (option_copied app.entry)) sink.old sink.new) }
-    ensures part { AreRows T.row_of rows.now
+    ensures part { AreRows T.row_of list.now.items
         → IfErr result (EmitsPart K.accepts K.refuses (ShowsSet T.row_of T.letter_of is_plain
-        rows.now
+        list.now.items
         (option_copied app.entry)) sink.old sink.new) }
     ensures blames { IfErr result (λ fault. fault ≢ ListFault.Device) }
 {
-    match in_order(alloc, part_of(rows, app)) {
-        Ok(found) => emit_each(&found, is_plain, sink),
+    match part_of(alloc, list, app) {
+        Ok(mut found) => {
+            put_in_order(&mut found);
+            emit_each(&found, is_plain, sink)
+        }
         Err(_) => Err(ListFault::Memory),
     }
+}
+
+// Puts rows by input arrival, application and serial. They are sorted in place, so that no memory is needed.
+fn put_in_order<T: PlanRow>(found: &mut Vec<&T>)
+    ensures { SortsRows T.row_of (map (λ x. x.now) found.old.items)
+        (map (λ x. x.now) found.new.items) }
+{
+    found.sort_unstable_by_key(|x| x.row());
 }
 
 // Adds the occurrences of a set.
@@ -170,6 +208,21 @@ fn push_occurrences<'a, T: Lettered>(
 {
     for x in rows {
         all.push(x.occurrence())?;
+    }
+    Ok(())
+}
+
+// Adds the occurrences of all rows of a set.
+fn push_set<'a, T: Lettered>(
+    all: &mut Vec<&'a Row>,
+    list: &'a RowBlocks<T>,
+) -> Result<(), AllocError>
+    ensures { OnOk result (map (λ row. row.now) all.new.items
+        ≡ map (λ row. row.now) all.old.items ++ map T.row_of list.now.items) }
+{
+    let blocks = list.blocks();
+    for block in blocks {
+        push_occurrences(all, block.items())?;
     }
     Ok(())
 }
@@ -272,12 +325,9 @@ impl Content {
             → IfOk result (λ all. AreBySerial (λ row. row.now)
             (with_rest rest (content_of self.now)).sets all.items) }
     {
-        let ltp = self.ltp.as_slice();
-        let cp = self.cp.as_slice();
-        let count = ltp.len() + cp.len() + history.len() + deletions.len();
-        let mut all = Vec::with_capacity(alloc, count)?;
-        push_occurrences(&mut all, ltp)?;
-        push_occurrences(&mut all, cp)?;
+        let mut all = Vec::new(alloc);
+        push_set(&mut all, &self.ltp)?;
+        push_set(&mut all, &self.cp)?;
         push_occurrences(&mut all, history)?;
         push_occurrences(&mut all, deletions)?;
         all.sort_unstable_by_key(|row| row.serial.get());

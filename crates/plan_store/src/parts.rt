@@ -1,7 +1,7 @@
 // Lists that have a part of history and of the deletions, which are stored elsewhere: which part they have, what is
 // loaded into them, and what stays in them.
 
-ghost use Rattle.std.specs.Prelude.{◌≡◌, ◌↔◌, ◌⊎◌, ℕ, Contains, Some, IfOk, OnOk, OnErr, filter, map, is_some, nat_eq};
+ghost use Rattle.std.specs.Prelude.{◌≡◌, ◌↔◌, ◌⊎◌, ◌++◌, ℕ, Contains, Some, IfOk, OnOk, OnErr, filter, map, is_some, nat_eq};
 ghost use Rattle.std.specs.List.{list_any};
 ghost use Rattle.std.specs.List.Sorted.{IsNonDecreasing};
 ghost use Rattle.std.specs.Mem.{FitsInMemory};
@@ -12,17 +12,17 @@ ghost use Rattle.plan_store.specs.Parts.{or_this};
 
 use crate::contents::Content;
 use crate::room::grow;
-use crate::slices::{barring, of_key, of_serial};
+use crate::slices::{barring, of_serial, with_key};
 use occurrences::{CurrentRow, Deletion, Key, Row, Serial};
-use plan_store_lists::{PlanRow, SeatBlocks, insert_all, note_rows};
+use plan_store_lists::{PlanRow, RowBlocks, SeatBlocks, insert_all, note_rows};
 use std::alloc::{AllocError, Global};
 use std::slice::from_ref;
 
 // Whether the list has a row of the serial.
-fn has_serial<T: PlanRow>(list: &[T], seats: &SeatBlocks, serial: Serial) -> bool
-    requires rows { AreRows T.row_of list.now }
-    requires seated { HasSeats T.row_of list.now seats.now }
-    ensures { result ≡ is_some (look_up (λ x. (T.row_of x).serial) list.now serial) }
+fn has_serial<T: PlanRow>(list: &RowBlocks<T>, seats: &SeatBlocks, serial: Serial) -> bool
+    requires rows { AreRows T.row_of list.now.items }
+    requires seated { HasSeats T.row_of list.now.items seats.now }
+    ensures { result ≡ is_some (look_up (λ x. (T.row_of x).serial) list.now.items serial) }
 {
     of_serial(list, seats, serial).is_some()
 }
@@ -47,11 +47,32 @@ pub(crate) fn put_row<T: PlanRow>(list: &mut Vec<T>, row: &T) -> Result<(), Allo
     Ok(())
 }
 
+// The same in blocks.
+fn put_in<T: PlanRow>(alloc: Global, list: &mut RowBlocks<T>, row: &T) -> Result<(), AllocError>
+    requires size { FitsInMemory T.row }
+    requires rows { AreRows T.row_of list.old.items }
+    requires new { look_up (λ x. (T.row_of x).serial) list.old.items (T.row_of row.now).serial
+        ≡ None }
+    ensures rows { AreRows T.row_of list.new.items }
+    ensures comes { (x : T) → Contains list.new.items x
+        → (row.now ≡ x) ⊎ Contains list.old.items x }
+    ensures ok { OnOk result ((serial : ℕ)
+        → look_up (λ x. (T.row_of x).serial) list.new.items serial
+        ≡ or_this (look_up (λ x. (T.row_of x).serial) list.old.items) (T.row_of row.now).serial
+        row.now serial) }
+    ensures err { OnErr result (list.new.items ≡ list.old.items) }
+{
+    let rows = from_ref(row);
+    list.reserve(alloc, rows)?;
+    list.insert(rows);
+    Ok(())
+}
+
 // Puts a row into the list, unless that has one of its serial, and notes its seat. If memory is refused, the list
 // stays as it is.
 fn load<T: PlanRow>(
     alloc: Global,
-    list: &mut Vec<T>,
+    list: &mut RowBlocks<T>,
     seats: &mut SeatBlocks,
     row: &T,
 ) -> Result<(), AllocError>
@@ -72,7 +93,7 @@ fn load<T: PlanRow>(
         return Ok(());
     }
     note_rows(alloc, seats, from_ref(row))?;
-    put_row(list, row)
+    put_in(alloc, list, row)
 }
 
 // Whether the serial is one of these, which are in rising order.
@@ -84,37 +105,57 @@ fn is_among(serials: &[Serial], serial: Serial) -> bool
 }
 
 // Those of the rows that have these serials, which are in rising order.
-fn rows_among(alloc: Global, rows: &[Row], serials: &[Serial]) -> Result<Vec<Row>, AllocError>
+fn rows_among(
+    alloc: Global,
+    rows: &RowBlocks<Row>,
+    serials: &[Serial],
+) -> Result<Vec<Row>, AllocError>
     requires { IsNonDecreasing serials.now }
     ensures { IfOk result (λ found. found.items
-        ≡ filter (λ row. list_any (λ n. nat_eq n row.serial) serials.now) rows.now) }
+        ≡ filter (λ row. list_any (λ n. nat_eq n row.serial) serials.now) rows.now.items) }
 {
-    rows.iter()
-        .copied()
-        .filter(|row| is_among(serials, row.serial))
-        .collect(alloc)
+    let all = rows.blocks();
+    let mut found = Vec::new(alloc);
+    for block in all {
+        push_among(&mut found, block.items(), serials)?;
+    }
+    Ok(found)
+}
+
+// Adds those of the rows that have these serials, which are in rising order.
+fn push_among(found: &mut Vec<Row>, rows: &[Row], serials: &[Serial]) -> Result<(), AllocError>
+    requires { IsNonDecreasing serials.now }
+    ensures { OnOk result (found.new.items ≡ found.old.items
+        ++ filter (λ row. list_any (λ n. nat_eq n row.serial) serials.now) rows.now) }
+{
+    for row in rows {
+        if is_among(serials, row.serial) {
+            found.push(*row)?;
+        }
+    }
+    Ok(())
 }
 
 // The seats of both plans and of these rows of history and deletions.
 fn seats_for(
     alloc: Global,
-    ltp: &[Row],
-    cp: &[CurrentRow],
+    ltp: &RowBlocks<Row>,
+    cp: &RowBlocks<CurrentRow>,
     history: &[Row],
     deletions: &[Deletion],
 ) -> Result<SeatBlocks, AllocError>
-    requires ltp { HasEachOnce of_row ltp.now }
-    requires cp { HasEachOnce of_current cp.now }
+    requires ltp { HasEachOnce of_row ltp.now.items }
+    requires cp { HasEachOnce of_current cp.now.items }
     requires history { HasEachOnce of_row history.now }
     requires deletions { HasEachOnce of_deletion deletions.now }
-    ensures ltp { IfOk result (λ seats. HasSeats of_row ltp.now seats) }
-    ensures cp { IfOk result (λ seats. HasSeats of_current cp.now seats) }
+    ensures ltp { IfOk result (λ seats. HasSeats of_row ltp.now.items seats) }
+    ensures cp { IfOk result (λ seats. HasSeats of_current cp.now.items seats) }
     ensures history { IfOk result (λ seats. HasSeats of_row history.now seats) }
     ensures deletions { IfOk result (λ seats. HasSeats of_deletion deletions.now seats) }
 {
     let mut seats = SeatBlocks::new(alloc);
-    note_rows(alloc, &mut seats, ltp)?;
-    note_rows(alloc, &mut seats, cp)?;
+    ltp.note_in(alloc, &mut seats)?;
+    cp.note_in(alloc, &mut seats)?;
     note_rows(alloc, &mut seats, history)?;
     note_rows(alloc, &mut seats, deletions)?;
     Ok(seats)
@@ -154,7 +195,7 @@ impl Content {
         ensures { (row : RowValue) → Contains result.now row
             ↔ (((content_of self.now).sets.history row.serial ≡ Some row) × (row.key ≡ key.now)) }
     {
-        of_key(&self.history, key)
+        with_key(&self.history, key)
     }
 
     /// Loads a row of history into the lists, unless they have one of its serial. If memory is refused, the content
@@ -218,13 +259,9 @@ impl Content {
         ensures { IfOk result (λ found. found.items
             ≡ filter (bars self.now.bounds) self.now.deletions.items) }
     {
-        let mut found = Vec::new(alloc);
         match self.bounds {
-            Some(bounds) => {
-                barring(&mut found, &self.deletions, bounds.plan_end)?;
-                Ok(found)
-            }
-            None => Ok(found),
+            Some(bounds) => barring(alloc, &self.deletions, bounds.plan_end),
+            None => Ok(Vec::new(alloc)),
         }
     }
 
@@ -234,9 +271,11 @@ impl Content {
         ensures ok { OnOk result (content_of self.new ≡ followed_alone (content_of self.old)) }
         ensures err { OnErr result (content_of self.new ≡ content_of self.old) }
     {
-        let history = self.followed_rows(alloc)?;
-        let deletions = self.barring_rows(alloc)?;
-        let seats = seats_for(alloc, &self.ltp, &self.cp, &history, &deletions)?;
+        let followed = self.followed_rows(alloc)?;
+        let barring = self.barring_rows(alloc)?;
+        let seats = seats_for(alloc, &self.ltp, &self.cp, &followed, &barring)?;
+        let history = RowBlocks::from_rows(alloc, &followed)?;
+        let deletions = RowBlocks::from_rows(alloc, &barring)?;
         self.buffer.has_plan_lasts = false;
         self.history = history;
         self.deletions = deletions;

@@ -17,6 +17,7 @@ use crate::stores::Need;
 use app_definitions::{Definitions, Predecessor};
 use external_dependencies::{Link, Links};
 use occurrences::{CurrentRow, Key, Status};
+use plan_store_lists::RowBlocks;
 use planner_machine::Bounds;
 use std::alloc::{AllocError, Global};
 use work_calendars::{App, Moment};
@@ -68,7 +69,7 @@ fn plan_queries(alloc: Global, lists: &Content) -> Result<Vec<LastQuery>, AllocE
     ensures apart { IfOk result (λ queries. AreDistinct queries.items) }
 {
     let mut queries = Vec::new(alloc);
-    add_waiting(&mut queries, &lists.in_force, &lists.definitions, &lists.cp)?;
+    add_all_waiting(&mut queries, &lists.in_force, &lists.definitions, &lists.cp)?;
     add_plan_end(
         &mut queries,
         &lists.in_force,
@@ -178,6 +179,24 @@ fn add_waiting(
             add_list(queries, in_force, &key.app, moment)?;
             add_defined(queries, definitions, &key.app, moment)?;
         }
+    }
+    Ok(())
+}
+
+// Adds that for each of the rows of the current plan that waits.
+fn add_all_waiting(
+    queries: &mut Vec<LastQuery>,
+    in_force: &Links,
+    definitions: &Definitions,
+    cp: &RowBlocks<CurrentRow>,
+) -> Result<(), AllocError>
+    ensures { OnOk result (AddsQueries
+        (ReadByOne (ReadsRow in_force.now definitions.now) cp.now.items)
+        queries.old.items queries.new.items) }
+{
+    let all = cp.blocks();
+    for block in all {
+        add_waiting(queries, in_force, definitions, block.items())?;
     }
     Ok(())
 }

@@ -1,4 +1,4 @@
-ghost use Rattle.std.specs.Prelude.{◌≡◌, ◌≢◌, ◌↔◌, ◌<◌, length, Contains, MatchOption, IsTrue, OnOk, filter};
+ghost use Rattle.std.specs.Prelude.{◌≡◌, ◌≢◌, ◌↔◌, ◌<◌, Contains, MatchOption, IfOk, IsTrue, OnOk, filter};
 ghost use Rattle.std.specs.Prelude.{◌++◌, ◌≤◌, not};
 ghost use Rattle.occurrences.specs.declared.place.CurrentRow.{CurrentRow as CurrentValue};
 ghost use Rattle.occurrences.specs.declared.place.Deletion.{Deletion as DeletionValue};
@@ -7,13 +7,13 @@ ghost use Rattle.plan_store_lists.specs.Keyed.{IsKeyed};
 ghost use Rattle.plan_store_lists.specs.Seats.{HasSeats};
 ghost use Rattle.external_dependencies.specs.Arrival.{arrival_cmp};
 ghost use Rattle.external_dependencies.specs.Nearest.{arrival_of};
-ghost use Rattle.plan_store.specs.Slices.{HaveOneApp, IsFront};
+ghost use Rattle.plan_store.specs.Slices.{HaveOneApp};
 ghost use Rattle.plan_store.specs.Views.{bars_from, is_asked, is_by_operator, is_from_plan_end, is_of_key};
 
 use occurrences::{CurrentRow, Deletion, Key, Reason, Row, Serial, Status};
-use plan_store_lists::{PlanRow, SeatBlocks, seats_of};
+use plan_store_lists::{PlanRow, RowBlocks, SeatBlocks, seats_of};
 use planner_machine::Bounds;
-use std::alloc::AllocError;
+use std::alloc::{AllocError, Global};
 use work_calendars::{App, Moment};
 
 // The rows of an application.
@@ -38,11 +38,30 @@ pub(crate) fn of_key<'a, T: PlanRow>(list: &'a [T], key: &Key) -> &'a [T]
         → Contains result.now x
         ↔ (Contains list.now x × ((T.row_of x).key ≡ key.now)) }
 {
-    let rows = of_app(list, &key.app);
-    let start = rows.partition_point(|x| x.row().key.ia < key.ia);
+    arriving_at(of_app(list, &key.app), key.ia)
+}
+
+// The rows of one application that arrive at the moment.
+fn arriving_at<'a, T: PlanRow>(rows: &'a [T], moment: Moment) -> &'a [T]
+    ensures keyed { IsKeyed arrival_cmp (λ x. arrival_of (T.row_of x)) rows.now
+        → IsKeyed arrival_cmp (λ x. arrival_of (T.row_of x)) result.now }
+    ensures all { IsKeyed arrival_cmp (λ x. arrival_of (T.row_of x)) rows.now
+        → HaveOneApp T.row_of rows.now → (x : T) → Contains result.now x
+        ↔ (Contains rows.now x × ((T.row_of x).key.ia ≡ moment)) }
+{
+    let start = rows.partition_point(|x| x.row().key.ia < moment);
     let rest = &rows[start..];
-    let count = rest.partition_point(|x| x.row().key.ia <= key.ia);
+    let count = rest.partition_point(|x| x.row().key.ia <= moment);
     &rest[..count]
+}
+
+// The rows of a key in a set.
+pub(crate) fn with_key<'a, T: PlanRow>(list: &'a RowBlocks<T>, key: &Key) -> &'a [T]
+    ensures keyed { IsKeyed arrival_cmp (λ x. arrival_of (T.row_of x)) result.now }
+    ensures all { (x : T) → Contains result.now x
+        ↔ (Contains list.now.items x × ((T.row_of x).key ≡ key.now)) }
+{
+    arriving_at(list.of_app(&key.app), key.ia)
 }
 
 // The rows of one application that arrive before the minute.
@@ -70,11 +89,15 @@ fn with_serial<T: PlanRow>(rows: &[T], serial: Serial) -> Option<T>
 }
 
 // The row of a serial, found by its key among the seats.
-pub(crate) fn of_serial<T: PlanRow>(list: &[T], seats: &SeatBlocks, serial: Serial) -> Option<T>
-    requires keyed { IsKeyed arrival_cmp (λ x. arrival_of (T.row_of x)) list.now }
-    requires seated { HasSeats T.row_of list.now seats.now }
-    ensures { MatchOption result ((x : T) → Contains list.now x → (T.row_of x).serial ≢ serial)
-        (λ x. Contains list.now x × ((T.row_of x).serial ≡ serial)) }
+pub(crate) fn of_serial<T: PlanRow>(
+    list: &RowBlocks<T>,
+    seats: &SeatBlocks,
+    serial: Serial,
+) -> Option<T>
+    requires { HasSeats T.row_of list.now.items seats.now }
+    ensures { MatchOption result
+        ((x : T) → Contains list.now.items x → (T.row_of x).serial ≢ serial)
+        (λ x. Contains list.now.items x × ((T.row_of x).serial ≡ serial)) }
 {
     let found = seats_of(seats, serial);
     for seat in found {
@@ -82,7 +105,7 @@ pub(crate) fn of_serial<T: PlanRow>(list: &[T], seats: &SeatBlocks, serial: Seri
             ia: seat.ia,
             app: seat.app,
         };
-        match with_serial(of_key(list, &key), serial) {
+        match with_serial(with_key(list, &key), serial) {
             Some(x) => return Some(x),
             None => {}
         }
@@ -116,37 +139,20 @@ pub(crate) fn has_operator(rows: &[Deletion]) -> bool
         .any(|deletion| deletion.reason == Reason::Operator)
 }
 
-// The rows at the front that are of the first row's application.
-pub(crate) fn front_app<T: PlanRow>(rows: &[T]) -> &[T]
-    requires some { 0 < length rows.now }
-    requires keyed { IsKeyed arrival_cmp (λ x. arrival_of (T.row_of x)) rows.now }
-    ensures some { 0 < length result.now }
-    ensures front { IsFront result.now rows.now }
-    ensures keyed { IsKeyed arrival_cmp (λ x. arrival_of (T.row_of x)) result.now }
-    ensures one { HaveOneApp T.row_of result.now }
-{
-    let app = rows[0].row().key.app;
-    let count = rows.partition_point(|x| x.row().key.app <= app);
-    &rows[..count]
-}
-
-// Fills the list with the rows that arrive before the moment: of each application those at its front.
+// The rows that arrive before the moment, as a list of their own: of each application those at its front.
 pub(crate) fn arriving_before(
-    found: &mut Vec<Row>,
-    rows: &[Row],
+    alloc: Global,
+    rows: &RowBlocks<Row>,
     moment: Moment,
-) -> Result<(), AllocError>
-    requires { IsKeyed arrival_cmp arrival_of rows.now }
-    ensures { OnOk result (found.new.items ≡ filter (arrives_before moment) rows.now) }
+) -> Result<Vec<Row>, AllocError>
+    ensures { IfOk result (λ found. found.items ≡ filter (arrives_before moment) rows.now.items) }
 {
-    found.clear();
-    let mut start = 0;
-    while start < rows.len() {
-        let of_one = front_app(&rows[start..]);
-        found.extend_from_slice(before(of_one, moment.number()))?;
-        start += of_one.len();
+    let all = rows.blocks();
+    let mut found = Vec::new(alloc);
+    for block in all {
+        found.extend_from_slice(before(block.items(), moment.number()))?;
     }
-    Ok(())
+    Ok(found)
 }
 
 // The rows of one application that arrive at that minute or after it.
@@ -177,24 +183,21 @@ fn push_operators(found: &mut Vec<Deletion>, rows: &[Deletion]) -> Result<(), Al
     Ok(())
 }
 
-// Fills the list with what an operator deleted that arrives at the moment or after it: of each application from the
+// What an operator deleted that arrives at the moment or after it, as a list of its own: of each application from the
 // end of its rows.
 pub(crate) fn barring(
-    found: &mut Vec<Deletion>,
-    rows: &[Deletion],
+    alloc: Global,
+    rows: &RowBlocks<Deletion>,
     moment: Moment,
-) -> Result<(), AllocError>
-    requires { IsKeyed arrival_cmp (λ (x : DeletionValue). arrival_of x.row) rows.now }
-    ensures { OnOk result (found.new.items ≡ filter (bars_from moment) rows.now) }
+) -> Result<Vec<Deletion>, AllocError>
+    ensures { IfOk result (λ found. found.items ≡ filter (bars_from moment) rows.now.items) }
 {
-    found.clear();
-    let mut at = 0;
-    while at < rows.len() {
-        let of_one = front_app(&rows[at..]);
-        push_operators(found, from_on(of_one, moment.number()))?;
-        at += of_one.len();
+    let all = rows.blocks();
+    let mut found = Vec::new(alloc);
+    for block in all {
+        push_operators(&mut found, from_on(block.items(), moment.number()))?;
     }
-    Ok(())
+    Ok(found)
 }
 
 // Whether there is a plan, and the key arrives at its end or after it.

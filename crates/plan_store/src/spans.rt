@@ -13,9 +13,9 @@ ghost use Rattle.plan_store.specs.Slices.{HaveOneApp};
 ghost use Rattle.plan_store.specs.Spans.{IsLeastOf, IsNextPlanned, earlier_of};
 ghost use Rattle.plan_store.specs.Views.{current_serial, row_serial};
 
-use crate::slices::{from_on, of_app};
+use crate::slices::from_on;
 use occurrences::{CurrentRow, Row, Status};
-use plan_store_lists::PlanRow;
+use plan_store_lists::{PlanRow, RowBlocks};
 use work_calendars::{App, Moment};
 
 // The rows of one application that arrive at the last moment or before it, or all where there is none.
@@ -46,20 +46,20 @@ pub fn between<'a, T: PlanRow>(rows: &'a [T], first: Moment, last: &Option<Momen
 
 // When the first live occurrence of the application in the two plans arrives after the moment.
 pub(crate) fn next_planned(
-    ltp: &[Row],
-    cp: &[CurrentRow],
+    ltp: &RowBlocks<Row>,
+    cp: &RowBlocks<CurrentRow>,
     app: &App,
     moment: Moment,
 ) -> Option<Moment>
-    requires ltp { AreRows of_row ltp.now }
-    requires cp { AreRows of_current cp.now }
-    ensures { (s : Sets) → s.ltp ≡ look_up row_serial ltp.now
-        → s.cp ≡ look_up current_serial cp.now
+    requires ltp { AreRows of_row ltp.now.items }
+    requires cp { AreRows of_current cp.now.items }
+    ensures { (s : Sets) → s.ltp ≡ look_up row_serial ltp.now.items
+        → s.cp ≡ look_up current_serial cp.now.items
         → IsNextPlanned s app.now moment result }
 {
     let minute = moment.number() + 1;
-    let planned = first_arrival(from_on(of_app(ltp, app), minute));
-    let current = first_live_arrival(from_on(of_app(cp, app), minute));
+    let planned = first_arrival(from_on(ltp.of_app(app), minute));
+    let current = first_live_arrival(from_on(cp.of_app(app), minute));
     earlier(planned, current)
 }
 

@@ -11,13 +11,13 @@ use crate::arrivals::{last_live, last_of, later};
 use crate::contents::Content;
 use crate::slices::{
     arriving_before, before, first_live, first_of, has_operator, is_asked, is_from_plan_end,
-    is_of_key, of_app, of_key, of_serial,
+    is_of_key, of_app, of_key, of_serial, with_key,
 };
 use crate::spans::next_planned;
 use app_definitions::Definitions;
 use external_dependencies::{Arrival, Links, Pair, PlacedRow, arrives_within};
 use occurrences::{CurrentRow, Deletion, Key, Place, Row, Serial};
-use plan_store_lists::PairBlocks;
+use plan_store_lists::{PairBlocks, RowBlocks};
 use planner_machine::Bounds;
 use std::alloc::{AllocError, Global};
 use work_calendars::{App, Moment, Within};
@@ -28,26 +28,26 @@ pub struct View<'a> {
     // of this the definitions, the bounds, the number of serials issued and the lists in force are seen, by any need
     pub(crate) content: &'a Content,
     // and these rows
-    pub(crate) ltp: &'a [Row],
-    pub(crate) cp: &'a [CurrentRow],
+    pub(crate) ltp: &'a RowBlocks<Row>,
+    pub(crate) cp: &'a RowBlocks<CurrentRow>,
     pub(crate) lasts: &'a [Row],
     // and of these deletions those that keep a planning statement from making their keys
-    pub(crate) deletions: &'a [Deletion],
+    pub(crate) deletions: &'a RowBlocks<Deletion>,
     // and of these pairs those whose successor is open, or is the live row of the key
     pub(crate) pairs: &'a PairBlocks,
     pub(crate) key: &'a Option<Key>,
     // and of these rows of history the predecessors of those pairs; the live row of the key may be among them
-    pub(crate) history: &'a [Row],
-    ghost ltp_rows: { AreRows of_row ltp.now },
-    ghost cp_rows: { AreRows of_current cp.now },
+    pub(crate) history: &'a RowBlocks<Row>,
+    ghost ltp_rows: { AreRows of_row ltp.now.items },
+    ghost cp_rows: { AreRows of_current cp.now.items },
     ghost last_rows: { AreRows of_row lasts.now },
-    ghost history_rows: { AreRows of_row history.now },
-    ghost deletion_rows: { AreRows of_deletion deletions.now },
-    ghost ltp_seats: { HasSeats of_row ltp.now content.now.seats },
-    ghost cp_seats: { HasSeats of_current cp.now content.now.seats },
+    ghost history_rows: { AreRows of_row history.now.items },
+    ghost deletion_rows: { AreRows of_deletion deletions.now.items },
+    ghost ltp_seats: { HasSeats of_row ltp.now.items content.now.seats },
+    ghost cp_seats: { HasSeats of_current cp.now.items content.now.seats },
     ghost last_seats: { HasSeats of_row lasts.now content.now.seats },
-    ghost history_seats: { HasSeats of_row history.now content.now.seats },
-    ghost deletion_seats: { HasSeats of_deletion deletions.now content.now.seats },
+    ghost history_seats: { HasSeats of_row history.now.items content.now.seats },
+    ghost deletion_seats: { HasSeats of_deletion deletions.now.items content.now.seats },
 }
 
 ghost use Rattle.plan_store_lists.specs.Rows.{AreRows, look_up, of_current, of_deletion, of_row};
@@ -105,7 +105,7 @@ impl<'a> View<'a> {
     // Whether it is that of the live row of the key in history.
     fn needs_completed(&self, serial: Serial) -> bool
         ensures { result ≡ needs_completed self.now.key.now
-            (look_up row_serial self.now.history.now) serial }
+            (look_up row_serial self.now.history.now.items) serial }
     {
         match of_serial(self.history, &self.content.seats, serial) {
             Some(row) => is_of_key(self.key, &row),
@@ -116,7 +116,7 @@ impl<'a> View<'a> {
     // Whether the window shows pairs of the serial: it is open, or is that of the live row of the key.
     fn needs_pairs(&self, serial: Serial) -> bool
         ensures { result ≡ needs_pairs self.now.key.now (shown self.now).sets.ltp
-            (shown self.now).sets.cp (look_up row_serial self.now.history.now) serial }
+            (shown self.now).sets.cp (look_up row_serial self.now.history.now.items) serial }
     {
         self.needs_planned(serial) || self.needs_completed(serial)
     }
@@ -148,7 +148,7 @@ impl<'a> View<'a> {
     // The pairs of one successor, which the window needs.
     fn asked_of(&self, successor: Serial) -> &'a [Pair]
         requires { needs_pairs self.now.key.now (shown self.now).sets.ltp (shown self.now).sets.cp
-            (look_up row_serial self.now.history.now) successor ≡ true }
+            (look_up row_serial self.now.history.now.items) successor ≡ true }
         ensures rising { IsRising pair_cmp result.now }
         ensures all { (pair : PairValue) → Contains result.now pair
             ↔ (Contains (shown self.now).pairs pair × (pair.successor ≡ successor)) }
@@ -182,19 +182,21 @@ impl<'a> View<'a> {
     }
 
     /// The rows of the long-term plan.
-    pub fn ltp(&self) -> &'a [Row]
-        ensures rows { ListsSet of_row (shown self.now).sets.ltp IsAny result.now }
+    pub fn ltp(&self) -> &'a RowBlocks<Row>
+        ensures rows { ListsSet of_row (shown self.now).sets.ltp IsAny result.now.items }
         ensures count { HoldsOfAny self.now (λ c. AreNumbered c.sets
-            → length result.now ≡ size (shown self.now).sets.ltp (shown self.now).sets.issued) }
+            → length result.now.items
+            ≡ size (shown self.now).sets.ltp (shown self.now).sets.issued) }
     {
         self.ltp
     }
 
     /// The rows of the current plan.
-    pub fn cp(&self) -> &'a [CurrentRow]
-        ensures rows { ListsSet of_current (shown self.now).sets.cp IsAny result.now }
+    pub fn cp(&self) -> &'a RowBlocks<CurrentRow>
+        ensures rows { ListsSet of_current (shown self.now).sets.cp IsAny result.now.items }
         ensures count { HoldsOfAny self.now (λ c. AreNumbered c.sets
-            → length result.now ≡ size (shown self.now).sets.cp (shown self.now).sets.issued) }
+            → length result.now.items
+            ≡ size (shown self.now).sets.cp (shown self.now).sets.issued) }
     {
         self.cp
     }
@@ -225,7 +227,7 @@ impl<'a> View<'a> {
         ensures { ListsSet of_row (shown self.now).sets.ltp (λ row. row.key.app
             ≡ app.now) result.now }
     {
-        of_app(self.ltp, app)
+        self.ltp.of_app(app)
     }
 
     /// The rows of an application in the current plan.
@@ -233,7 +235,7 @@ impl<'a> View<'a> {
         ensures { ListsSet of_current (shown self.now).sets.cp (λ current. current.row.key.app
             ≡ app.now) result.now }
     {
-        of_app(self.cp, app)
+        self.cp.of_app(app)
     }
 
     /// The rows of an application in history that the need names.
@@ -250,9 +252,7 @@ impl<'a> View<'a> {
         ensures { IfOk result (λ rows. ListsSet of_row (shown self.now).sets.ltp (λ row.
             row.key.ia < moment) rows.items) }
     {
-        let mut found = Vec::new(alloc);
-        arriving_before(&mut found, self.ltp, moment)?;
-        Ok(found)
+        arriving_before(alloc, self.ltp, moment)
     }
 
     /// When the next live occurrence of the application in the two plans arrives after the moment.
@@ -266,14 +266,14 @@ impl<'a> View<'a> {
     pub fn ltp_row(&self, key: &Key) -> Option<Row>
         ensures { IsPlannedRow (shown self.now).sets key.now result }
     {
-        first_of(of_key(self.ltp, key))
+        first_of(with_key(self.ltp, key))
     }
 
     /// The row of the current plan that has the key and is not deleted.
     pub fn cp_row(&self, key: &Key) -> Option<CurrentRow>
         ensures { IsCurrentRow (shown self.now).sets key.now result }
     {
-        first_live(of_key(self.cp, key))
+        first_live(with_key(self.cp, key))
     }
 
     /// The live occurrence that has the key, and its place, if the window shows the last one of its application up to
@@ -305,7 +305,7 @@ impl<'a> View<'a> {
     pub fn is_deleted_by_operator(&self, key: &Key) -> bool
         ensures { IsTrue result ↔ IsDeletedKey (shown self.now).sets key.now }
     {
-        is_from_plan_end(self.content.bounds, key) && has_operator(of_key(self.deletions, key))
+        is_from_plan_end(self.content.bounds, key) && has_operator(with_key(self.deletions, key))
     }
 
     // The live occurrence of the application that arrives last before the minute.
@@ -313,8 +313,8 @@ impl<'a> View<'a> {
         ensures { HoldsOfPart self.now (λ c. ShowsLast c self.now app.now minute
             → IsLastBefore c.sets app.now minute result) }
     {
-        let ltp = last_of(before(of_app(self.ltp, app), minute));
-        let cp = last_live(before(of_app(self.cp, app), minute));
+        let ltp = last_of(before(self.ltp.of_app(app), minute));
+        let cp = last_live(before(self.cp.of_app(app), minute));
         let history = last_of(before(of_app(self.lasts, app), minute));
         later(ltp, later(cp, history))
     }

@@ -10,11 +10,11 @@ use Rattle.std.specs.FinMap.{IsAntisymmetric}
 use Rattle.std.specs.Ordering.{ordering_reverse}
 use Rattle.std.proofs.lemmas.Cmp.{tied_itself}
 use Rattle.std.proofs.lemmas.Bool.{cases_lt, cases_eq, false≢true}
-use Rattle.std.proofs.lemmas.List.{get_or_append_left, get_or-append_right, length-append, length-set, get_or_default}
-use Rattle.std.proofs.lemmas.List.{get_or-set_same, get_or-set_other, take-append-drop}
+use Rattle.std.proofs.lemmas.List.{get_or_append_left, get_or-append_right, get_or-append-add, length-append, length-set}
+use Rattle.std.proofs.lemmas.List.{get_or_default, get_or-set_same, get_or-set_other, take-append-drop}
 use Rattle.std.proofs.lemmas.List.Edits.{length-insert, get_or-insert_at}
 use Rattle.std.proofs.lemmas.List.Elements.{Contains-append_cases, Contains-append_left, Contains-append_right}
-use Rattle.plan_store_lists.specs.Keyed.{IsKeyed, LacksKey, holds_key}
+use Rattle.plan_store_lists.specs.Keyed.{HasKey, IsKeyed, LacksKey, holds_key}
 use Rattle.plan_store_lists.specs.Blocks.{AreBlocks, GroupsRise, HasRoomAt, items_in}
 use Rattle.plan_store_lists.specs.declared.blocks.Block.{Block}
 use Rattle.plan_store_lists.proofs.KeyLemmas.{contains_first, contains_later, contains_cases, nothing, one_item}
@@ -22,7 +22,8 @@ use Rattle.plan_store_lists.proofs.KeyLemmas.{holds_none, holds_lacks}
 use Rattle.plan_store_lists.proofs.SliceLemmas.{less_not_equal}
 use Rattle.plan_store_lists.proofs.EditLemmas.{set_keyed, set_contains, insert_keyed, insert_contains}
 
-all_pairs_append : {X : Type 0} (R : X → X → Type 0) (xs ys : List X) → AllPairs R xs → AllPairs R ys
+-- two lists of pairs that also agree across
+pub all_pairs_append : {X : Type 0} (R : X → X → Type 0) (xs ys : List X) → AllPairs R xs → AllPairs R ys
     → ((x y : X) → Contains xs x → Contains ys y → R x y) → AllPairs R (xs ++ ys)
 all_pairs_append R xs ys front back across i j d below lt =
     let long = length-append xs ys in
@@ -44,6 +45,20 @@ all_pairs_append R xs ys front back across i j d below lt =
             ) (back (i - length xs) (j - length xs) d (omega arith) in_ys)
           ]
     ]
+
+all_pairs_parts : {X : Type 0} (R : X → X → Type 0) (xs ys : List X) → AllPairs R (xs ++ ys) → AllPairs R xs
+    × AllPairs R ys
+all_pairs_parts R xs ys pairs =
+    let long = length-append xs ys in (
+      λ i j d below lt. rw (
+        get_or_append_left xs ys d i (omega arith),
+        get_or_append_left xs ys d j lt,
+      ) at (pairs i j d below (omega arith)),
+      λ i j d below lt. rw (
+        get_or-append-add xs ys i d,
+        get_or-append-add xs ys j d,
+      ) at (pairs (length xs + i) (length xs + j) d (omega arith) (omega arith)),
+    )
 
 module _ {G X : Type 0} where
   block_of : (bs : List (Block G X)) (x : X) → Contains (items_in bs) x
@@ -67,6 +82,16 @@ module _ {G X : Type 0} where
   pub contains_items : (bs : List (Block G X)) (x : X) → Contains (items_in bs) x
       ↔ ((block : Block G X) × Contains bs block × Contains block.items.items x)
   contains_items bs x = (λ there. block_of bs x there, λ (block, at, there). in_block bs x block at there)
+
+  -- what holds of all pairs of items holds of those of a block
+  pub block_pairs : (R : X → X → Type 0) (bs : List (Block G X)) (block : Block G X) → AllPairs R (items_in bs)
+      → Contains bs block → AllPairs R block.items.items
+  block_pairs R [] block pairs at = absurd (nothing block at)
+  block_pairs R (first ∷ bs) block pairs at = elim (contains_cases first block bs at) [
+    | inl is ↦ subst (λ (b : Block G X). AllPairs R b.items.items) is
+        (all_pairs_parts R first.items.items (items_in bs) pairs).0
+    | inr later ↦ block_pairs R bs block (all_pairs_parts R first.items.items (items_in bs) pairs).1 later
+  ]
 
   pub items_append : (bs cs : List (Block G X)) → items_in (bs ++ cs) ≡ items_in bs ++ items_in cs
   items_append [] cs = refl
@@ -278,6 +303,43 @@ module _ {G K X : Type 0} {group_cmp : G → G → Ordering} (total : IsTotalOrd
           | inr stays ↦ stays
         ],
       )
+
+    -- an item in the place of the one that has its key
+    module _ (new : X) (own : group_of new ≡ item.group) (one : (x : X) → key x ≡ key new → group_of x ≡ group_of new)
+        (written : (x : X) → Contains item.items.items x
+        ↔ ((new ≡ x) ⊎ (Contains was.items.items x × (key x ≢ key new)))) where
+      pub replaced_blocks : IsKeyed cmp key item.items.items → AreBlocks group_cmp cmp group_of key (set bs i item)
+      replaced_blocks keyed = set_blocks keyed (λ x there. elim ((written x).0 there) [
+        | inl here ↦ subst (λ y. group_of y ≡ item.group) here own
+        | inr old ↦ is.grouped was was_in x old.0 ∙ same
+      ])
+
+      pub replaced_items : (x : X) → Contains (items_in (set bs i item)) x
+          ↔ ((new ≡ x) ⊎ (Contains (items_in bs) x × (key x ≢ key new)))
+      replaced_items x = (
+        λ there. elim (came_from x there) [
+          | inl here ↦ elim ((written x).0 here) [
+            | inl it ↦ inl it
+            | inr (old, apart) ↦ inr (in_block bs x was was_in old, apart)
+          ]
+          | inr (old, other) ↦ inr (old, λ same_key. other (one x same_key ∙ own))
+        ],
+        λ there. elim there [
+          | inl it ↦ new_item x ((written x).1 (inl it))
+          | inr (old, apart) ↦ elim (old_item x old) [
+            | inl here ↦ new_item x ((written x).1 (inr (here, apart)))
+            | inr stays ↦ stays
+          ]
+        ],
+      )
+
+    -- the block has its keys, and so has the list
+    pub keys_stand : ((k : K) → HasKey key was.items.items k → HasKey key item.items.items k) → (k : K)
+        → HasKey key (items_in bs) k → HasKey key (items_in (set bs i item)) k
+    keys_stand stand k (x, there, at) = elim (old_item x there) [
+      | inl here ↦ let (y, in_it, at_y) = stand k (x, here, at) in (y, new_item y in_it, at_y)
+      | inr stays ↦ (x, stays, at)
+    ]
 
   -- items of one key are of one group
   pub one_group : IsTotalOrder cmp

@@ -5,7 +5,10 @@ mod MergeLemmas
 mod MoveLemmas
 pub mod PairBlockLemmas
 mod RangeLemmas
+mod RiseLemmas
 pub mod RoomLemmas
+pub mod RowBlockLemmas
+pub mod RowListLemmas
 pub mod RunLemmas
 pub mod SeatLemmas
 pub mod SliceLemmas

@@ -1,5 +1,5 @@
 -- Seats of rows.
-use Rattle.std.proofs.Common.{◌≡◌, ◌≢◌, ℕ, ◌<◌, Bool, true, false, not, List, [], ◌∷◌, map, length, get_or, refl, sym}
+use Rattle.std.proofs.Common.{◌≡◌, ◌≢◌, ℕ, ◌<◌, Bool, true, false, not, List, [], ◌∷◌, ◌++◌, map, length, get_or, refl, sym}
 use Rattle.std.proofs.Common.{ap, subst, ◌∙◌, inl, inr, arith, Ordering}
 use Rattle.std.specs.declared.cmp.Ordering.TheVariants.{Less, Equal, Greater}
 use Rattle.std.specs.Prelude.{filter}
@@ -10,6 +10,7 @@ use Rattle.std.specs.Ordering.{is_eq, nat_cmp, ordering_then}
 use Rattle.std.proofs.lemmas.Bool.{cases_order, not-true, not_from_false}
 use Rattle.std.proofs.lemmas.Cmp.{nat_list_cmp_total, nat_cmp_total, on_total, then_total, tied_itself}
 use Rattle.std.proofs.lemmas.List.{get_or-map, length-map}
+use Rattle.std.proofs.lemmas.List.Elements.{Contains-append_cases}
 use Rattle.std.proofs.lemmas.List.Folds.{Any-from_list_any}
 use Rattle.std.proofs.lemmas.List.Kept.{AllPairs-filter}
 use Rattle.occurrences.specs.declared.row.Row.{Row}
@@ -25,7 +26,7 @@ seat_total =
     then_total (on_total (λ (a : Seat). a.serial) nat_cmp_total)
     (then_total (on_total (λ (a : Seat). a.ia) nat_cmp_total) (on_total (λ (a : Seat). a.app) nat_list_cmp_total))
 
-equal_from : (o : Ordering) → is_eq o ≡ true → o ≡ Equal
+pub equal_from : (o : Ordering) → is_eq o ≡ true → o ≡ Equal
 equal_from Less is = cc
 equal_from Equal is = refl
 equal_from Greater is = cc
@@ -106,3 +107,11 @@ module _ {X : Type 0} (row_of : X → Row) where
       → ((s : Seat) → Contains seats s → Contains all s) → HasSeats row_of xs all
   seats_stay xs seats all has stay x there = holds_seat all (seat_at x)
       (stay (seat_at x) (seat_held seats (seat_at x) (has x there)))
+
+  -- the seats of two lists
+  pub seats_both : (xs ys : List X) (all : List Seat) → HasSeats row_of xs all → HasSeats row_of ys all
+      → HasSeats row_of (xs ++ ys) all
+  seats_both xs ys all first second x there = elim (Contains-append_cases xs ys x there) [
+    | inl here ↦ first x here
+    | inr later ↦ second x later
+  ]

@@ -2,6 +2,8 @@ pub mod Blocks
 pub mod Groups
 pub mod Keyed
 pub mod PairBlocks
+pub mod RowBlocks
+pub mod RowLists
 pub mod Rows
 pub mod SeatBlocks
 pub mod Seats

@@ -6,7 +6,7 @@ ghost use Rattle.std.specs.List.{HoldsAt};
 ghost use Rattle.std.specs.List.Sorted.{IsPartitionPoint};
 ghost use Rattle.std.specs.FinMap.{IsAntisymmetric};
 ghost use Rattle.std.specs.declared.cmp.Ordering.TheVariants.{Less, Greater};
-ghost use Rattle.plan_store_lists.specs.Keyed.{IsKeyed, LacksKey, holds_key};
+ghost use Rattle.plan_store_lists.specs.Keyed.{AreApart, HasKey, IsKeyed, LacksKey, holds_key};
 
 use crate::changes;
 use crate::grouped::Grouped;
@@ -26,6 +26,15 @@ pub struct Blocks<G, T> {
     pub(crate) blocks: Vec<Block<G, T>>,
 }
 
+impl<G, T> Block<G, T> {
+    /// Its items, in the order of their keys.
+    pub fn items(&self) -> &[T]
+        ensures { result.now ≡ self.now.items.items }
+    {
+        &self.items
+    }
+}
+
 impl<G, T> Blocks<G, T> {
     ghost use Rattle.plan_store_lists.specs.Blocks.{items_of};
 
@@ -36,6 +45,13 @@ impl<G, T> Blocks<G, T> {
         Blocks {
             blocks: Vec::new(alloc),
         }
+    }
+
+    /// The blocks, in the order of their groups.
+    pub fn blocks(&self) -> &[Block<G, T>]
+        ensures { result.now ≡ self.now.blocks.items }
+    {
+        &self.blocks
     }
 
     /// Whether it has no items.
@@ -242,6 +258,41 @@ pub fn remove_from<T: Grouped>(list: &mut Blocks<T::Group, T>, items: &[T])
         let run = front_group(&items[start..]);
         remove_run(list, run);
         start += run.len();
+    }
+}
+
+// Writes an item in the place of the one that has its key.
+fn replace_one_in<T: Grouped>(list: &mut Blocks<T::Group, T>, item: T)
+    requires blocks { AreBlocks T.Group.cmp T.Key.cmp T.group_of T.key_of list.old.blocks.items }
+    requires stands { HasKey T.key_of (items_of list.old) (T.key_of item) }
+    ensures blocks { AreBlocks T.Group.cmp T.Key.cmp T.group_of T.key_of list.new.blocks.items }
+    ensures stand { (k : T.Key) → HasKey T.key_of (items_of list.old) k
+        → HasKey T.key_of (items_of list.new) k }
+    ensures replaced { (x : T) → Contains (items_of list.new) x
+        ↔ ((item ≡ x) ⊎ (Contains (items_of list.old) x × (T.key_of x ≢ T.key_of item))) }
+    ensures stays { (group : T.Group) (count : ℕ) → HasRoomAt list.old.blocks.items group count
+        → HasRoomAt list.new.blocks.items group count }
+{
+    match place_of(&list.blocks, &item.group()) {
+        Ok(at) => changes::replace_one(&mut list.blocks[at].items, item),
+        Err(_at) => {}
+    }
+}
+
+/// Writes items in the place of those that have their keys. Allocates no memory, and moves no other item.
+pub fn replace_in<T: Grouped>(list: &mut Blocks<T::Group, T>, items: &[T])
+    requires blocks { AreBlocks T.Group.cmp T.Key.cmp T.group_of T.key_of list.old.blocks.items }
+    requires apart { AreApart T.key_of items.now }
+    requires stand { (x : T) → Contains items.now x
+        → HasKey T.key_of (items_of list.old) (T.key_of x) }
+    ensures blocks { AreBlocks T.Group.cmp T.Key.cmp T.group_of T.key_of list.new.blocks.items }
+    ensures replaced { (x : T) → Contains (items_of list.new) x ↔ (Contains items.now x
+        ⊎ (Contains (items_of list.old) x × LacksKey T.key_of items.now (T.key_of x))) }
+    ensures stays { (group : T.Group) (count : ℕ) → HasRoomAt list.old.blocks.items group count
+        → HasRoomAt list.new.blocks.items group count }
+{
+    for item in items {
+        replace_one_in(list, *item);
     }
 }
 

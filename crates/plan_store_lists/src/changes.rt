@@ -5,7 +5,7 @@ use crate::keyed::Keyed;
 use crate::search::{find, range_from_back, range_from_front};
 
 // Writes an item in the place of the one that has its key.
-fn replace_one<T: Keyed>(list: &mut Vec<T>, item: T)
+pub(crate) fn replace_one<T: Keyed>(list: &mut Vec<T>, item: T)
     requires keyed { IsKeyed T.Key.cmp T.key_of list.old.items }
     requires stands { HasKey T.key_of list.old.items (T.key_of item) }
     ensures keyed { IsKeyed T.Key.cmp T.key_of list.new.items }

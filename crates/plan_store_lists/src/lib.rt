@@ -1,5 +1,6 @@
 //! The rows, the pairs and the seats of a plan as lists in rising order of a key, each key once: found by binary search,
-//! and changed in place. Rows are in one vector each; pairs and seats are in blocks.
+//! and changed in place. All three are in blocks: rows in one for each application, pairs and seats in one for every 256
+//! serials.
 //!
 //! ```text
 //! let mut rows = vec![in alloc; fourth, third]?;
@@ -16,17 +17,20 @@ mod grouped;
 mod keyed;
 mod pair_blocks;
 mod pairs;
+mod row_blocks;
+mod row_lists;
 mod rows;
 mod search;
 mod seats;
 
 pub use blocks::{
-    Block, Blocks, all_of, has_item, insert_into, of_group, remove_from, reserve_for,
+    Block, Blocks, all_of, has_item, insert_into, of_group, remove_from, replace_in, reserve_for,
 };
 pub use changes::{insert_all, remove_all, replace_all};
 pub use grouped::Grouped;
 pub use keyed::Keyed;
 pub use pair_blocks::PairBlocks;
+pub use row_lists::RowBlocks;
 pub use rows::PlanRow;
 pub use search::{find, has_key, sort};
 pub use seats::{Seat, SeatBlocks, note_rows, seats_of};

@@ -1,4 +1,4 @@
-ghost use Rattle.std.specs.Prelude.{◌≡◌, ◌<◌, ◌≤◌, true, false, length, take, drop, Contains, IfOk, IfErr, vec_len, ◌↔◌};
+ghost use Rattle.std.specs.Prelude.{◌≡◌, ◌<◌, ◌≤◌, true, false, length, take, drop, Contains, IfOk, IfErr, IsTrue, vec_len, ◌↔◌};
 ghost use Rattle.std.specs.List.{HoldsAt};
 ghost use Rattle.std.specs.List.Sorted.{IsPartitionPoint};
 ghost use Rattle.std.specs.declared.cmp.Ordering.TheVariants.{Less, Greater};
@@ -105,6 +105,20 @@ pub fn has_key<T: Keyed>(list: &[T], key: &T::Key) -> bool
         → result ≡ holds_key T.Key.cmp T.key_of list.now key.now }
 {
     find(list, key).is_ok()
+}
+
+// Whether the items are in rising order of their keys.
+pub(crate) fn are_keyed<T: Keyed>(list: &[T]) -> bool
+    ensures { IsTrue result ↔ IsKeyed T.Key.cmp T.key_of list.now }
+{
+    for at in 1..list.len() {
+        let before = list[at - 1].key();
+        let here = list[at].key();
+        if before.cmp(&here).is_ge() {
+            return false;
+        }
+    }
+    true
 }
 
 /// Sorts the items by their keys.

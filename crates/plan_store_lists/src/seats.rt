@@ -1,4 +1,5 @@
 ghost use Rattle.std.specs.Prelude.{◌≡◌, ◌↔◌, [], Contains, IfOk, OnOk, filter, map, not};
+ghost use Rattle.plan_store_lists.specs.Blocks.{items_of};
 ghost use Rattle.plan_store_lists.specs.Keyed.{holds_key};
 ghost use Rattle.plan_store_lists.specs.Rows.{HasEachOnce};
 ghost use Rattle.plan_store_lists.specs.Seats.{HasSeats, seat_cmp, seat_of};
@@ -135,6 +136,22 @@ pub fn note_rows<T: PlanRow>(
     sort(&mut missing);
     reserve_for(alloc, &mut seats.blocks, &missing)?;
     insert_into(&mut seats.blocks, &missing);
+    Ok(())
+}
+
+/// Notes the seats of the rows of these blocks, block after block; if memory is refused, those of some blocks.
+pub fn note_blocks<T: PlanRow>(
+    alloc: Global,
+    seats: &mut SeatBlocks,
+    list: &Blocks<App, T>,
+) -> Result<(), AllocError>
+    requires once { HasEachOnce T.row_of (items_of list.now) }
+    ensures stay { (seat : SeatValue) → Contains seats.old seat → Contains seats.new seat }
+    ensures noted { OnOk result (HasSeats T.row_of (items_of list.now) seats.new) }
+{
+    for block in &list.blocks {
+        note_rows(alloc, seats, &block.items)?;
+    }
     Ok(())
 }
 

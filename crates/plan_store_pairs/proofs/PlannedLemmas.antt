@@ -101,6 +101,31 @@ no_serial n (x, there, same) = none x there
 abbrev waiting_at : Row → CurrentRow
 waiting_at row = record { row = row; status = W }
 
+-- of two lists one after the other
+pub serial_both : (xs ys : List Row) (n : ℕ) → HasRowOf (xs ++ ys) n ↔ (HasRowOf xs n ⊎ HasRowOf ys n)
+serial_both xs ys n = (
+  (λ (row, there, same). elim (Contains-append_cases xs ys row there) [
+    | inl here ↦ inl (row, here, same)
+    | inr later ↦ inr (row, later, same)
+  ]),
+  λ has. elim has [
+    | inl (row, here, same) ↦ (row, Contains-append_left xs ys row here, same)
+    | inr (row, later, same) ↦ (row, Contains-append_right xs ys row later, same)
+  ],
+)
+
+pub waiting_both : (xs ys : List CurrentRow) (n : ℕ) → HasWaiting (xs ++ ys) n ↔ (HasWaiting xs n ⊎ HasWaiting ys n)
+waiting_both xs ys n = (
+  (λ (row, there, same). elim (Contains-append_cases xs ys (waiting_at row) there) [
+    | inl here ↦ inl (row, here, same)
+    | inr later ↦ inr (row, later, same)
+  ]),
+  λ has. elim has [
+    | inl (row, here, same) ↦ (row, Contains-append_left xs ys (waiting_at row) here, same)
+    | inr (row, later, same) ↦ (row, Contains-append_right xs ys (waiting_at row) later, same)
+  ],
+)
+
 -- of the current plan, where the row waits
 pub waiting_more : (xs : List CurrentRow) (x : CurrentRow) → x.status ≡ W → (n : ℕ)
     → HasWaiting (xs ++ x ∷ []) n ↔ (HasWaiting xs n ⊎ (n ≡ x.row.serial))

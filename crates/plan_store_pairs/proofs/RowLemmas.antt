@@ -74,6 +74,46 @@ rows_both first second place r0 r1 r2 a1 a2 p = (
   ],
 )
 
+-- the same of the current plan
+pub current_both : (first second : List CurrentRow) (r0 r1 r2 : List PlacedRow) → AddsCurrent first r0 r1
+    → AddsCurrent second r1 r2 → AddsCurrent (first ++ second) r0 r2
+current_both first second r0 r1 r2 a1 a2 p = (
+  (λ there. elim ((a2 p).0 there) [
+    | inl in_1 ↦ elim ((a1 p).0 in_1) [
+      | inl before ↦ inl before
+      | inr is ↦ inr (record {
+        status = is.status;
+        listed = Contains-append_left first second (record { row = p.row; status = is.status }) is.listed;
+        placed = is.placed;
+        stays = is.stays;
+      })
+    ]
+    | inr is ↦ inr (record {
+      status = is.status;
+      listed = Contains-append_right first second (record { row = p.row; status = is.status }) is.listed;
+      placed = is.placed;
+      stays = is.stays;
+    })
+  ]),
+  λ either. elim either [
+    | inl before ↦ (a2 p).1 (inl ((a1 p).1 (inl before)))
+    | inr is ↦ elim (Contains-append_cases first second (record { row = p.row; status = is.status }) is.listed) [
+      | inl was ↦ (a2 p).1 (inl ((a1 p).1 (inr (record {
+        status = is.status;
+        listed = was;
+        placed = is.placed;
+        stays = is.stays;
+      }))))
+      | inr later ↦ (a2 p).1 (inr (record {
+        status = is.status;
+        listed = later;
+        placed = is.placed;
+        stays = is.stays;
+      }))
+    ]
+  ],
+)
+
 pub current_none : (old : List PlacedRow) → AddsCurrent [] old old
 current_none old p = ((λ there. inl there), λ is. elim is [ inl there ↦ there | inr new ↦ absurd (none _ new.listed) ])
 

@@ -9,6 +9,7 @@ ghost use Rattle.external_dependencies.specs.Touch.{HasRowOf};
 use external_dependencies::{Pair, Pairs};
 use occurrences::{CurrentRow, Place, Row};
 use plan_store::View;
+use plan_store_lists::RowBlocks;
 use std::alloc::{AllocError, Global};
 use work_calendars::App;
 
@@ -19,8 +20,8 @@ pub fn pairs_of_plans(alloc: Global, view: &View<'_>) -> Result<Pairs, AllocErro
         × IsOpenAt (shown view.now).sets pair.successor)) }
 {
     let mut pairs = Vec::new(alloc);
-    push_planned(view, view.ltp(), &mut pairs)?;
-    push_waiting(view, view.cp(), &mut pairs)?;
+    push_all_planned(view, view.ltp(), &mut pairs)?;
+    push_all_waiting(view, view.cp(), &mut pairs)?;
     Ok(Pairs::from_vec(pairs))
 }
 
@@ -36,6 +37,42 @@ pub fn pairs_of_apps(alloc: Global, view: &View<'_>, apps: &[App]) -> Result<Pai
         push_waiting(view, view.cp_of(app), &mut pairs)?;
     }
     Ok(Pairs::from_vec(pairs))
+}
+
+// Adds the pairs of all rows of the long-term plan.
+fn push_all_planned(
+    view: &View<'_>,
+    rows: &RowBlocks<Row>,
+    pairs: &mut Vec<Pair>,
+) -> Result<(), AllocError>
+    requires { (row : RowValue) → Contains rows.now.items row
+        → (shown view.now).sets.ltp row.serial ≡ Some row }
+    ensures { OnOk result (AddsPairsOf (shown view.now).pairs (HasRowOf rows.now.items)
+        pairs.old.items pairs.new.items) }
+{
+    let blocks = rows.blocks();
+    for block in blocks {
+        push_planned(view, block.items(), pairs)?;
+    }
+    Ok(())
+}
+
+// Adds the pairs of all rows of the current plan that wait.
+fn push_all_waiting(
+    view: &View<'_>,
+    list: &RowBlocks<CurrentRow>,
+    pairs: &mut Vec<Pair>,
+) -> Result<(), AllocError>
+    requires { (current : CurrentValue) → Contains list.now.items current
+        → (shown view.now).sets.cp current.row.serial ≡ Some current }
+    ensures { OnOk result (AddsPairsOf (shown view.now).pairs (HasWaiting list.now.items)
+        pairs.old.items pairs.new.items) }
+{
+    let blocks = list.blocks();
+    for block in blocks {
+        push_waiting(view, block.items(), pairs)?;
+    }
+    Ok(())
 }
 
 // Adds the pairs of rows of the long-term plan.

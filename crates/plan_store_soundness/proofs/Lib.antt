@@ -3,6 +3,7 @@ pub mod ClosedPairLemmas
 pub mod DistinctLemmas
 pub mod EdgeLemmas
 pub mod JobLemmas
+mod ListingLemmas
 pub mod NodeLemmas
 pub mod NumberedLemmas
 pub mod PairLemmas

@@ -4,6 +4,7 @@ ghost use Rattle.plan_store_soundness.specs.Listing.{current_place, deleted_plac
 use external_dependencies::PlacedRow;
 use occurrences::{CurrentRow, Deletion, Place, Row};
 use plan_store::Content;
+use plan_store_lists::RowBlocks;
 use std::alloc::{AllocError, Global};
 
 // Adds rows of one place.
@@ -47,9 +48,45 @@ pub(crate) fn placed_rows(alloc: Global, content: &Content) -> Result<Vec<Placed
     ensures { IfOk result (λ all. all.items ≡ placed_list content.now) }
 {
     let mut all = Vec::new(alloc);
-    push_rows(&mut all, &content.ltp, Place::LongTerm)?;
-    push_current(&mut all, &content.cp)?;
-    push_rows(&mut all, &content.history, Place::History)?;
-    push_deletions(&mut all, &content.deletions)?;
+    push_set(&mut all, &content.ltp, Place::LongTerm)?;
+    push_current_set(&mut all, &content.cp)?;
+    push_set(&mut all, &content.history, Place::History)?;
+    push_deletion_set(&mut all, &content.deletions)?;
     Ok(all)
+}
+
+// Adds all rows of a set, which are of one place.
+fn push_set(all: &mut Vec<PlacedRow>, list: &RowBlocks<Row>, place: Place) -> Result<(), AllocError>
+    ensures { OnOk result (all.new.items ≡ all.old.items ++ map (in_place place) list.now.items) }
+{
+    let blocks = list.blocks();
+    for block in blocks {
+        push_rows(all, block.items(), place)?;
+    }
+    Ok(())
+}
+
+// Adds all rows of the current plan.
+fn push_current_set(
+    all: &mut Vec<PlacedRow>,
+    list: &RowBlocks<CurrentRow>,
+) -> Result<(), AllocError>
+    ensures { OnOk result (all.new.items ≡ all.old.items ++ map current_place list.now.items) }
+{
+    let blocks = list.blocks();
+    for block in blocks {
+        push_current(all, block.items())?;
+    }
+    Ok(())
+}
+
+// Adds all rows of the deletions.
+fn push_deletion_set(all: &mut Vec<PlacedRow>, list: &RowBlocks<Deletion>) -> Result<(), AllocError>
+    ensures { OnOk result (all.new.items ≡ all.old.items ++ map deleted_place list.now.items) }
+{
+    let blocks = list.blocks();
+    for block in blocks {
+        push_deletions(all, block.items())?;
+    }
+    Ok(())
 }

@@ -75,7 +75,9 @@ pub(crate) fn has_arrivals(
         (content_of content.now).sets) }
 {
     if all_in_bounds(content, all) {
-        none_deleted(alloc, &content.ltp, &content.deletions)
+        let ltp = content.ltp.to_vec(alloc)?;
+        let deletions = content.deletions.to_vec(alloc)?;
+        none_deleted(alloc, &ltp, &deletions)
     } else {
         Ok(false)
     }

@@ -157,7 +157,8 @@ fn daily_trial(
         → IsSound c → PrintsTrial (daily_change function.now) c printed) }
 {
     let verdict = decide_daily(alloc, view, end, function)?;
-    print_daily(alloc, view.cp(), &verdict)
+    let current = view.cp().to_vec(alloc)?;
+    print_daily(alloc, &current, &verdict)
 }
 
 // What a trial prints of the verdict on a daily plan, which changes these rows of the current plan.

@@ -27,6 +27,14 @@ fn unlike_plans(
 ) -> Result<Option<&'static str>, AllocError> {
     let pairs = kept.pairs.to_vec(alloc)?;
     let wanted_pairs = wanted.pairs.to_vec(alloc)?;
+    let ltp = kept.ltp.to_vec(alloc)?;
+    let wanted_ltp = wanted.ltp.to_vec(alloc)?;
+    let cp = kept.cp.to_vec(alloc)?;
+    let wanted_cp = wanted.cp.to_vec(alloc)?;
+    let history = kept.history.to_vec(alloc)?;
+    let wanted_history = wanted.history.to_vec(alloc)?;
+    let deletions = kept.deletions.to_vec(alloc)?;
+    let wanted_deletions = wanted.deletions.to_vec(alloc)?;
     let parts = [
         ("bounds", kept.bounds == wanted.bounds),
         ("serials issued", kept.issued == wanted.issued),
@@ -34,18 +42,12 @@ fn unlike_plans(
             "lists in force",
             are_same_links(&kept.in_force, &wanted.in_force),
         ),
-        (
-            "long-term plan",
-            kept.ltp.as_slice() == wanted.ltp.as_slice(),
-        ),
-        ("current plan", kept.cp.as_slice() == wanted.cp.as_slice()),
-        (
-            "history",
-            kept.history.as_slice() == wanted.history.as_slice(),
-        ),
+        ("long-term plan", ltp.as_slice() == wanted_ltp.as_slice()),
+        ("current plan", cp.as_slice() == wanted_cp.as_slice()),
+        ("history", history.as_slice() == wanted_history.as_slice()),
         (
             "deletions",
-            kept.deletions.as_slice() == wanted.deletions.as_slice(),
+            deletions.as_slice() == wanted_deletions.as_slice(),
         ),
         ("pairs", pairs.as_slice() == wanted_pairs.as_slice()),
         ("jobs", are_same_jobs(kept, wanted)),

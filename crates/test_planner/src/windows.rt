@@ -2,6 +2,7 @@
 use external_dependencies::Pair;
 use occurrences::{CurrentRow, Key, Row, Serial};
 use plan_store::{ListStore, Need, PlanStore, View};
+use plan_store_lists::RowBlocks;
 use planner_cli::run;
 use std::alloc::Global;
 use std::process::Abort;
@@ -104,7 +105,7 @@ fn with_digit(number: u64, digit: u32) -> u64 {
     number.saturating_mul(10).saturating_add(u64::from(digit))
 }
 
-/// The serials of the rows.
+/// The serials of rows.
 fn serials_of(rows: &[Row]) -> u64 {
     let mut number: u64 = 0;
     for row in rows {
@@ -113,11 +114,24 @@ fn serials_of(rows: &[Row]) -> u64 {
     number
 }
 
-/// The serials of rows of the current plan.
-fn current_serials_of(rows: &[CurrentRow]) -> u64 {
+/// The serials of the rows of the long-term plan.
+fn planned_serials_of(list: &RowBlocks<Row>) -> u64 {
     let mut number: u64 = 0;
-    for current in rows {
-        number = with_digit(number, current.row.serial.get());
+    for block in list.blocks() {
+        for row in block.items() {
+            number = with_digit(number, row.serial.get());
+        }
+    }
+    number
+}
+
+/// The serials of the rows of the current plan.
+fn current_serials_of(list: &RowBlocks<CurrentRow>) -> u64 {
+    let mut number: u64 = 0;
+    for block in list.blocks() {
+        for current in block.items() {
+            number = with_digit(number, current.row.serial.get());
+        }
     }
     number
 }
@@ -189,7 +203,7 @@ fn shown_in(view: &View<'_>) -> Option<Shown> {
         return None;
     }
     Some([
-        serials_of(view.ltp()),
+        planned_serials_of(view.ltp()),
         current_serials_of(view.cp()),
         serials_of(view.lasts()),
         successors_in(view),

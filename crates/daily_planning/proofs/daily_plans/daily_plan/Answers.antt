@@ -18,11 +18,15 @@ returns c c' shows sound is =
       history = record none.history { put = c.in_ok-completed.completed };
       deletions = record none.deletions { put = c.in_ok-deleted.deleted };
     } in
-    let rows = c.cp-rows.result.now in
+    let rows = c.cp.result.now.items in
+    let finished = rw (c.deref.ensures.value, c.in_ok-rows.ensures) at c.in_ok-finished.ensures in
+    let completed = rw (c.deref-2.ensures.value, c.in_ok-rows.ensures) at c.in_ok-completed.ensures in
+    let deleted = rw (c.deref-3.ensures.value, c.in_ok-rows.ensures) at c.in_ok-deleted.ensures in
+    let uncompleted = rw (c.deref-4.ensures.value, c.in_ok-rows.ensures) at c.count_uncompleted.ensures in
     let moved = c.in_ok-moved.moved.items in
     let view = c.args.view.now in
     let moved_list = daily_ltp t view c' shows moved c.in_ok-moved.ensures in
-    daily_replied t b c' sound is moved rows moved_list (daily_cp t view c' shows rows c.cp-rows.ensures.rows) change
+    daily_replied t b c' sound is moved rows moved_list (daily_cp t view c' shows rows c.cp.ensures.rows) change
     (record {
       definitions = nothing.definitions;
       bounds = refl;
@@ -31,23 +35,23 @@ returns c c' shows sound is =
       ltp_gone = refl;
       ltp_changed = nothing.ltp.changed;
       ltp_put = nothing.ltp.put;
-      cp_gone = c.in_ok-finished.ensures;
+      cp_gone = finished;
       cp_changed = nothing.cp.changed;
       cp_put = c.in_ok-change.ensures ∙ ap (λ xs. Rattle.std.proofs.Common.map waiting xs) c.as_slice.ensures.value;
       history_gone = nothing.history.gone;
       history_changed = nothing.history.changed;
-      history_put = c.in_ok-completed.ensures;
+      history_put = completed;
       deletions_gone = nothing.deletions.gone;
       deletions_changed = nothing.deletions.changed;
-      deletions_put = c.in_ok-deleted.ensures;
+      deletions_put = deleted;
       removed = nothing.removed;
       added = nothing.added;
       job = nothing.job;
     })
     c.len.result c.count_uncompleted.result c.len-2.result c.len-3.result
     (let e : c.len.result ≡ length c.in_ok-moved.moved.items = omega arith in e)
-    c.count_uncompleted.ensures
+    uncompleted
     (let e : c.len-2.result ≡ length c.in_ok-completed.completed.items = omega arith in
-    e ∙ ap length c.in_ok-completed.ensures)
+    e ∙ ap length completed)
     (let e : c.len-3.result ≡ length c.in_ok-deleted.deleted.items = omega arith in
-    e ∙ ap length c.in_ok-deleted.ensures)
+    e ∙ ap length deleted)

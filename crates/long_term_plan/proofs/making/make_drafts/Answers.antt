@@ -22,7 +22,7 @@ returns c h sound sees known keeps =
     let links = c.args.links in
     let new = c.args.new.items in
     let s = planned_sets b new content.sets in
-    let rows = c.ltp.result.now in
+    let rows = c.ltp.result.now.items in
     let sound_rows = rows_sound content sound in
     let touch = c.in_ok-touch.touch in
     let made = numbered content.sets.issued new in
@@ -37,14 +37,16 @@ returns c h sound sees known keeps =
     let have : HavePlanned content.sets (rows ++ made) s = λ cp cp_are history history_are.
     lists_then content.sets sound_rows new b keeps rows c.ltp.ensures.rows cp cp_are history history_are in
     let plan = rows_made content sound rows c.ltp.ensures.rows new in
-    let to = turn_seen h view sound sees links known rows c.ltp.ensures.rows c.cp.result.now c.cp.ensures.rows
+    let to = turn_seen h view sound sees links known rows c.ltp.ensures.rows c.cp.result.now.items c.cp.ensures.rows
     c.lasts.result.now c.lasts.ensures s rows [] made have plan touch touches in
     let listed : (p : PlacedRow) → Contains c.in_ok-live.live p
-    ↔ IsInLists (rows ++ made) c.cp.result.now c.lasts.result.now p =
+    ↔ IsInLists (rows ++ made) c.cp.result.now.items c.lasts.result.now p =
     subst (λ (l : List Row). (p : PlacedRow) → Contains c.in_ok-live.live p
-    ↔ IsInLists (rows ++ l) c.cp.result.now c.lasts.result.now p) (c.deref-2.ensures.value ∙ put)
-    c.in_ok-live.ensures.listed in
-    let holds = held h view sound sees links known rows c.ltp.ensures.rows c.cp.result.now c.cp.ensures.rows
+    ↔ IsInLists (rows ++ l) c.cp.result.now.items c.lasts.result.now p) (c.deref-3.ensures.value ∙ put)
+    (subst (λ (l : List Row). (p : PlacedRow) → Contains c.in_ok-live.live p
+    ↔ IsInLists (l ++ c.deref-3.result.now) c.cp.result.now.items c.lasts.result.now p)
+    (c.deref-2.ensures.value ∙ c.in_ok-planned.ensures) c.in_ok-live.ensures.listed) in
+    let holds = held h view sound sees links known rows c.ltp.ensures.rows c.cp.result.now.items c.cp.ensures.rows
     c.lasts.result.now c.lasts.ensures s rows [] made have plan touch touches (λ app. Unit {0}) c.in_ok-live.live
     (λ p. ((λ there. ((listed p).0 there, tt)), λ both. (listed p).1 both.0))
     (λ q there is_open reach. (tt, λ app names. tt)) (λ app. Unit {0}) c.in_ok-before.before

@@ -11,15 +11,16 @@ use Rattle.planner_machine.specs.Drafts.{AreDrafts, IsMade}
 use Rattle.planner_machine.specs.Moves.{size}
 use Rattle.planner_machine.specs.Plans.{HoldTooMany}
 use Rattle.planner_machine.proofs.SoundLemmas.{rows_sound}
-use Rattle.plan_store.specs.Views.{with_hidden}
+use Rattle.plan_store_lists.specs.Rows.{of_row}
+use Rattle.plan_store.specs.Views.{ListsSet, shown, with_hidden}
 use Rattle.plan_store.specs.declared.changes.Verdict.{Verdict}
 use Rattle.plan_store.specs.declared.changes.Verdict.TheVariants.{Done, Refused}
 use Rattle.plan_store_pairs.specs.LiveRows.{HasLists}
 use Rattle.plan_store_pairs.specs.Turns.{ArePlanned}
 use Rattle.long_term_plan.specs.Drafting.{AreNew, ArePlannedKeys, DraftsRise}
 use Rattle.long_term_plan.specs.Making.{numbered}
-use Rattle.long_term_plan.specs.Modifying.{AreChanged, AreMet, AreParted, IsModifiedOrTooMany, ModifiesRows, NamesThen}
-use Rattle.long_term_plan.specs.Modifying.{PartsPlan}
+use Rattle.long_term_plan.specs.Modifying.{AreChanged, AreMet, AreParted, IsModifiedOrTooMany, Looks, ModifiesRows}
+use Rattle.long_term_plan.specs.Modifying.{NamesThen, PartsPlan}
 use Rattle.long_term_plan.specs.Modifying.{modified_sets, outcome}
 use Rattle.long_term_plan.proofs.ChangedLemmas.{lists_then}
 use Rattle.long_term_plan.proofs.DraftingLemmas.{named_late, new_are}
@@ -42,23 +43,25 @@ named_drafts-requires-clause-apart c =
 
 pub unmet_drafts-requires : goal.unmet_drafts-requires
 unmet_drafts-requires c =
-    ap length c.deref-3.ensures.value ∙ c.in_ok-parted.ensures.count
-    ∙ ap length (c.deref.ensures.value ∙ sym c.deref-2.ensures.value)
+    ap length c.deref-4.ensures.value ∙ c.in_ok-parted.ensures.count
+    ∙ ap length (c.deref-2.ensures.value ∙ sym c.deref-3.ensures.value)
 
 pub change_rows-requires : goal.change_rows-requires
 change_rows-requires c =
     let few = c.are_too_many.ensures.serials c.if-are_too_many.false in
-    let count : length c.in_ok-put.put.items ≡ length c.deref-5.result.now =
-    ap length c.in_ok-put.ensures ∙ numbered_length c.issued.result c.deref-6.result.now
-    ∙ ap length (c.deref-6.ensures.value ∙ sym c.deref-5.ensures.value) in
+    let count : length c.in_ok-put.put.items ≡ length c.deref-6.result.now =
+    ap length c.in_ok-put.ensures ∙ numbered_length c.issued.result c.deref-7.result.now
+    ∙ ap length (c.deref-7.ensures.value ∙ sym c.deref-6.ensures.value) in
     omega (arith, few, count)
 
 pub returns-then-are_too_many : goal.returns-then-are_too_many
 returns-then-are_too_many c h sound sees known planned deleted =
     let content = with_hidden h c.args.view.now in
     let only = c.args.only.now in
-    let rows = c.ltp-rows.result.now in
-    let looked = c.looked_rows-looked.result.now in
+    let rows = c.ltp-rows.result.now.items in
+    let looked = c.deref.result.now in
+    let looked_are = subst (λ (l : List Row). ListsSet of_row (shown c.args.view.now).sets.ltp
+    (λ (row : Row). Looks only row.key.app) l) (sym c.deref.ensures.value) c.in_ok-looked.ensures in
     let named = c.in_ok-named.named.items in
     let new = c.in_ok-made.made.items in
     let gone = c.in_ok-parted.parted.gone.items in
@@ -70,35 +73,35 @@ returns-then-are_too_many c h sound sees known planned deleted =
     c.as_slice.ensures.value
     c.last_planned-last.result c.last_planned-last.ensures.same named named c.in_ok-named.ensures refl in
     let are_met : AreMet looked named met =
-    subst (λ (ds : List Draft). DraftsRise ds → AreMet looked ds met) c.deref.ensures.value
+    subst (λ (ds : List Draft). DraftsRise ds → AreMet looked ds met) c.deref-2.ensures.value
     c.in_ok-parted.ensures.met are_named.rising in
-    let keys : ArePlannedKeys content.sets c.deref-2.result.now c.deref-3.result.now =
-    subst (λ (ds : List Draft). ArePlannedKeys content.sets ds c.deref-3.result.now) (sym c.deref-2.ensures.value)
-    (subst (λ (bs : List Bool). ArePlannedKeys content.sets named bs) (sym c.deref-3.ensures.value)
-    (keys_planned content sound only c.args.bounds.now planned looked c.looked_rows-looked.ensures named are_named met
+    let keys : ArePlannedKeys content.sets c.deref-3.result.now c.deref-4.result.now =
+    subst (λ (ds : List Draft). ArePlannedKeys content.sets ds c.deref-4.result.now) (sym c.deref-3.ensures.value)
+    (subst (λ (bs : List Bool). ArePlannedKeys content.sets named bs) (sym c.deref-4.ensures.value)
+    (keys_planned content sound only c.args.bounds.now planned looked looked_are named are_named met
     are_met)) in
     let are_new : AreDrafts (IsMade (NamesThen content only) content.sets) new =
     new_are (NamesThen content only) content.sets named new are_named
-    (subst (λ (ds : List Draft). AreNew content.sets ds new) c.deref-2.ensures.value
+    (subst (λ (ds : List Draft). AreNew content.sets ds new) c.deref-3.ensures.value
     (c.in_ok-made.ensures h (λ draft there. deleted draft.key (named_late content sound c.definitions-all.result.now
-    c.definitions-all.ensures c.as_slice.result.now c.args.bounds.now.plan_end _ named c.deref-2.result.now
-    c.in_ok-named.ensures c.deref-2.ensures.value draft there)) keys)) in
+    c.definitions-all.ensures c.as_slice.result.now c.args.bounds.now.plan_end _ named c.deref-3.result.now
+    c.in_ok-named.ensures c.deref-3.ensures.value draft there)) keys)) in
     let go : gone ≡ filter (λ (r : Row). is_none (outcome only named r)) rows =
     subst (λ (ds : List Draft). DraftsRise ds → gone ≡ filter (λ (r : Row). is_none (outcome only ds r)) looked)
-    c.deref.ensures.value c.in_ok-parted.ensures.gone are_named.rising
-    ∙ gone_same content.sets only named rows c.ltp-rows.ensures.rows looked c.looked_rows-looked.ensures in
-    let counted : length kept + length c.deref-4.result.now ≡ size content.sets.ltp content.sets.issued =
-    ap (λ (l : List Row). length kept + length l) (c.deref-4.ensures.value ∙ go) ∙ counts (outcome only named) rows
+    c.deref-2.ensures.value c.in_ok-parted.ensures.gone are_named.rising
+    ∙ gone_same content.sets only named rows c.ltp-rows.ensures.rows looked looked_are in
+    let counted : length kept + length c.deref-5.result.now ≡ size content.sets.ltp content.sets.issued =
+    ap (λ (l : List Row). length kept + length l) (c.deref-5.ensures.value ∙ go) ∙ counts (outcome only named) rows
     ∙ c.ltp-rows.ensures.count h sound.serials in
     let tested = c.are_too_many.ensures.too_many h sound (length kept) counted in
     let change : AreChanged (outcome only named) rows changed =
-    changed_same content.sets only named rows c.ltp-rows.ensures.rows looked c.looked_rows-looked.ensures changed
-    (subst (λ (ds : List Draft). DraftsRise ds → AreChanged (outcome only ds) looked changed) c.deref.ensures.value
+    changed_same content.sets only named rows c.ltp-rows.ensures.rows looked looked_are changed
+    (subst (λ (ds : List Draft). DraftsRise ds → AreChanged (outcome only ds) looked changed) c.deref-2.ensures.value
     c.in_ok-parted.ensures.changed are_named.rising) in
     let split : AreParted (outcome only named) rows kept gone changed =
     record { stay = refl; go = go; change = change } in
     let many = too_many content sound only named new rows c.ltp-rows.ensures.rows kept gone changed split (length kept)
-    (length c.deref-5.result.now) refl (ap length c.deref-5.ensures.value) in
+    (length c.deref-6.result.now) refl (ap length c.deref-6.ensures.value) in
     record {
       named = named;
       are_named = are_named;
@@ -117,8 +120,10 @@ pub returns : goal.returns
 returns c = weaker c.change_rows.result _ _ (λ verdict made h sound sees known planned deleted.
     let content = with_hidden h c.args.view.now in
     let only = c.args.only.now in
-    let rows = c.ltp-rows.result.now in
-    let looked = c.looked_rows-looked.result.now in
+    let rows = c.ltp-rows.result.now.items in
+    let looked = c.deref.result.now in
+    let looked_are = subst (λ (l : List Row). ListsSet of_row (shown c.args.view.now).sets.ltp
+    (λ (row : Row). Looks only row.key.app) l) (sym c.deref.ensures.value) c.in_ok-looked.ensures in
     let named = c.in_ok-named.named.items in
     let new = c.in_ok-made.made.items in
     let gone = c.in_ok-parted.parted.gone.items in
@@ -130,35 +135,35 @@ returns c = weaker c.change_rows.result _ _ (λ verdict made h sound sees known 
     c.as_slice.ensures.value
     c.last_planned-last.result c.last_planned-last.ensures.same named named c.in_ok-named.ensures refl in
     let are_met : AreMet looked named met =
-    subst (λ (ds : List Draft). DraftsRise ds → AreMet looked ds met) c.deref.ensures.value
+    subst (λ (ds : List Draft). DraftsRise ds → AreMet looked ds met) c.deref-2.ensures.value
     c.in_ok-parted.ensures.met are_named.rising in
-    let keys : ArePlannedKeys content.sets c.deref-2.result.now c.deref-3.result.now =
-    subst (λ (ds : List Draft). ArePlannedKeys content.sets ds c.deref-3.result.now) (sym c.deref-2.ensures.value)
-    (subst (λ (bs : List Bool). ArePlannedKeys content.sets named bs) (sym c.deref-3.ensures.value)
-    (keys_planned content sound only c.args.bounds.now planned looked c.looked_rows-looked.ensures named are_named met
+    let keys : ArePlannedKeys content.sets c.deref-3.result.now c.deref-4.result.now =
+    subst (λ (ds : List Draft). ArePlannedKeys content.sets ds c.deref-4.result.now) (sym c.deref-3.ensures.value)
+    (subst (λ (bs : List Bool). ArePlannedKeys content.sets named bs) (sym c.deref-4.ensures.value)
+    (keys_planned content sound only c.args.bounds.now planned looked looked_are named are_named met
     are_met)) in
     let are_new : AreDrafts (IsMade (NamesThen content only) content.sets) new =
     new_are (NamesThen content only) content.sets named new are_named
-    (subst (λ (ds : List Draft). AreNew content.sets ds new) c.deref-2.ensures.value
+    (subst (λ (ds : List Draft). AreNew content.sets ds new) c.deref-3.ensures.value
     (c.in_ok-made.ensures h (λ draft there. deleted draft.key (named_late content sound c.definitions-all.result.now
-    c.definitions-all.ensures c.as_slice.result.now c.args.bounds.now.plan_end _ named c.deref-2.result.now
-    c.in_ok-named.ensures c.deref-2.ensures.value draft there)) keys)) in
+    c.definitions-all.ensures c.as_slice.result.now c.args.bounds.now.plan_end _ named c.deref-3.result.now
+    c.in_ok-named.ensures c.deref-3.ensures.value draft there)) keys)) in
     let go : gone ≡ filter (λ (r : Row). is_none (outcome only named r)) rows =
     subst (λ (ds : List Draft). DraftsRise ds → gone ≡ filter (λ (r : Row). is_none (outcome only ds r)) looked)
-    c.deref.ensures.value c.in_ok-parted.ensures.gone are_named.rising
-    ∙ gone_same content.sets only named rows c.ltp-rows.ensures.rows looked c.looked_rows-looked.ensures in
-    let counted : length kept + length c.deref-4.result.now ≡ size content.sets.ltp content.sets.issued =
-    ap (λ (l : List Row). length kept + length l) (c.deref-4.ensures.value ∙ go) ∙ counts (outcome only named) rows
+    c.deref-2.ensures.value c.in_ok-parted.ensures.gone are_named.rising
+    ∙ gone_same content.sets only named rows c.ltp-rows.ensures.rows looked looked_are in
+    let counted : length kept + length c.deref-5.result.now ≡ size content.sets.ltp content.sets.issued =
+    ap (λ (l : List Row). length kept + length l) (c.deref-5.ensures.value ∙ go) ∙ counts (outcome only named) rows
     ∙ c.ltp-rows.ensures.count h sound.serials in
     let tested = c.are_too_many.ensures.too_many h sound (length kept) counted in
     let change : AreChanged (outcome only named) rows changed =
-    changed_same content.sets only named rows c.ltp-rows.ensures.rows looked c.looked_rows-looked.ensures changed
-    (subst (λ (ds : List Draft). DraftsRise ds → AreChanged (outcome only ds) looked changed) c.deref.ensures.value
+    changed_same content.sets only named rows c.ltp-rows.ensures.rows looked looked_are changed
+    (subst (λ (ds : List Draft). DraftsRise ds → AreChanged (outcome only ds) looked changed) c.deref-2.ensures.value
     c.in_ok-parted.ensures.changed are_named.rising) in
     let split : AreParted (outcome only named) rows kept gone changed =
     record { stay = refl; go = go; change = change } in
     let many = too_many content sound only named new rows c.ltp-rows.ensures.rows kept gone changed split (length kept)
-    (length c.deref-5.result.now) refl (ap length c.deref-5.ensures.value) in
+    (length c.deref-6.result.now) refl (ap length c.deref-6.ensures.value) in
     let parts : PartsPlan content.sets only named kept gone changed =
     record {
       rows = rows;
@@ -167,19 +172,19 @@ returns c = weaker c.change_rows.result _ _ (λ verdict made h sound sees known 
     } in
     let s = modified_sets only named new content.sets in
     let put : c.in_ok-put.put.items ≡ numbered content.sets.issued new =
-    c.in_ok-put.ensures ∙ ap (λ (l : List Draft). numbered c.issued.result l) c.deref-6.ensures.value
+    c.in_ok-put.ensures ∙ ap (λ (l : List Draft). numbered c.issued.result l) c.deref-7.ensures.value
     ∙ ap (λ n. numbered n new) c.issued.ensures in
     let lists = lists_then content.definitions content.sets (rows_sound content sound) rows c.ltp-rows.ensures.rows only
     named kept gone changed parts.parts new (stays_sound content sound only named new c.args.bounds.now planned are_new)
     in
-    let plan : ArePlanned rows kept c.deref-7.result.now c.deref-8.result.now =
-    subst (λ (l : List Row). ArePlanned rows kept l c.deref-8.result.now) (sym c.deref-7.ensures.value)
-    (subst (λ (l : List Row). ArePlanned rows kept gone l) (sym (c.deref-8.ensures.value ∙ put))
+    let plan : ArePlanned rows kept c.deref-8.result.now c.deref-9.result.now =
+    subst (λ (l : List Row). ArePlanned rows kept l c.deref-9.result.now) (sym c.deref-8.ensures.value)
+    (subst (λ (l : List Row). ArePlanned rows kept gone l) (sym (c.deref-9.ensures.value ∙ put))
     (modifying_planned content.sets (rows_sound content sound) rows c.ltp-rows.ensures.rows only named kept gone changed
     parts.parts new)) in
     let led = c.in_ok-pairs.ensures are_named.rising c.ltp-rows.ensures.rows h sound sees known s plan
     (λ cp cp_are history history_are. subst (λ (l : List Row). HasLists s (kept ++ l) cp history)
-    (sym (c.deref-8.ensures.value ∙ put)) (lists cp cp_are history history_are)) in
+    (sym (c.deref-9.ensures.value ∙ put)) (lists cp cp_are history history_are)) in
     record {
       named = named;
       are_named = are_named;

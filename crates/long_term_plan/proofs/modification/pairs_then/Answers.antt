@@ -21,7 +21,7 @@ use Rattle.long_term_plan.specs.Modifying.{AreOf, outcome}
 use Rattle.long_term_plan.proofs.HeldLemmas.{app_held, gathered_are, gone_held, held, turn_seen}
 use Rattle.long_term_plan.proofs.modification.pairs_then.Goals as goal
 use Rattle.long_term_plan.proofs.modification.pairs_then.Goals.{then-few+in_ok-planned+in_ok-live}
-use Rattle.long_term_plan.proofs.modification.pairs_then.Goals.{else-few+in_ok-kept+in_ok-live-2}
+use Rattle.long_term_plan.proofs.modification.pairs_then.Goals.{else-few+in_ok-all+in_ok-kept+in_ok-live-2}
 use Rattle.long_term_plan.proofs.modification.pairs_then.Goals.{then-few-2+in_ok-before, else-few-2+in_ok-before-2}
 
 weaker : {A E : Type 0} (r : Result A E) (P Q : A → Type 0) → ((a : A) → P a → Q a) → IfOk r P → IfOk r Q
@@ -32,7 +32,7 @@ pub returns : goal.returns
 returns c order lists = weaker c.pair_change.result _ _ (λ change led h sound sees told s plan have.
     let view = c.args.view.now in
     let content = with_hidden h view in
-    let rows = c.args.rows.now in
+    let rows = c.args.rows.now.items in
     let only = c.args.only.now in
     let named = c.args.named.items in
     let stay = filter_map (outcome only named) rows in
@@ -44,7 +44,7 @@ returns c order lists = weaker c.pair_change.result _ _ (λ change led h sound s
     let touch = c.in_ok-touch.touch in
     let apps = c.in_ok-apps.apps.items in
     let reached = c.in_ok-apps.ensures in
-    let current = c.cp-current.result.now in
+    let current = c.cp-current.result.now.items in
     let lasts = c.lasts-lasts.result.now in
     let touches : IsTouchOf gone put content.in_force links touch =
     subst (λ (ls : List Link). IsTouchOf gone put content.in_force ls touch) (sym same) c.in_ok-touch.ensures in
@@ -97,12 +97,14 @@ returns c order lists = weaker c.pair_change.result _ _ (λ change led h sound s
           w.in_ok-live.live) w.deref-then-few-3.ensures.value w.in_ok-live.ensures) in
           rw w.live-is (with_rows (Contains apps) _ (gathered_are apps (stay ++ put) planned current lasts _ are_planned
           (gathered current c.cp-current.ensures.rows lasts c.lasts-lasts.ensures)) app_pass)
-      | else-few+in_ok-kept+in_ok-live-2 w ↦
-          let kept : w.deref-else-few-2.result.now ≡ stay =
-          w.deref-else-few-2.ensures.value
+      | else-few+in_ok-all+in_ok-kept+in_ok-live-2 w ↦
+          let kept : w.deref-else-few-3.result.now ≡ stay =
+          w.deref-else-few-3.ensures.value
           ∙ subst (λ (ds : List Draft). DraftsRise ds
-          → w.in_ok-kept.kept.items ≡ filter_map (outcome only ds) rows) w.deref-else-few.ensures.value
-          w.in_ok-kept.ensures order in
+          → w.in_ok-kept.kept.items ≡ filter_map (outcome only ds) rows) w.deref-else-few-2.ensures.value
+          (subst (λ (rs : List Row). DraftsRise w.deref-else-few-2.result.now
+          → w.in_ok-kept.kept.items ≡ filter_map (outcome only w.deref-else-few-2.result.now) rs)
+          (w.deref-else-few.ensures.value ∙ w.in_ok-all.ensures) w.in_ok-kept.ensures) order in
           let listed : (p : PlacedRow) → Contains w.in_ok-live-2.live p ↔ IsInLists (stay ++ put) current lasts p =
           subst (λ (l : List Row). (p : PlacedRow) → Contains w.in_ok-live-2.live p
           ↔ IsInLists (l ++ put) current lasts p) kept w.in_ok-live-2.ensures.listed in

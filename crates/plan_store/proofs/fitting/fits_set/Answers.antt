@@ -17,6 +17,6 @@ returns-then-not-put_are_new g c = refused c.put_are_new.result c.put_are_new.en
 pub returns : goal.returns
 returns g c =
     let row_of = g.T.PlanRow.row_of in
-    fits_tested row_of c.args.moves.now (look_up (serial_of row_of) c.args.list.now)
+    fits_tested row_of c.args.moves.now (look_up (serial_of row_of) c.args.list.now.items)
     (c.gone_stand.ensures.0 c.if-not-gone_stand.false) (c.changed_stand.ensures.0 c.if-not-changed_stand.false)
     (c.put_are_new.ensures.0 c.if-not-put_are_new.false) c.names_each_once.result c.names_each_once.ensures

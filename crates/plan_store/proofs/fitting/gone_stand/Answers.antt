@@ -7,6 +7,6 @@ use Rattle.plan_store.proofs.fitting.gone_stand.Goals as goal
 pub returns : goal.returns
 returns g c =
     let row_of = g.T.PlanRow.row_of in
-    let stands = λ (x : g.row.T.Denot). look_up (serial_of row_of) c.args.list.now (row_of x).serial ≡ Some x in
+    let stands = λ (x : g.row.T.Denot). look_up (serial_of row_of) c.args.list.now.items (row_of x).serial ≡ Some x in
     each_is stands c.args.moves.now.gone.items c.all.result (cases_from_all _ _ _ stands (λ x. stands x → ⊥) c.all.ensures.ran
     (YieldsList-from_slice c.args.moves.now.gone.items (cc)) (λ x q k. search (rules, tests)) (λ x q k. search (rules, tests)))

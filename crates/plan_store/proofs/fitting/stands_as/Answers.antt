@@ -8,7 +8,7 @@ pub returns-in-Some : goal.returns-in-Some
 returns-in-Some g c =
     let row_of = g.T.PlanRow.row_of in
     let same = c.same_key.result in
-    stands_as_is row_of c.args.list.now c.in-Some.was c.args.x.now same c.in-Some.ensures
+    stands_as_is row_of c.args.list.now.items c.in-Some.was c.args.x.now same c.in-Some.ensures
     (subst (λ (row : Row). IsTrue same ↔ (row.key ≡ (row_of c.args.x.now).key)) c.row.ensures
     (subst (λ (row : Row). IsTrue same ↔ (c.row.result.key ≡ row.key)) c.row-in-Some.ensures c.same_key.ensures))
 

@@ -7,12 +7,12 @@ use Rattle.plan_store.proofs.lasts.add_last.Goals as goal
 
 pub returns-in_default-clause-adds : goal.returns-in_default-clause-adds
 returns-in_default-clause-adds c =
-    adds_none (look_up row_serial c.args.history.now) c.args.query.now.app (c.args.query.now.moment + 1)
+    adds_none (look_up row_serial c.args.history.now.items) c.args.query.now.app (c.args.query.now.moment + 1)
     (look_up row_serial c.args.lasts.now.items) c.in_default.ensures
 
 pub returns-then-has_key-clause-adds : goal.returns-then-has_key-clause-adds
 returns-then-has_key-clause-adds c =
-    let history = c.args.history.now in
+    let history = c.args.history.now.items in
     let lasts = c.args.lasts.now.items in
     let last = c.in-Some.ensures in
     let tests = rw (c.deref.ensures.value, c.arrival.ensures) at c.has_key.ensures in
@@ -23,12 +23,12 @@ returns-then-has_key-clause-adds c =
 pub put_row-requires-clause-new : goal.put_row-requires-clause-new
 put_row-requires-clause-new c =
     let tests = rw (c.deref.ensures.value, c.arrival.ensures) at c.has_key.ensures in
-    free_lacked c.args.history.now c.args.lasts.now.items c.requires.part c.in-Some.row c.in-Some.ensures.stands
+    free_lacked c.args.history.now.items c.args.lasts.now.items c.requires.part c.in-Some.row c.in-Some.ensures.stands
     (sym (tests c.requires.rows.keyed) ∙ c.if-has_key.false)
 
 pub returns-clause-adds : goal.returns-clause-adds
 returns-clause-adds c =
-    let history = c.args.history.now in
+    let history = c.args.history.now.items in
     let lasts = c.args.lasts.now.items in
     let last = c.in-Some.ensures in
     let tests = rw (c.deref.ensures.value, c.arrival.ensures) at c.has_key.ensures in

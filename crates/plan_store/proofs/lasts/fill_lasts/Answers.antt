@@ -10,7 +10,7 @@ use Rattle.plan_store.proofs.WindowLemmas.{no_rows}
 use Rattle.plan_store.proofs.lasts.fill_lasts.Goals as goal
 
 pub loop-query-init : goal.loop-query-init
-loop-query-init c = rw c.clear.ensures.items (no_rows of_row, lasts_none (look_up row_serial c.args.history.now))
+loop-query-init c = rw c.clear.ensures.items (no_rows of_row, lasts_none (look_up row_serial c.args.history.now.items))
 
 pub add_last-requires-clause-part : goal.add_last-requires-clause-part
 add_last-requires-clause-part c serial row there = (c.loop-query.invariant.1.only serial row there).0
@@ -18,7 +18,7 @@ add_last-requires-clause-part c serial row there = (c.loop-query.invariant.1.onl
 -- one more query
 pub loop-query-preserved : goal.loop-query-preserved
 loop-query-preserved c =
-    let history = look_up row_serial c.args.history.now in
+    let history = look_up row_serial c.args.history.now.items in
     let all = c.args.queries.now in
     let index = c.loop-query.query-index in
     let query = c.query-item.result in
@@ -34,6 +34,6 @@ loop-query-preserved c =
 -- all queries
 pub returns-clause-lasts : goal.returns-clause-lasts
 returns-clause-lasts c =
-    subst (λ (l : List LastQuery). HasLasts (IsQueriedIn l) (look_up row_serial c.args.history.now)
+    subst (λ (l : List LastQuery). HasLasts (IsQueriedIn l) (look_up row_serial c.args.history.now.items)
     (look_up row_serial c.loop-query.lasts.items))
     (take_all c.loop-query.query-index c.args.queries.now (omega arith)) c.loop-query.invariant.1

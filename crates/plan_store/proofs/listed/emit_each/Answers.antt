@@ -2,7 +2,7 @@ use Rattle.std.proofs.Common.{◌≡◌, suc, ◌+◌, ◌∷◌, [], ◌++◌, 
 use Rattle.std.proofs.lemmas.List.{map_more}
 use Rattle.plan_store.specs.Listed.{shown_as}
 use Rattle.plan_store.specs.Listings.{AcceptsAll}
-use Rattle.plan_store.proofs.ListedLemmas.{map_rest, map_split, takes_more}
+use Rattle.plan_store.proofs.ListedLemmas.{map_rest, map_split, refused_apart, takes_more}
 use Rattle.plan_store.proofs.listed.emit_each.Goals as goal
 
 pub loop-x-preserved : goal.loop-x-preserved
@@ -38,4 +38,4 @@ returns-in-Err-clause-part g c =
     }
 
 pub returns-in-Err-clause-blames : goal.returns-in-Err-clause-blames
-returns-in-Err-clause-blames g c = λ is. cc
+returns-in-Err-clause-blames g c = refused_apart c.in-Err.fault

@@ -1,31 +1,28 @@
-use Rattle.plan_store.proofs.ListingLemmas.{handed_all, handed_none, handed_part}
+use Rattle.std.proofs.Common.{map}
 use Rattle.std.specs.Prelude.{option_copied}
+use Rattle.plan_store.proofs.ListingLemmas.{handed_all, handed_none, handed_part}
 use Rattle.plan_store.proofs.listed.emit_rows.Goals as goal
 
 pub returns-in-Ok-clause-all : goal.returns-in-Ok-clause-all
 returns-in-Ok-clause-all g c rows =
-    let keyed = c.part_of.ensures.keyed rows.keyed in
-    let all = c.part_of.ensures.all rows.keyed in
     let h = rw c.deref.ensures.value at c.emit_each.ensures.all in
-    handed_all g.T.PlanRow.row_of g.T.Lettered.letter_of c.args.is_plain c.args.rows.now rows (option_copied c.args.app)
-    c.part_of.result.now keyed all g.K.ItemSink.accepts g.K.ItemSink.refuses c.args.sink.now c.emit_each.new.sink
-    (λ b. b.now) c.in-Ok.found.items c.in-Ok.ensures c.emit_each.result h
+    handed_all g.T.PlanRow.row_of g.T.Lettered.letter_of c.args.is_plain c.args.list.now.items rows
+    (option_copied c.args.app) (map (λ b. b.now) c.in-Ok.found.items) c.in-Ok.ensures.keyed c.in-Ok.ensures.all
+    g.K.ItemSink.accepts g.K.ItemSink.refuses c.args.sink.now c.emit_each.new.sink (λ b. b.now)
+    c.put_in_order.new.found.items c.put_in_order.ensures c.emit_each.result h
 
 pub returns-in-Ok-clause-part : goal.returns-in-Ok-clause-part
 returns-in-Ok-clause-part g c rows =
-    let keyed = c.part_of.ensures.keyed rows.keyed in
-    let all = c.part_of.ensures.all rows.keyed in
     let h = rw c.deref.ensures.value at c.emit_each.ensures.part in
-    handed_part g.T.PlanRow.row_of g.T.Lettered.letter_of c.args.is_plain c.args.rows.now rows
-    (option_copied c.args.app) c.part_of.result.now keyed all g.K.ItemSink.accepts g.K.ItemSink.refuses c.args.sink.now
-    c.emit_each.new.sink (λ b. b.now) c.in-Ok.found.items c.in-Ok.ensures c.emit_each.result h
+    handed_part g.T.PlanRow.row_of g.T.Lettered.letter_of c.args.is_plain c.args.list.now.items rows
+    (option_copied c.args.app) (map (λ b. b.now) c.in-Ok.found.items) c.in-Ok.ensures.keyed c.in-Ok.ensures.all
+    g.K.ItemSink.accepts g.K.ItemSink.refuses c.args.sink.now c.emit_each.new.sink (λ b. b.now)
+    c.put_in_order.new.found.items c.put_in_order.ensures c.emit_each.result h
 
 pub returns-in-Err-clause-part : goal.returns-in-Err-clause-part
 returns-in-Err-clause-part g c rows =
-    let keyed = c.part_of.ensures.keyed rows.keyed in
-    let all = c.part_of.ensures.all rows.keyed in
-    handed_none g.T.PlanRow.row_of g.T.Lettered.letter_of c.args.is_plain c.args.rows.now rows
-    (option_copied c.args.app) c.part_of.result.now keyed all g.K.ItemSink.accepts g.K.ItemSink.refuses c.args.sink.now
+    handed_none g.T.PlanRow.row_of g.T.Lettered.letter_of c.args.is_plain c.args.list.now.items rows
+    (option_copied c.args.app) g.K.ItemSink.accepts g.K.ItemSink.refuses c.args.sink.now
 
 pub returns-in-Err-clause-blames : goal.returns-in-Err-clause-blames
 returns-in-Err-clause-blames g c = λ is. cc

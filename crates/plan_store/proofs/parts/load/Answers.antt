@@ -13,6 +13,6 @@ returns-clause-seated g c =
     let old = c.args.list.now.items in
     let seats = c.note_rows.new.seats in
     let noted = rw c.from_ref.ensures.value at c.in_ok-note_rows.ensures.noted in
-    seats_put row_of old c.put_row.new.list.items c.args.row.now seats
+    seats_put row_of old c.put_in.new.list.items c.args.row.now seats
     (seats_stay row_of old c.args.seats.now seats c.requires.seated c.note_rows.ensures.stay) noted
-    c.put_row.ensures.comes
+    c.put_in.ensures.comes

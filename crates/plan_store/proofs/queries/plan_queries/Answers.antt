@@ -1,5 +1,4 @@
 use Rattle.std.proofs.Common.{List, [], refl, subst}
-use Rattle.occurrences.specs.declared.place.CurrentRow.{CurrentRow}
 use Rattle.plan_store.specs.HistoryReads.{ReadsPlan}
 use Rattle.plan_store.specs.Contents.{content_of}
 use Rattle.plan_store.specs.Queries.{AddsQueries, ReadByOne, ReadsRow}
@@ -11,13 +10,10 @@ pub returns-clause-adds : goal.returns-clause-adds
 returns-clause-adds c =
     let lists = c.args.lists.now in
     let content = content_of lists in
-    let first = c.add_waiting.new.queries.items in
+    let first = c.add_all_waiting.new.queries.items in
     let queries = c.add_plan_end.new.queries.items in
-    let waiting = subst (λ (rows : List CurrentRow). AddsQueries
-    (ReadByOne (ReadsRow content.in_force content.definitions) rows)
-    c.new-queries.result.items first) c.deref.ensures.value c.in_ok-add_waiting.ensures in
     let own = subst (λ (old : List LastQuery). AddsQueries (ReadByOne (ReadsRow content.in_force content.definitions)
-    lists.cp.items) old first) c.new-queries.ensures.items waiting in
+    lists.cp.items) old first) c.new-queries.ensures.items c.in_ok-add_all_waiting.ensures in
     asks_same (ReadsPlan content) [] queries c.put_in_order.new.items.items
     (asks_plan content lists.cp.items lists.cp_rows refl [] first queries own c.in_ok-add_plan_end.ensures)
     c.put_in_order.ensures.same

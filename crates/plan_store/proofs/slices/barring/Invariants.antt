@@ -1,11 +1,8 @@
-use Rattle.std.proofs.Common.{◌≡◌, ◌-◌, ◌≤◌, length, take, filter}
+use Rattle.std.proofs.Common.{◌≡◌, take, filter}
+use Rattle.plan_store_lists.specs.Blocks.{items_in}
 use Rattle.plan_store.specs.Views.{bars_from}
 use Rattle.plan_store.proofs.slices.barring.Given as goal
 
--- those of the rows so far
-abbrev pub invariant-loop-at : goal.invariant-loop-at
-invariant-loop-at l = (l.at ≤ length l.rows)
-    × (l.found.items ≡ filter (bars_from l.moment) (take l.at l.rows))
-
-abbrev pub decreases-loop-at : goal.decreases-loop-at
-decreases-loop-at l = length l.rows - l.at
+-- those of the blocks so far
+abbrev pub invariant-loop-block : goal.invariant-loop-block
+invariant-loop-block l = l.found.items ≡ filter (bars_from l.moment) (items_in (take l.block-index l.all))

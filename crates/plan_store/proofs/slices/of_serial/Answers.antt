@@ -23,7 +23,7 @@ loop-seat-preserved g c x there front same =
     elim (Contains-append_cases (take index found) (seat ∷ []) (seat_of row) (subst (λ l. Contains l (seat_of row)) more
     front)) [
       | inl before ↦ c.loop-seat.invariant x there before same
-      | inr last ↦ c.in-None.ensures x ((c.of_key.ensures.all c.requires.keyed x).1
+      | inr last ↦ c.in-None.ensures x ((c.with_key.ensures.all x).1
           (there, ap key_at (sym (one_is seat (seat_of row) last)))) same
     ]
 
@@ -34,5 +34,5 @@ returns g c x there same =
     let found = c.seats_of-found.result.now in
     let whole : take c.loop-seat.seat-index found ≡ found = take_all c.loop-seat.seat-index found (omega arith) in
     let held = (c.seats_of-found.ensures (seat_of row)).1
-    (seat_held seats (seat_of row) (c.requires.seated x there), same) in
+    (seat_held seats (seat_of row) (c.requires x there), same) in
     c.loop-seat.invariant x there (subst (λ l. Contains l (seat_of row)) (sym whole) held) same

@@ -5,5 +5,5 @@ use Rattle.plan_store.proofs.slices.of_serial.Given as goal
 
 -- no row that has one of the first seats has the serial
 abbrev pub invariant-loop-seat : goal.invariant-loop-seat
-invariant-loop-seat g l = (x : g.row.T.Denot) → Contains l.list x → Contains (take l.seat-index l.found)
+invariant-loop-seat g l = (x : g.row.T.Denot) → Contains l.list.items x → Contains (take l.seat-index l.found)
     (seat_of (g.T.PlanRow.row_of x)) → (g.T.PlanRow.row_of x).serial ≢ l.serial

@@ -16,23 +16,23 @@ returns-clause-live c s has =
     let first =
     subst (λ old. AddsRows planned LongTerm old r1) c.in_ok-rows.ensures.items c.in_ok-push_rows.ensures in
     let both = rows_both planned made LongTerm [] r1 r2 first c.in_ok-push_rows-2.ensures in
-    let live = are_live s (planned ++ made) c.args.current.now c.args.history.now has
-    r2 c.push_current.new.rows.items c.push_rows-3.new.rows.items
-    both c.in_ok-push_current.ensures c.in_ok-push_rows-3.ensures in
+    let live = are_live s (planned ++ made) c.args.current.now.items c.args.history.now has
+    r2 c.push_current_set.new.rows.items c.push_rows-3.new.rows.items
+    both c.in_ok-push_current_set.ensures c.in_ok-push_rows-3.ensures in
     subst (AreLiveRows s) (sym c.from_vec.ensures) live
 
 pub returns-clause-listed : goal.returns-clause-listed
 returns-clause-listed c =
     let planned = c.args.planned.now in
     let made = c.args.made.now in
-    let current = c.args.current.now in
+    let current = c.args.current.now.items in
     let history = c.args.history.now in
     let r1 = c.push_rows.new.rows.items in
     let r2 = c.push_rows-2.new.rows.items in
     let first =
     subst (λ old. AddsRows planned LongTerm old r1) c.in_ok-rows.ensures.items c.in_ok-push_rows.ensures in
     let both = rows_both planned made LongTerm [] r1 r2 first c.in_ok-push_rows-2.ensures in
-    let listed = are_listed (planned ++ made) current history r2 c.push_current.new.rows.items
-    c.push_rows-3.new.rows.items both c.in_ok-push_current.ensures c.in_ok-push_rows-3.ensures in
+    let listed = are_listed (planned ++ made) current history r2 c.push_current_set.new.rows.items
+    c.push_rows-3.new.rows.items both c.in_ok-push_current_set.ensures c.in_ok-push_rows-3.ensures in
     subst (λ rows. (p : PlacedRow) → Contains rows p ↔ IsInLists (planned ++ made) current history p)
     (sym c.from_vec.ensures) listed

@@ -6,23 +6,23 @@ use Rattle.plan_store_pairs.proofs.ListLemmas.{none}
 use Rattle.plan_store_pairs.proofs.PlannedLemmas.{adds_both, open_at}
 use Rattle.plan_store_pairs.proofs.planned.pairs_of_plans.Goals as goal
 
-pub push_planned-requires : goal.push_planned-requires
-push_planned-requires c row there = ((c.ltp.ensures.rows.exactly row).0 there).0
+pub push_all_planned-requires : goal.push_all_planned-requires
+push_all_planned-requires c row there = ((c.ltp.ensures.rows.exactly row).0 there).0
 
-pub push_waiting-requires : goal.push_waiting-requires
-push_waiting-requires c current there = ((c.cp.ensures.rows.exactly current).0 there).0
+pub push_all_waiting-requires : goal.push_all_waiting-requires
+push_all_waiting-requires c current there = ((c.cp.ensures.rows.exactly current).0 there).0
 
 pub returns : goal.returns
 returns c pair =
     let view = c.args.view.now in
     let all = (shown view).pairs in
-    let ltp = c.ltp.result.now in
-    let cp = c.cp.result.now in
-    let first = c.push_planned.new.pairs.items in
-    let second = c.push_waiting.new.pairs.items in
+    let ltp = c.ltp.result.now.items in
+    let cp = c.cp.result.now.items in
+    let first = c.push_all_planned.new.pairs.items in
+    let second = c.push_all_waiting.new.pairs.items in
     let planned : AddsPairsOf all (HasRowOf ltp) [] first =
-    subst (λ old. AddsPairsOf all (HasRowOf ltp) old first) c.new-pairs.ensures.items c.in_ok-push_planned.ensures in
-    let current : AddsPairsOf all (HasWaiting cp) first second = c.in_ok-push_waiting.ensures in
+    subst (λ old. AddsPairsOf all (HasRowOf ltp) old first) c.new-pairs.ensures.items c.in_ok-push_all_planned.ensures in
+    let current : AddsPairsOf all (HasWaiting cp) first second = c.in_ok-push_all_waiting.ensures in
     let is = adds_both all (HasRowOf ltp) (HasWaiting cp) (IsOpenAt (shown view).sets) [] first second planned current
     (open_at (shown view).sets ltp c.ltp.ensures.rows cp c.cp.ensures.rows) pair in
     let same = c.from_vec.ensures pair in (

@@ -1,8 +1,6 @@
-use Rattle.std.proofs.Common.{List, subst, sym}
-use Rattle.occurrences.specs.declared.place.CurrentRow.{CurrentRow}
-use Rattle.occurrences.specs.declared.row.Row.{Row}
+use Rattle.std.proofs.Common.{subst}
 use Rattle.planner_machine.specs.Content.{Sets}
-use Rattle.plan_store_pairs.specs.LiveRows.{HasLists, HasPairsAfter}
+use Rattle.plan_store_pairs.specs.LiveRows.{HasPairsAfter}
 use Rattle.plan_store.specs.Contents.{content_of}
 use Rattle.plan_store_soundness.proofs.NumberedLemmas.{has_rows}
 use Rattle.plan_store_soundness.proofs.PairLemmas.{has_lists, settled_from, settled_to}
@@ -13,11 +11,7 @@ returns c sound =
     let kept = c.args.content.now in
     let s : Sets = (content_of kept).sets in
     let lists = has_lists kept (has_rows kept) sound in
-    let lent : HasLists s c.deref.result.now c.deref-2.result.now c.deref-3.result.now =
-    subst (λ (l : List Row). HasLists s l c.deref-2.result.now c.deref-3.result.now) (sym c.deref.ensures.value)
-    (subst (λ (l : List CurrentRow). HasLists s kept.ltp.items l c.deref-3.result.now) (sym c.deref-2.ensures.value)
-    (subst (λ (l : List Row). HasLists s kept.ltp.items kept.cp.items l) (sym c.deref-3.ensures.value) lists)) in
-    let live = c.in_ok-rows.ensures.live s lent in
+    let live = c.in_ok-rows.ensures.live s lists in
     let settled = c.in_ok-settled.settled in
     let after : HasPairsAfter kept.pairs kept.in_force s settled =
     subst (λ l. HasPairsAfter l kept.in_force s settled) c.in_ok-pairs.ensures (c.in_ok-settled.ensures s live) in

@@ -12,14 +12,10 @@ returns c =
     let app = c.args.app.now in
     has_app_pairs app (content_of kept).sets c.args.others.now kept.pairs c.of_app.result.now c.of_app-2.result.now
     c.of_app-3.result.now c.of_app-4.result.now
-    (part_has of_row kept.ltp.items c.deref.result.now c.of_app.result.now app kept.ltp_rows c.deref.ensures.value
-    c.of_app.ensures.all)
-    (part_has of_current kept.cp.items c.deref-2.result.now c.of_app-2.result.now app kept.cp_rows
-    c.deref-2.ensures.value c.of_app-2.ensures.all)
-    (part_has of_row kept.history.items c.deref-3.result.now c.of_app-3.result.now app kept.history_rows
-    c.deref-3.ensures.value c.of_app-3.ensures.all)
-    (part_has of_deletion kept.deletions.items c.deref-4.result.now c.of_app-4.result.now app kept.deletion_rows
-    c.deref-4.ensures.value c.of_app-4.ensures.all)
+    (part_has of_row kept.ltp.items c.of_app.result.now app c.of_app.ensures.all)
+    (part_has of_current kept.cp.items c.of_app-2.result.now app c.of_app-2.ensures.all)
+    (part_has of_row kept.history.items c.of_app-3.result.now app c.of_app-3.ensures.all)
+    (part_has of_deletion kept.deletions.items c.of_app-4.result.now app c.of_app-4.ensures.all)
     c.push_pairs.new.found.items c.push_pairs-2.new.found.items c.push_pairs-3.new.found.items
     c.push_pairs-4.new.found.items c.push_pairs-5.new.found.items
     (subst (λ (l : List Pair). AddsPairs of_row app kept.pairs c.of_app.result.now l c.push_pairs.new.found.items)

@@ -5,6 +5,5 @@ use Rattle.plan_store.proofs.contents.Content.completed_of.Goals as goal
 pub returns : goal.returns
 returns c =
     let kept = c.args.self.now in
-    let all = rw c.deref.ensures.value at c.of_key.ensures.all in
-    rows_of_key (λ (row : Row). row.key) c.args.key.now kept.history.items c.of_key.result.now
-    kept.history_rows.one_each (all kept.history_rows.keyed)
+    rows_of_key (λ (row : Row). row.key) c.args.key.now kept.history.items c.with_key.result.now
+    kept.history_rows.one_each c.with_key.ensures.all

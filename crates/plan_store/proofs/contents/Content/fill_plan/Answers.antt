@@ -15,7 +15,7 @@ invariant_of-self-4-clause-plan_lasts c = λ _. record {
   rows = c.in_ok-fill_lasts.ensures.rows;
   lasts = ∣ lasts_asked (ReadsPlan (content_of c.args.self.now)) _ _ c.in_ok-queries.queries.items
       c.in_ok-queries.ensures.found c.in_ok-queries.ensures.only
-      (rw (c.deref.ensures.value, c.deref-2.ensures.value) at c.in_ok-fill_lasts.ensures.lasts) ∣₁;
+      (rw c.deref.ensures.value at c.in_ok-fill_lasts.ensures.lasts) ∣₁;
 }
 
 -- or they were found
@@ -23,4 +23,4 @@ pub returns-clause-filled : goal.returns-clause-filled
 returns-clause-filled c =
     prepared LongTerm _ c.fill_lasts.new.lasts.items c.in_ok-queries.queries.items c.in_ok-queries.ensures.found
     c.in_ok-queries.ensures.only refl c.in_ok-fill_lasts.ensures.rows
-    (rw (c.deref.ensures.value, c.deref-2.ensures.value) at c.in_ok-fill_lasts.ensures.lasts)
+    (rw c.deref.ensures.value at c.in_ok-fill_lasts.ensures.lasts)

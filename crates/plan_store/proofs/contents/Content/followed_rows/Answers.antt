@@ -6,7 +6,7 @@ use Rattle.plan_store.proofs.contents.Content.followed_rows.Goals as goal
 pub returns : goal.returns
 returns c =
     let kept = c.args.self.now in
-    let found = rw (c.deref.ensures.value, c.deref-2.ensures.value) at c.rows_among.ensures in
+    let found = rw c.deref.ensures.value at c.rows_among.ensures in
     IfOk-weaker c.rows_among.result _ _ (λ rows is. is
     ∙ ap (λ (q : ℕ → Bool). filter (λ (row : Row). q row.serial) kept.history.items)
     (λ i serial. c.in_ok-serials.ensures.all serial i)) found

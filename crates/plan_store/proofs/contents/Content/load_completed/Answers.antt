@@ -24,6 +24,6 @@ invariant_of-self c =
           c.load.new.list.items) (sym c.keep_plan_lasts.ensures.rows)
           (plan_loaded c.load.result kept.definitions kept.bounds kept.in_force kept.cp.items kept.history.items
           c.load.new.list.items kept.buffer.plan_lasts.items c.args.row
-          (sym (rw c.deref.ensures.value at c.has_serial.ensures) ∙ c.keep_plan_lasts.ensures.stays on) c.load.ensures.ok
+          (sym c.has_serial.ensures ∙ c.keep_plan_lasts.ensures.stays on) c.load.ensures.ok
           c.load.ensures.err (kept.plan_lasts (c.keep_plan_lasts.ensures.was on)));
     }

@@ -17,7 +17,7 @@ returns-clause-all g c rest numbered =
     let kept = c.args.self.now in
     let whole = with_rest rest (content_of kept) in
     let app = option_copied c.args.app in
-    let h = rw c.deref.ensures.value at c.emit_rows.ensures.all in
+    let h = c.emit_rows.ensures.all in
     whole_all g.K.ItemSink.accepts g.K.ItemSink.refuses c.args.sink.now c.emit_rows.new.sink
     (ShowsSet of_row (λ (_ : Row). status_letter C) true kept.ltp.items app) (ShowRows LongTermPlan app whole)
     (shows_ltp whole numbered (λ (_ : Row). status_letter C) kept.ltp.items kept.ltp_rows (λ _. refl) app)
@@ -28,7 +28,7 @@ returns-clause-part g c rest numbered =
     let kept = c.args.self.now in
     let whole = with_rest rest (content_of kept) in
     let app = option_copied c.args.app in
-    let h = rw c.deref.ensures.value at c.emit_rows.ensures.part in
+    let h = c.emit_rows.ensures.part in
     whole_part g.K.ItemSink.accepts g.K.ItemSink.refuses c.args.sink.now c.emit_rows.new.sink
     (ShowsSet of_row (λ (_ : Row). status_letter C) true kept.ltp.items app) (ShowRows LongTermPlan app whole)
     (shows_ltp whole numbered (λ (_ : Row). status_letter C) kept.ltp.items kept.ltp_rows (λ _. refl) app)

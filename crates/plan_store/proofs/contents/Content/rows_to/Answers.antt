@@ -34,7 +34,7 @@ pub returns-in-History-clause-all : goal.returns-in-History-clause-all
 returns-in-History-clause-all g c numbered =
     let kept = c.args.self.now in
     let app = option_copied c.args.app in
-    let h = rw c.deref.ensures.value at c.emit_rows.ensures.all in
+    let h = c.emit_rows.ensures.all in
     rw c.in-History.is (whole_all g.K.ItemSink.accepts g.K.ItemSink.refuses c.args.sink.now c.emit_rows.new.sink
     (ShowsSet of_row (λ (_ : Row). status_letter C) false kept.history.items app)
     (ShowRows InHistory app (content_of kept)) (shows_history (content_of kept) numbered kept.history.items
@@ -44,7 +44,7 @@ pub returns-in-History-clause-part : goal.returns-in-History-clause-part
 returns-in-History-clause-part g c numbered =
     let kept = c.args.self.now in
     let app = option_copied c.args.app in
-    let h = rw c.deref.ensures.value at c.emit_rows.ensures.part in
+    let h = c.emit_rows.ensures.part in
     rw c.in-History.is (whole_part g.K.ItemSink.accepts g.K.ItemSink.refuses c.args.sink.now c.emit_rows.new.sink
     (ShowsSet of_row (λ (_ : Row). status_letter C) false kept.history.items app)
     (ShowRows InHistory app (content_of kept)) (shows_history (content_of kept) numbered kept.history.items
@@ -54,7 +54,7 @@ pub returns-in-Deletions-clause-all : goal.returns-in-Deletions-clause-all
 returns-in-Deletions-clause-all g c numbered =
     let kept = c.args.self.now in
     let app = option_copied c.args.app in
-    let h = rw c.deref-in-Deletions.ensures.value at c.emit_rows-in-Deletions.ensures.all in
+    let h = c.emit_rows-in-Deletions.ensures.all in
     rw c.in-Deletions.is (whole_all g.K.ItemSink.accepts g.K.ItemSink.refuses c.args.sink.now
     c.emit_rows-in-Deletions.new.sink (ShowsSet of_deletion (λ (x : Deletion). reason_letter x.reason) false
     kept.deletions.items app) (ShowRows InDeletions app (content_of kept))
@@ -65,7 +65,7 @@ pub returns-in-Deletions-clause-part : goal.returns-in-Deletions-clause-part
 returns-in-Deletions-clause-part g c numbered =
     let kept = c.args.self.now in
     let app = option_copied c.args.app in
-    let h = rw c.deref-in-Deletions.ensures.value at c.emit_rows-in-Deletions.ensures.part in
+    let h = c.emit_rows-in-Deletions.ensures.part in
     rw c.in-Deletions.is (whole_part g.K.ItemSink.accepts g.K.ItemSink.refuses c.args.sink.now
     c.emit_rows-in-Deletions.new.sink (ShowsSet of_deletion (λ (x : Deletion). reason_letter x.reason) false
     kept.deletions.items app) (ShowRows InDeletions app (content_of kept))

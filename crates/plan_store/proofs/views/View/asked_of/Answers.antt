@@ -10,7 +10,7 @@ returns-clause-all c pair =
     let view = c.args.self.now in
     let key = view.key.now in
     let s = (shown view).sets in
-    let history = look_up row_serial view.history.now in
+    let history = look_up row_serial view.history.now.items in
     let is = c.of_successor.ensures.all pair in (
       (λ there.
           let both = is.0 there in

@@ -9,5 +9,5 @@ returns c =
     let view = c.args.self.now in
     let app = c.args.app.now in
     let is = c.of_app.ensures in
-    lists_part of_current (λ (x : CurrentRow). x.row.key.app ≡ app) view.cp.now c.of_app.result.now view.cp_rows
-    (is.keyed view.cp_rows.keyed) (is.all view.cp_rows.keyed)
+    lists_part of_current (λ (x : CurrentRow). x.row.key.app ≡ app) view.cp.now.items c.of_app.result.now view.cp_rows
+    is.keyed is.all

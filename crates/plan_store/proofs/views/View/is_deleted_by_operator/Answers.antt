@@ -8,9 +8,9 @@ returns-then-is_from_plan_end c =
     let view = c.args.self.now in
     let bounds = view.content.now.bounds in
     let key = c.args.key.now in
-    let all = view.deletions.now in
-    let own = c.of_key.result.now in
-    let is = c.of_key.ensures.all view.deletion_rows.keyed in
+    let all = view.deletions.now.items in
+    let own = c.with_key.result.now in
+    let is = c.with_key.ensures.all in
     let ahead : is_from_plan_end bounds key ≡ true = sym c.is_from_plan_end.ensures ∙ c.if-is_from_plan_end.true in (
       (λ yes. barred_key bounds key all own view.deletion_rows is (shown view).sets refl ahead
           (c.has_operator.ensures.0 yes)),

@@ -9,5 +9,5 @@ returns c =
     let view = c.args.self.now in
     let app = c.args.app.now in
     let is = c.of_app.ensures in
-    lists_part of_row (λ (x : Row). x.key.app ≡ app) view.ltp.now c.of_app.result.now view.ltp_rows
-    (is.keyed view.ltp_rows.keyed) (is.all view.ltp_rows.keyed)
+    lists_part of_row (λ (x : Row). x.key.app ≡ app) view.ltp.now.items c.of_app.result.now view.ltp_rows
+    is.keyed is.all

@@ -6,6 +6,5 @@ use Rattle.plan_store.proofs.views.View.ltp_row.Goals as goal
 pub returns : goal.returns
 returns c =
     let view = c.args.self.now in
-    let is = c.of_key.ensures.all in
-    planned_row c.args.key.now view.ltp.now c.of_key.result.now view.ltp_rows (is view.ltp_rows.keyed)
+    planned_row c.args.key.now view.ltp.now.items c.with_key.result.now view.ltp_rows c.with_key.ensures.all
     c.first_of.result c.first_of.ensures (shown view).sets (λ serial. refl)

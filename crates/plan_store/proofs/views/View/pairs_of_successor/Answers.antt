@@ -11,7 +11,7 @@ returns-then-not-needs_pairs-clause-all c pair =
     let view = c.args.self.now in
     let key = view.key.now in
     let s = (shown view).sets in
-    let history = look_up row_serial view.history.now in (
+    let history = look_up row_serial view.history.now.items in (
       (λ there. absurd (nothing pair there)),
       λ both.
           let asked : needs_pairs key s.ltp s.cp history pair.successor ≡ true =

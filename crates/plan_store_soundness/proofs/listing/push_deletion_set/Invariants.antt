@@ -1,0 +1,9 @@
+use Rattle.std.proofs.Common.{◌≡◌, ◌++◌, take}
+use Rattle.std.specs.Prelude.{map}
+use Rattle.plan_store_lists.specs.Blocks.{items_in}
+use Rattle.plan_store_soundness.specs.Listing.{deleted_place}
+use Rattle.plan_store_soundness.proofs.listing.push_deletion_set.Given as goal
+
+abbrev pub invariant-loop-block : goal.invariant-loop-block
+invariant-loop-block l = l.all.items
+    ≡ l.initial.all.items ++ map deleted_place (items_in (take l.block-index l.blocks))
