@@ -145,8 +145,8 @@ fn example_of_plan_tables_windows(rt: HostRuntime) -> Result<(), Fail> {
     let mut lists = Content::new(alloc);
     load_for_need(alloc, &mut conn, &mut lists, &Need::Key(key))?;
     // of history the last row of A at the arrival of the key or before it
-    let row = lists.history.first();
-    assert_eq!(rt; row.map(|row| row.serial.get()), Some(1));
+    let rows = lists.history.of_app(&app);
+    assert_eq!(rt; rows.first().map(|row| row.serial.get()), Some(1));
     assert_eq!(rt; lists.history.len(), 1);
     // end of the example
     Ok(())
