@@ -46,7 +46,7 @@ fn adopted<S: Alter + Drop>(rt: &impl Abort, alloc: Global, conn: Connection<S>)
         return Err(Fail::new("not adopted"));
     };
     assert!(rt; store.bounds()?.is_none() && store.job(7)?.is_none());
-    let view = store.read_window(Need::LongTerm)?;
+    let view = store.read_window(Need::LongTerm(None))?;
     assert_eq!(rt; view.issued(), 0);
     // end of the example
     Ok(())

@@ -34,7 +34,7 @@ fn example_of_plan_store(rt: HostRuntime) -> Result<(), Fail> {
     let mut store = ListStore::new(alloc);
     assert!(rt; store.job(7)?.is_none());
     // what a decision on the long-term plan sees, before there is one
-    let view = store.read_window(Need::LongTerm)?;
+    let view = store.read_window(Need::LongTerm(None))?;
     assert!(rt; view.bounds().is_none() && view.ltp().is_empty());
     assert_eq!(rt; view.issued(), 0);
     // end of the example
@@ -82,7 +82,7 @@ fn example_of_long_term_plan(rt: HostRuntime) -> Result<(), Fail> {
     let last = Day::from_text("2024-01-02").ok_or("no day")?;
     // example of long_term_plan
     // two applications are named on each of two days
-    let view = store.read_window(Need::LongTerm)?;
+    let view = store.read_window(Need::LongTerm(None))?;
     let Verdict::Done(change, reply) = create(alloc, &view, first, last)? else {
         return Err(Fail::new("refused"));
     };

@@ -313,8 +313,19 @@ fn few_pairs(rt: &impl Abort, alloc: Global, case: &Case, touch: &Touch) -> Pair
     Pairs::from_vec(few)
 }
 
-// What one case removes and adds, found where the change reaches: over all rows and pairs, and over the few that are
-// needed, it is what is found from scratch.
+// The lists of the applications of these rows.
+fn few_links(rt: &impl Abort, alloc: Global, case: &Case, rows: &Rows) -> Links {
+    let mut few = Vec::new(alloc);
+    for placed in rows.as_slice() {
+        for link in case.links.list(&placed.row.key.app) {
+            push(rt, &mut few, *link);
+        }
+    }
+    Links::from_vec(few)
+}
+
+// What one case removes and adds, found where the change reaches: over all rows, lists and pairs, and over the few that
+// are needed, it is what is found from scratch.
 fn tried(rt: &impl Abort, alloc: Global, number: u64) -> (usize, usize) {
     let mut dice = Dice { state: number };
     let case = new_case(rt, alloc, &mut dice);
@@ -334,7 +345,8 @@ fn tried(rt: &impl Abort, alloc: Global, number: u64) -> (usize, usize) {
     );
     let rows = few_rows(rt, alloc, &case, &touch);
     let pairs = few_pairs(rt, alloc, &case, &touch);
-    let less = resolve_touched(alloc, &rows, &case.links, &pairs, &touch).expect(rt, "memory");
+    let links = few_links(rt, alloc, &case, &rows);
+    let less = resolve_touched(alloc, &rows, &links, &pairs, &touch).expect(rt, "memory");
     assert_eq!(rt;
         less.removed.as_slice(),
         wanted.removed.as_slice(),

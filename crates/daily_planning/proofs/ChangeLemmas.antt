@@ -13,7 +13,7 @@ use Rattle.planner_machine.proofs.DeleteLemmas.{stands_in_ltp}
 use Rattle.planner_machine.specs.RowsSound.{RowsSound}
 use Rattle.planner_machine.proofs.SeatLemmas.{cases_issued, not_empty}
 use Rattle.plan_store_lists.specs.Rows.{HasEachOnce, look_up}
-use Rattle.plan_store.specs.Changes.{FitsSet, after, jobs_after, moved_set, pairs_after, redefined, sets_after}
+use Rattle.plan_store.specs.Changes.{FitsSet, after, jobs_after, lists_after, moved_set, pairs_after, redefined, sets_after}
 use Rattle.plan_store.specs.declared.changes.Change.{Change}
 use Rattle.plan_store.specs.declared.changes.DefinitionChange.TheVariants.{AsBefore}
 use Rattle.plan_store.specs.declared.changes.Moves.{Moves}
@@ -63,7 +63,7 @@ pub after_moves : (change : Change) (c : Content) → change.definitions ≡ AsB
 after_moves change c definitions in_force job s sets pairs moved =
     let all : redefined change.definitions c.definitions ≡ c.definitions = ap
     (λ d. redefined d c.definitions) definitions in
-    let lists = ap (λ o. Rattle.std.specs.Prelude.unwrap_or o c.in_force) in_force in
+    let lists = ap (λ o. lists_after o c.in_force) in_force in
     λ i. record {
       definitions = all i;
       sets = sets i;

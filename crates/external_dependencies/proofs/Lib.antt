@@ -14,6 +14,7 @@ mod PartLemmas
 mod PlaceLemmas
 pub mod RingLemmas
 pub mod RisingLemmas
+mod SameListLemmas
 mod SearchLemmas
 mod StayLemmas
 mod ToldLemmas

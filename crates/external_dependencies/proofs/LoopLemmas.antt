@@ -12,8 +12,8 @@ use Rattle.std.proofs.lemmas.List.{get_or_default, get_or-map, length-map}
 use Rattle.std.proofs.lemmas.List.Elements.{Contains-get_or}
 use Rattle.external_dependencies.specs.declared.links.Link.{Link}
 use Rattle.external_dependencies.specs.Link.{Lists}
-use Rattle.external_dependencies.specs.Loop.{OnLoop, OnRing, IsRing, IsLeastOnLoop, AreApplications, LoopsPass}
-use Rattle.external_dependencies.specs.Places.{IsGraphOf, IsLeastAmong, LeadNowhereElse, ListsAmong}
+use Rattle.external_dependencies.specs.Loop.{OnLoop, OnRing, IsRing, IsLeastOnLoop, AreApplications, LeadsWithin, LoopsPass}
+use Rattle.external_dependencies.specs.Places.{IsGraphOf, IsLeastAmong, ListsAmong}
 use Rattle.external_dependencies.specs.Walk.{Edge, IsWalk, Reaches, ReturnsTo}
 use Rattle.external_dependencies.specs.Rising.{IsRising}
 use Rattle.external_dependencies.proofs.GraphLemmas.{link_is}
@@ -199,34 +199,84 @@ module _ (links : List Link) (names : List (List ℕ)) where
         (subst (λ n. Lists links (get_or ring n d) (get_or ring 0 d)) same (is.closes d))
   ]
 
-  -- a loop through the application is among the names that it leads to
-  pub lie_ahead : (app : List ℕ) → LeadNowhereElse links names app → LoopsPass links app → (ring : List (List ℕ))
-      → IsRing (Lists links) ring → All (Contains names) ring
-  lie_ahead app ahead pass ring is k d lt =
+module _ {V : Type 0} (E : V → V → Type 0) (P : V → Type 0) (on : (x y : V) → P x → E x y → P y) (node : V)
+    (begins : P node) (ring : List V) (is : IsRing E ring) (here : Contains ring node) where
+  -- what holds of a node and passes along the edges holds of each node of its ring
+  all_round : All P ring
+  all_round k d lt =
       let same : 0 + k ≡ k = omega arith in
-      subst (λ j. Contains names (get_or ring j d)) same (forth k 0 first (omega arith))
+      subst (λ j. P (get_or ring j d)) same (forth k 0 first (omega arith))
     where
-      forth : (n i : ℕ) → Contains names (get_or ring i d) → i + n < length ring
-          → Contains names (get_or ring (i + n) d)
-      forth zero i here inside =
+      forth : (n i : ℕ) → P (get_or ring i d) → i + n < length ring → P (get_or ring (i + n) d)
+      forth zero i holds inside =
           let same : i ≡ i + zero = omega arith in
-          subst (λ j. Contains names (get_or ring j d)) same here
-      forth (suc n) i here inside =
-          let before = forth n i here (omega arith) in
+          subst (λ j. P (get_or ring j d)) same holds
+      forth (suc n) i holds inside =
+          let before = forth n i holds (omega arith) in
           let same : i + n + 1 ≡ i + suc n = omega arith in
-          subst (λ j. Contains names (get_or ring j d)) same
-          (ahead.leads (get_or ring (i + n) d) (get_or ring (i + n + 1) d) before (is.next (i + n) d (omega arith)))
+          subst (λ j. P (get_or ring j d)) same
+          (on (get_or ring (i + n) d) (get_or ring (i + n + 1) d) before (is.next (i + n) d (omega arith)))
 
-      first : Contains names (get_or ring 0 d)
+      first : P (get_or ring 0 d)
       first =
-          let (i, inside, at) = pass ring is in
-          let begins : Contains names (get_or ring i d) =
-          subst (Contains names) (sym at ∙ get_or_default ring i app d inside) ahead.begins in
+          let (i, inside, at) = here in
+          let holds : P (get_or ring i d) = subst P (sym at ∙ get_or_default ring i node d inside) begins in
           let same : i + (length ring - 1 - i) ≡ length ring - 1 = omega (arith, inside) in
-          let last : Contains names (get_or ring (length ring - 1) d) =
-          subst (λ j. Contains names (get_or ring j d)) same
-          (forth (length ring - 1 - i) i begins (omega (arith, inside))) in
-          ahead.leads (get_or ring (length ring - 1) d) (get_or ring 0 d) last (is.closes d)
+          let last : P (get_or ring (length ring - 1) d) =
+          subst (λ j. P (get_or ring j d)) same (forth (length ring - 1 - i) i holds (omega (arith, inside))) in
+          on (get_or ring (length ring - 1) d) (get_or ring 0 d) last (is.closes d)
+
+module _ (some links : List Link) (app : List ℕ) (ahead : LeadsWithin some links app) (pass : LoopsPass links app) where
+  -- the whole list of the application is among those links
+  HasList : List ℕ → Type 0
+  HasList name = (link : Link) → Contains links link → link.app ≡ name → Contains some link
+
+  within : (name predecessor : List ℕ) → HasList name → Lists links name predecessor → Lists some name predecessor
+  unfolding HasList
+  within name predecessor has (limit, there) =
+      (limit, has (record { app = name; predecessor = predecessor; within = limit }) there refl)
+
+  on : (name predecessor : List ℕ) → HasList name → Lists links name predecessor → HasList predecessor
+  unfolding HasList
+  on name predecessor has listed link there same =
+      let first : Link = record { app = name; predecessor = predecessor; within = listed.0 } in
+      ahead.on first link (has first listed.1 refl) there same
+
+  begins : HasList app
+  unfolding HasList
+  begins link there same = ahead.own link there same
+
+  -- a ring of all lists is one of those
+  ring_within : (ring : List (List ℕ)) → IsRing (Lists links) ring → IsRing (Lists some) ring
+  ring_within ring is =
+      let have : All HasList ring = all_round (Lists links) HasList on app begins ring is (pass ring is) in
+      record {
+        several = is.several;
+        different = is.different;
+        next = λ k d lt. within (get_or ring k d) (get_or ring (k + 1) d) (have k d (omega arith)) (is.next k d lt);
+        closes = λ d. within (get_or ring (length ring - 1) d) (get_or ring 0 d)
+            (have (length ring - 1) d (omega (arith, is.several))) (is.closes d);
+      }
+
+  loop_within : (name : List ℕ) → OnLoop links name → OnLoop some name
+  loop_within name (ring, is, here) = (ring, ring_within ring is, here)
+
+  loop_of_all : (name : List ℕ) → OnLoop some name → OnLoop links name
+  loop_of_all name (ring, is, here) = (
+    ring,
+    record {
+      several = is.several;
+      different = is.different;
+      next = λ k d lt. let listed = is.next k d lt in (listed.0, ahead.only _ listed.1);
+      closes = λ d. let listed = is.closes d in (listed.0, ahead.only _ listed.1);
+    },
+    here,
+  )
+
+  -- the least on a loop of those is the least on a loop of all
+  pub least_within : (found : Option (List ℕ)) → IsLeastOnLoop some found → IsLeastOnLoop links found
+  least_within None none = λ name on. none name (loop_within name on)
+  least_within (Some least) (on, first) = (loop_of_all least on, λ name on. first name (loop_within name on))
 
 -- the applications of the links, as they are found
 pub applications_are : (links : List Link) (apps names : List (List ℕ)) → apps ≡ map (λ (link : Link). link.app) links

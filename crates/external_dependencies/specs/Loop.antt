@@ -1,5 +1,5 @@
 -- Loops of predecessor lists.
-use Rattle.std.specs.Prelude.{◌≢◌, ℕ, ◌+◌, ◌-◌, ◌<◌, ◌≤◌, List, length, slice_index_or, Contains, Option, Some, None}
+use Rattle.std.specs.Prelude.{◌≡◌, ◌≢◌, ℕ, ◌+◌, ◌-◌, ◌<◌, ◌≤◌, List, length, slice_index_or, Contains, Option, Some, None}
 use Rattle.std.specs.declared.cmp.Ordering.TheVariants.{Greater}
 use Rattle.std.specs.List.{AllPairs}
 use Rattle.std.specs.Ordering.{nat_cmp}
@@ -38,3 +38,10 @@ pub record AreApplications (links : List Link) (names : List (List ℕ)) : Type 
 -- every loop of lists passes the application
 abbrev pub LoopsPass : List Link → List ℕ → Type 0
 LoopsPass links app = (ring : List (List ℕ)) → IsRing (Lists links) ring → Contains ring app
+
+-- some of the links: the list of the application, and that of each application that one of them names
+pub record LeadsWithin (some all : List Link) (app : List ℕ) : Type 0 where
+  pub only : (link : Link) → Contains some link → Contains all link
+  pub own : (link : Link) → Contains all link → link.app ≡ app → Contains some link
+  pub on : (link link' : Link) → Contains some link → Contains all link' → link'.app ≡ link.predecessor
+      → Contains some link'

@@ -31,9 +31,3 @@ IsLeastAmong links names None = (app : List ℕ) → OnRing (ListsAmong links na
 IsLeastAmong links names (Some least) =
     OnRing (ListsAmong links names) least
     × ((app : List ℕ) → OnRing (ListsAmong links names) app → slice_cmp nat_cmp least app ≢ Greater)
-
--- the application is one of the names, and their lists name no others
-pub record LeadNowhereElse (links : List Link) (names : List (List ℕ)) (app : List ℕ) : Type 0 where
-  pub begins : Contains names app
-  pub leads : (name predecessor : List ℕ) → Contains names name → Lists links name predecessor
-      → Contains names predecessor

@@ -10,6 +10,11 @@ use Rattle.external_dependencies.specs.Link.{Lists}
 use Rattle.external_dependencies.specs.Nearest.{IsLiveIn, IsNearest}
 use Rattle.external_dependencies.specs.Touch.{HasRowOf, MayReach}
 
+-- of the applications of these rows, both links have the same lists, with the same limits
+abbrev pub HaveSameLists : List PlacedRow → List Link → List Link → Type 0
+HaveSameLists rows some links = (q : PlacedRow) → Contains rows q → (link : Link) → link.app ≡ q.row.key.app
+    → Contains some link ↔ Contains links link
+
 -- one of the rows has the serial
 abbrev pub HasSerialOf : List PlacedRow → ℕ → Type 0
 HasSerialOf rows serial = (q : PlacedRow) × Contains rows q × (q.row.serial ≡ serial)

@@ -1,5 +1,4 @@
-ghost use Rattle.std.specs.Prelude.{◌≡◌, ◌==◌, [], ◌↔◌, Contains, IfOk, IsTrue, filter};
-ghost use Rattle.std.specs.Str.{bytes_eq};
+ghost use Rattle.std.specs.Prelude.{◌≡◌, ◌==◌, [], ◌↔◌, Contains, IsTrue};
 ghost use Rattle.std.specs.Cmp.{partial_order_from_own_ties};
 ghost use Rattle.std.specs.Cmp.Lexicographic.{pointwise, slice_cmp};
 ghost use Rattle.std.specs.Cmp.Rules.{comparing};
@@ -160,26 +159,4 @@ impl Links {
         let count = rest.partition_point(|link| link.app <= *app);
         &rest[..count]
     }
-
-    /// The links that name an application as predecessor, in rising order. Looks at each link once.
-    pub fn naming(&self, alloc: Global, predecessor: &App) -> Result<Vec<Link>, AllocError>
-        ensures rising { IfOk result (λ found. IsRising link_cmp found.items) }
-        ensures all { IfOk result (λ found. (link : Link) →
-            Contains found.items link
-            ↔ (Contains self.now link × (link.predecessor ≡ predecessor.now))) }
-    {
-        links_naming(alloc, self.links.as_slice(), predecessor)
-    }
-}
-
-// Those of the links that name the predecessor.
-fn links_naming(alloc: Global, links: &[Link], predecessor: &App) -> Result<Vec<Link>, AllocError>
-    ensures { IfOk result (λ found.
-        found.items ≡ filter (λ (l : Link). bytes_eq l.predecessor predecessor.now) links.now) }
-{
-    links
-        .iter()
-        .copied()
-        .filter(|link| link.predecessor == *predecessor)
-        .collect(alloc)
 }

@@ -96,7 +96,7 @@ fn has_serial(serials: &[Serial], serial: Serial) -> bool
 }
 
 // Whether the application is one of these, which rise.
-pub(crate) fn has_app(apps: &[App], app: &App) -> bool
+fn has_app(apps: &[App], app: &App) -> bool
     ensures { IsRising (slice_cmp nat_cmp) apps.now → IsTrue result ↔ Contains apps.now app.now }
 {
     apps.binary_search(app).is_ok()

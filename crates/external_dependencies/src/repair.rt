@@ -1,6 +1,6 @@
 ghost use Rattle.std.specs.Prelude.{◌↔◌, ℕ, ◌⊎◌, List, Contains, IfOk, IsTrue};
 ghost use Rattle.external_dependencies.specs.Change.{LeadsExactly};
-ghost use Rattle.external_dependencies.specs.Reached.{AreAsked, HasSerialOf, HoldsReached};
+ghost use Rattle.external_dependencies.specs.Reached.{AreAsked, HasSerialOf, HaveSameLists, HoldsReached};
 ghost use Rattle.external_dependencies.specs.Reach.{IsReachOf};
 ghost use Rattle.external_dependencies.specs.Settled.{AreSettled, IsSettledPair};
 ghost use Rattle.external_dependencies.specs.Touch.{HasRowOf, MayReach, Touches};
@@ -20,8 +20,8 @@ use occurrences::{Row, Serial};
 use std::alloc::{AllocError, Global};
 
 /// What leads from the pairs before a change to those after it: exactly the difference. `touch` names all that the
-/// change touches, `links` are the lists in force after it, and `rows` and `pairs` hold what it reaches; they may hold
-/// more. Other rows and pairs are not needed.
+/// change touches. `rows` and `pairs` hold what it reaches, and `links` the lists in force after it of the applications
+/// of these rows. Each may hold more; other rows, pairs and lists are not needed.
 pub fn resolve_touched(
     alloc: Global,
     rows: &Rows,
@@ -29,11 +29,12 @@ pub fn resolve_touched(
     pairs: &Pairs,
     touch: &Touch,
 ) -> Result<PairChange, AllocError>
-    ensures { IfOk result (λ change. (was now : List PlacedValue) (was_links : List LinkValue)
+    ensures { IfOk result (λ change. (was now : List PlacedValue) (was_links all : List LinkValue)
         (old : List PairValue)
-        → Touches touch.now was now was_links links.now → AreSettled was was_links old
-        → HoldsReached touch.now links.now now old rows.now pairs.now
-        → LeadsExactly old (IsSettledPair old now links.now) change) }
+        → HaveSameLists rows.now links.now all
+        → Touches touch.now was now was_links all → AreSettled was was_links old
+        → HoldsReached touch.now all now old rows.now pairs.now
+        → LeadsExactly old (IsSettledPair old now all) change) }
 {
     let reach = Reach::build(alloc, touch)?;
     let asked = asked_rows(alloc, rows, links, &reach)?;

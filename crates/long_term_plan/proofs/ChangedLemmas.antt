@@ -23,7 +23,7 @@ use Rattle.planner_machine.proofs.ModifyLemmas.{between, between_sound, any_test
 use Rattle.planner_machine.specs.RowsSound.{RowsSound}
 use Rattle.planner_machine.proofs.SoundLemmas.{rows_sound}
 use Rattle.plan_store_lists.specs.Rows.{HasEachOnce, look_up, of_current, of_deletion, of_row}
-use Rattle.plan_store.specs.Changes.{Fits, LeadsOn, MovesNothing, pairs_after, sets_after}
+use Rattle.plan_store.specs.Changes.{Fits, LeadsOn, MovesNothing, lists_after, pairs_after, sets_after}
 use Rattle.plan_store.specs.Views.{IsAny, ListsSet}
 use Rattle.plan_store.specs.declared.changes.Change.{Change}
 use Rattle.plan_store.specs.declared.changes.DefinitionChange.TheVariants.{AsBefore}
@@ -56,7 +56,7 @@ pub record IsModifying (c : Content) (links : List Link) (only : Option (List �
   pub history : MovesNothing change.history
   pub bounds : change.bounds ≡ None
   pub issued : change.issued ≡ Some (c.sets.issued + length new)
-  pub in_force : unwrap_or change.in_force c.in_force ≡ links
+  pub in_force : lists_after change.in_force c.in_force ≡ links
   pub definitions : change.definitions ≡ AsBefore
   pub job : change.job ≡ None
   pub pairs : ArePairs c.pairs links (modified_sets only named new c.sets) (pairs_after change.pairs c.pairs)

@@ -26,7 +26,8 @@ use Rattle.planner_machine.specs.RowsSound.{RowsSound}
 use Rattle.planner_machine.proofs.SoundLemmas.{rows_sound}
 use Rattle.plan_store_lists.specs.Rows.{of_current, of_deletion, of_row}
 use Rattle.planner_machine.specs.Pairs.{ArePairs}
-use Rattle.plan_store.specs.Changes.{Fits, after, jobs_after, pairs_after, redefined, sets_after}
+use Rattle.plan_store.specs.Changes.{Fits, after, jobs_after, lists_after, pairs_after, redefined}
+use Rattle.plan_store.specs.Changes.{sets_after}
 use Rattle.plan_store.specs.Verdicts.{VerdictIs}
 use Rattle.plan_store.specs.Views.{IsPlannedRow}
 use Rattle.plan_store.specs.declared.changes.Change.{Change}
@@ -175,9 +176,10 @@ module _ (c : Content) (sound : IsSound c) (row : Row) (stands : c.sets.ltp row.
       replies = refl;
       becomes = sets_are;
     };
-    lists = ap (λ o. unwrap_or o c.in_force) is.in_force;
+    lists = ap (λ o. lists_after o c.in_force) is.in_force;
     pairs =
-        let lists : unwrap_or change.in_force c.in_force ≡ c.in_force = ap (λ o. unwrap_or o c.in_force) is.in_force in
+        let lists : lists_after change.in_force c.in_force ≡ c.in_force =
+        ap (λ o. lists_after o c.in_force) is.in_force in
         subst (λ l. ArePairs c.pairs l (sets_after change c.sets) (pairs_after change.pairs c.pairs)) (sym lists)
         (subst (λ s. ArePairs c.pairs c.in_force s (pairs_after change.pairs c.pairs)) (sym sets_are) is.pairs);
     definitions = ap (λ d. redefined d c.definitions) is.definitions;

@@ -1,5 +1,5 @@
 -- What a window shows holds what a statement on the long-term plan reaches.
-use Rattle.std.proofs.Common.{◌≡◌, ◌↔◌, ◌⊎◌, ◌++◌, ℕ, List, None, inl, inr}
+use Rattle.std.proofs.Common.{◌≡◌, ◌↔◌, ◌⊎◌, ◌++◌, ℕ, List, None, Option, inl, inr}
 use Rattle.std.specs.List.{Contains}
 use Rattle.occurrences.specs.Place.{IsOpen}
 use Rattle.occurrences.specs.declared.place.CurrentRow.{CurrentRow}
@@ -17,8 +17,10 @@ use Rattle.plan_store_lists.specs.Rows.{of_current, of_row}
 use Rattle.planner_machine.specs.Content.{Content, Sets}
 use Rattle.planner_machine.specs.InForce.{PutsAll, PutsOne}
 use Rattle.planner_machine.specs.Sound.{IsSound}
-use Rattle.plan_store.specs.HistoryReads.{ReadsPlan}
+use Rattle.plan_store.specs.Changes.{lists_after}
+use Rattle.plan_store.specs.HistoryReads.{ReachesApp, ReadsPlan}
 use Rattle.plan_store.specs.Views.{Hidden, IsAny, ListsSet, Sees, shown, with_hidden}
+use Rattle.plan_store.specs.declared.changes.NewLists.{NewLists}
 use Rattle.plan_store.specs.declared.views.View.{View}
 use Rattle.plan_store_pairs.specs.ByApplications.{HasReached, HasWithList}
 use Rattle.plan_store_pairs.specs.LiveRows.{AreCompleted, HasLists}
@@ -29,11 +31,13 @@ use Rattle.plan_store_pairs.proofs.PartLemmas.{shown_stood}
 use Rattle.plan_store_pairs.proofs.SeenLemmas.{completed_rows, pair_shown, seen_hold, was_open}
 use Rattle.plan_store_pairs.proofs.TouchLemmas.{live_once}
 use Rattle.plan_store_pairs.proofs.TurnLemmas.{IsTurnTo}
-use Rattle.long_term_plan.specs.Modifying.{AreOf, HavePlanned}
+use Rattle.long_term_plan.specs.Modifying.{AreOf, HavePlanned, Looks}
+use Rattle.long_term_plan.specs.Reaching.{AreRowsOf, IsNewOf}
+use Rattle.long_term_plan.proofs.ReachingLemmas.{may_reach}
 use Rattle.long_term_plan.proofs.TurnedLemmas.{turned}
 
-module _ (h : Hidden) (view : View) (sound : IsSound (with_hidden h view))
-    (sees : Sees None (ReadsPlan (with_hidden h view)) h view) (links : List Link)
+module _ (only : Option (List ℕ)) (h : Hidden) (view : View) (sound : IsSound (with_hidden h view))
+    (sees : Sees None (ReadsPlan only (with_hidden h view)) h view) (links : List Link)
     (known : AreKnownLinks (with_hidden h view) links) (rows : List Row)
     (lists : ListsSet of_row (shown view).sets.ltp IsAny rows) (current : List CurrentRow)
     (current_are : ListsSet of_current (shown view).sets.cp IsAny current) (lasts : List Row)
@@ -65,6 +69,8 @@ module _ (h : Hidden) (view : View) (sound : IsSound (with_hidden h view))
       → ((p : PlacedRow) → Contains live p ↔ (IsInLists (stay ++ made) current lasts p × OfRows p.row.key.app))
       → ((q : PlacedRow) → Contains turn_seen.now q → IsOpen q.place → MayReach touch links q.row
       → OfRows q.row.key.app × ((app : List ℕ) → Lists links q.row.key.app app → OfRows app))
+      → ((q : PlacedRow) → Contains turn_seen.now q → IsOpen q.place → MayReach touch links q.row
+      → ReachesApp only c.in_force q.row.key.app)
       → (OfPairs : List ℕ → Type 0) (pairs : List Pair)
       → ((q : PlacedRow) → Contains turn_seen.now q → IsOpen q.place → MayReach touch links q.row
       → OfPairs q.row.key.app) → ((row : Row) → Contains gone row → OfPairs row.key.app)
@@ -72,9 +78,9 @@ module _ (h : Hidden) (view : View) (sound : IsSound (with_hidden h view))
       → ((pair : Pair) → Contains (shown view).pairs pair → (row : Row) → IsOpenRow (shown view).sets row
       → OfPairs row.key.app → row.serial ≡ pair.successor → Contains pairs pair)
       → HoldsReached touch links turn_seen.now h.pairs live pairs
-  held OfRows live are pass OfPairs pairs reached_pass gone_pass part all =
-      seen_hold h view sound sees links known s (stay ++ made) current current_are completed lasts lasts_are history.1
-      has.sound turn_seen.now turn_seen.turn.after turn_seen.listed touch OfRows live are pass h.pairs pairs
+  held OfRows live are pass within OfPairs pairs reached_pass gone_pass part all =
+      seen_hold only h view sound sees links known s (stay ++ made) current current_are completed lasts lasts_are history.1
+      has.sound turn_seen.now turn_seen.turn.after turn_seen.listed touch OfRows live are pass within h.pairs pairs
       (λ pair there. shown_stood None (with_hidden h view).sets (shown view).pairs h.pairs sees.pairs pair
       (part pair there)) (λ pair there reached.
       let (row, is_open, passes, same) = was_open c sound rows stay gone made current current_are completed history.1
@@ -82,6 +88,15 @@ module _ (h : Hidden) (view : View) (sound : IsSound (with_hidden h view))
       plan turn_seen.now turn_seen.listed once touch c.in_force links touches OfPairs reached_pass gone_pass pair there
       reached in
       all pair (pair_shown h view sees pair there row is_open same) row is_open passes same)
+
+  -- what is reached is of applications of which the window shows what is read
+  pub may_held : (new : Option NewLists) → links ≡ lists_after new c.in_force → IsNewOf only new → AreRowsOf only gone
+      → AreRowsOf only made → ((app : List ℕ) → Contains touch.lists.items app → Looks only app) → (q : PlacedRow)
+      → Contains turn_seen.now q → IsOpen q.place → MayReach touch links q.row
+      → ReachesApp only c.in_force q.row.key.app
+  may_held new same of_new of_gone of_made of_lists q there is_open reach =
+      may_reach touch c.in_force links gone made stay current completed turn_seen.now touches turn_seen.listed once only new
+      same of_new of_gone of_made of_lists q there reach
 
   -- the applications that the change reaches
   module _ (apps : List (List ℕ)) (reached : HasReached touch links apps) where

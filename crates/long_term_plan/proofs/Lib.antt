@@ -11,6 +11,7 @@ mod PartingLemmas
 mod ModifyingLemmas
 mod ChangedLemmas
 mod TurnedLemmas
+mod ReachingLemmas
 mod HeldLemmas
 mod LookedLemmas
 mod ModifyPlanLemmas

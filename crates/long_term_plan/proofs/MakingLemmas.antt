@@ -23,8 +23,8 @@ use Rattle.planner_machine.specs.Sound.{AreDefinitions, IsSound}
 use Rattle.planner_machine.specs.RowsSound.{RowsSound}
 use Rattle.planner_machine.proofs.SoundLemmas.{rows_sound}
 use Rattle.plan_store_lists.specs.Rows.{HasEachOnce, look_up, of_current, of_deletion, of_row}
-use Rattle.plan_store.specs.Changes.{Fits, LeadsOn, MovesNothing, after, jobs_after, pairs_after, redefined}
-use Rattle.plan_store.specs.Changes.{sets_after}
+use Rattle.plan_store.specs.Changes.{Fits, LeadsOn, MovesNothing, after, jobs_after, lists_after, pairs_after}
+use Rattle.plan_store.specs.Changes.{redefined, sets_after}
 use Rattle.plan_store.specs.Views.{IsAny, ListsSet}
 use Rattle.plan_store.specs.declared.changes.Change.{Change}
 use Rattle.plan_store.specs.declared.changes.DefinitionChange.TheVariants.{AsBefore}
@@ -50,7 +50,7 @@ pub record IsMaking (c : Content) (b : Bounds) (links : List Link) (new : List D
   pub deletions : MovesNothing change.deletions
   pub bounds : change.bounds ≡ Some b
   pub issued : change.issued ≡ Some (c.sets.issued + length new)
-  pub in_force : change.in_force ≡ Some links
+  pub in_force : lists_after change.in_force c.in_force ≡ links
   pub definitions : change.definitions ≡ AsBefore
   pub job : change.job ≡ None
   pub pairs : ArePairs c.pairs links (planned_sets b new c.sets) (pairs_after change.pairs c.pairs)
@@ -191,7 +191,7 @@ module _ (c : Content) (sound : IsSound c) (b : Bounds) (links : List Link) (new
     cp = is.cp;
     history = is.history;
     deletions = is.deletions.changed;
-    in_force = ap (λ o. unwrap_or o c.in_force) is.in_force;
+    in_force = is.in_force;
     pairs = is.pairs;
     leads = is.leads;
     definitions = is.definitions;
@@ -203,7 +203,7 @@ pub changes_plans : (Makes : MakesOfRows) (Puts : PutsLists) (c : Content) (s : 
     (change : Change) (reply : Reply) → MakesSets c s links change → Makes c.definitions c.sets reply s
     → Puts c.definitions c.in_force links → ChangesPlans Makes Puts c reply (after change c)
 changes_plans Makes Puts c s links change reply is makes puts =
-    let lists : unwrap_or change.in_force c.in_force ≡ links = is.in_force in
+    let lists : lists_after change.in_force c.in_force ≡ links = is.in_force in
     record {
       rows = subst (λ (x : Sets). Makes c.definitions c.sets reply x) (sym is.sets) makes;
       lists = subst (λ (l : List Link). Puts c.definitions c.in_force l) (sym lists) puts;

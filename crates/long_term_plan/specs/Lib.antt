@@ -6,3 +6,4 @@ pub mod Drafting
 pub mod Lists
 pub mod Making
 pub mod Modifying
+pub mod Reaching

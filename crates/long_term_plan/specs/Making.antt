@@ -1,5 +1,5 @@
 -- What statements that make rows of the long-term plan change.
-use Rattle.std.specs.Prelude.{◌≡◌, ◌≢◌, ℕ, suc, ◌+◌, List, [], ◌∷◌, Contains, length, Option, None, Some, unwrap_or}
+use Rattle.std.specs.Prelude.{◌≡◌, ◌≢◌, ℕ, suc, ◌+◌, List, [], ◌∷◌, Contains, length, Option, None, Some}
 use Rattle.app_occurrences.specs.Active.{HasNoCalendar, HasNoPeriod, IsLeastName}
 use Rattle.app_definitions.specs.declared.definitions.Definitions.{Definitions}
 use Rattle.occurrences.specs.declared.place.Place.TheVariants.{LongTerm}
@@ -16,7 +16,7 @@ use Rattle.planner_machine.specs.Moves.{numbered_row, with_bounds, with_made}
 use Rattle.planner_machine.specs.Pairs.{ArePairs}
 use Rattle.planner_machine.specs.Plans.{HoldTooMany}
 use Rattle.planner_machine.specs.RowsSound.{RowsSound}
-use Rattle.plan_store.specs.Changes.{Fits, LeadsOn, MovesNothing, pairs_after, sets_after}
+use Rattle.plan_store.specs.Changes.{Fits, LeadsOn, MovesNothing, lists_after, pairs_after, sets_after}
 use Rattle.plan_store.specs.declared.changes.Change.{Change}
 use Rattle.plan_store.specs.declared.changes.DefinitionChange.TheVariants.{AsBefore}
 use Rattle.plan_store.specs.declared.changes.Verdict.{Verdict}
@@ -56,7 +56,7 @@ pub record MakesSets (c : Content) (s : Sets) (links : List Link) (change : Chan
   pub cp : MovesNothing change.cp
   pub history : MovesNothing change.history
   pub deletions : change.deletions.changed.items ≡ []
-  pub in_force : unwrap_or change.in_force c.in_force ≡ links
+  pub in_force : lists_after change.in_force c.in_force ≡ links
   pub pairs : ArePairs c.pairs links s (pairs_after change.pairs c.pairs)
   pub leads : LeadsOn c.pairs change.pairs
   pub definitions : change.definitions ≡ AsBefore

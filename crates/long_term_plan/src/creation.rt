@@ -1,4 +1,4 @@
-ghost use Rattle.std.specs.Prelude.{IfOk, IsTrue, ◌↔◌, ◌≡◌};
+ghost use Rattle.std.specs.Prelude.{IfOk, IsTrue, None, ◌↔◌, ◌≡◌};
 ghost use Rattle.planner_machine.specs.Content.{Content, midnight};
 ghost use Rattle.planner_machine.specs.Create.{AreBadPlanDays, create};
 ghost use Rattle.planner_machine.specs.Sound.{IsSound};
@@ -21,7 +21,7 @@ use work_calendars::{Day, Minute, Moment};
 /// days are out of order or past a limit (24), where the lists have a loop (25), and where the rows would be too many
 /// (31).
 pub fn create(alloc: Global, view: &View<'_>, from: Day, to: Day) -> Result<Verdict, AllocError>
-    ensures { IfOk result (λ verdict. (c : Content) → Shows Need.LongTerm view.now c → IsSound c
+    ensures { IfOk result (λ verdict. (c : Content) → Shows (Need.LongTerm None) view.now c → IsSound c
         → VerdictIs (create from to) c verdict) }
 {
     if view.bounds().is_some() {

@@ -1,4 +1,4 @@
-ghost use Rattle.std.specs.Prelude.{IfOk, IsTrue, ◌↔◌};
+ghost use Rattle.std.specs.Prelude.{IfOk, IsTrue, None, ◌↔◌};
 ghost use Rattle.planner_machine.specs.Content.{Content};
 ghost use Rattle.planner_machine.specs.Extend.{IsBadLastDay, extend};
 ghost use Rattle.planner_machine.specs.Sound.{IsSound};
@@ -22,7 +22,7 @@ use work_calendars::Day;
 /// there is no plan (20), where an active application lacks its calendar (22) or a period (23), where the day isn't
 /// later or lies past a limit (24), where the lists have a loop (25), and where the rows would be too many (31).
 pub fn extend(alloc: Global, view: &View<'_>, to: Day) -> Result<Verdict, AllocError>
-    ensures { IfOk result (λ verdict. (c : Content) → Shows Need.LongTerm view.now c → IsSound c
+    ensures { IfOk result (λ verdict. (c : Content) → Shows (Need.LongTerm None) view.now c → IsSound c
         → VerdictIs (extend to) c verdict) }
 {
     let Some(bounds) = view.bounds() else {

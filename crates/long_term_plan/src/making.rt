@@ -1,4 +1,4 @@
-ghost use Rattle.std.specs.Prelude.{◌≡◌, ◌↔◌, ◌+◌, ◌≤◌, List, length, IfOk, IsTrue, false};
+ghost use Rattle.std.specs.Prelude.{◌≡◌, ◌↔◌, ◌+◌, ◌≤◌, List, length, IfOk, IsTrue, None, false};
 ghost use Rattle.work_calendars.specs.Day.{last_kept_day};
 ghost use Rattle.occurrences.specs.Serial.{IsSerial};
 ghost use Rattle.occurrences.specs.declared.serial.TheConstants.{GREATEST_SERIAL};
@@ -16,7 +16,8 @@ ghost use Rattle.long_term_plan.specs.Making.{planned_sets};
 use crate::drafts::{named_drafts, new_drafts};
 use external_dependencies::Links;
 use occurrences::{GREATEST_SERIAL, Refusal, Reply, Row, Serial};
-use plan_store::{Change, DefinitionChange, Moves, Need, Verdict, View};
+use plan_store::{Change, DefinitionChange, Moves, Need, NewLists, Verdict, View};
+use plan_store_lists::LinkBlocks;
 use plan_store_pairs::{live_rows_with, pair_change, pairs_of_plans, touch_of};
 use planner_machine::{Bounds, Draft, MOST_PLANNED_ROWS};
 use std::alloc::{AllocError, Global};
@@ -31,7 +32,8 @@ pub(crate) fn add_days(
     first: Moment,
 ) -> Result<Verdict, AllocError>
     requires { bounds.now.last_day ≤ last_kept_day }
-    ensures { IfOk result (λ verdict. HoldsOfSound Need.LongTerm view.now (λ c. AreKnownLinks c links
+    ensures { IfOk result (λ verdict. HoldsOfSound (Need.LongTerm None) view.now
+        (λ c. AreKnownLinks c links
         → ((key : KeyValue) → first ≤ key.ia → ShowsDeleted c view.now key)
         → ((new : List DraftValue) → AreDaysAdded c bounds.now first new
         → KeepsRowsSound c bounds.now new) → AddsDays c bounds.now first links verdict)) }
@@ -68,14 +70,16 @@ fn make_drafts(
     new: Vec<Draft>,
 ) -> Result<Verdict, AllocError>
     requires { (shown view.now).sets.issued + length new.items ≤ GREATEST_SERIAL }
-    ensures { IfOk result (λ verdict. HoldsOfSound Need.LongTerm view.now (λ c. AreKnownLinks c links
+    ensures { IfOk result (λ verdict. HoldsOfSound (Need.LongTerm None) view.now
+        (λ c. AreKnownLinks c links
         → KeepsRowsSound c bounds.now new.items
         → MakesDrafts c bounds.now links new.items verdict)) }
 {
     let made = new.len();
     let rows = numbered_rows(alloc, view.issued(), new.as_slice())?;
     drop(new);
-    let touch = touch_of(alloc, &[], &rows, view.in_force(), &links)?;
+    let lists = LinkBlocks::from_links(alloc, &links)?;
+    let touch = touch_of(alloc, &[], &rows, view.in_force(), &lists)?;
     let planned = view.ltp().to_vec(alloc)?;
     let live = live_rows_with(alloc, &planned, &rows, view.cp(), view.lasts())?;
     drop(planned);
@@ -85,7 +89,7 @@ fn make_drafts(
         definitions: DefinitionChange::AsBefore,
         bounds: Some(*bounds),
         issued: Some(view.issued() + made as u32),
-        in_force: Some(links),
+        in_force: Some(NewLists::All(lists)),
         ltp: Moves {
             gone: Vec::new(alloc),
             changed: Vec::new(alloc),

@@ -1,5 +1,5 @@
 ghost use Rattle.std.specs.Prelude.{◌≡◌, ◌↔◌, ◌+◌, ◌++◌, ◌≤◌, ℕ, List, length, map, Contains, IfOk, IsTrue};
-ghost use Rattle.std.specs.Prelude.{Option, Some, false, unwrap_or};
+ghost use Rattle.std.specs.Prelude.{None, Option, Some, false};
 ghost use Rattle.std.specs.List.{filter_map};
 ghost use Rattle.work_calendars.specs.Day.{last_kept_day};
 ghost use Rattle.occurrences.specs.declared.row.Row.{Row as RowValue};
@@ -13,7 +13,7 @@ ghost use Rattle.planner_machine.specs.Moves.{size};
 ghost use Rattle.planner_machine.specs.Pairs.{ArePairs};
 ghost use Rattle.planner_machine.specs.Sound.{IsSound};
 ghost use Rattle.plan_store_lists.specs.Rows.{of_row};
-ghost use Rattle.plan_store.specs.Changes.{LeadsOn, pairs_after};
+ghost use Rattle.plan_store.specs.Changes.{LeadsOn, lists_after, pairs_after};
 ghost use Rattle.plan_store.specs.Verdicts.{VerdictIs};
 ghost use Rattle.plan_store.specs.Views.{HoldsOfSound, HoldsOfAny, IsAny, ListsSet, Shows, ShowsDeleted, shown};
 ghost use Rattle.occurrences.specs.declared.key.Key.{Key as KeyValue};
@@ -22,21 +22,22 @@ ghost use Rattle.long_term_plan.specs.Early.{IsRefusedEarly};
 ghost use Rattle.long_term_plan.specs.Drafting.{DraftsRise};
 ghost use Rattle.long_term_plan.specs.Modifying.{AreAsked, AreModifying, AreOf, AreTooMany, HavePlanned, Looks};
 ghost use Rattle.long_term_plan.specs.Modifying.{ModifiesPlan, ModifiesRows, modified_sets, outcome};
+ghost use Rattle.long_term_plan.specs.Reaching.{AreRowsOf, IsNewOf};
 
 use crate::drafts::{named_drafts, unmet_drafts};
-use crate::lists::{defined_lists, lists_of_one, loop_of_one};
+use crate::lists::{defined_lists, lists_then, loop_of_one, new_list};
 use crate::making::numbered_rows;
 use crate::parting::{Parted, parted_rows, staying_rows};
 use crate::refusals::{lacking_definition, lacking_own_definition};
 use app_definitions::Definitions;
 use app_occurrences::active;
-use external_dependencies::{Links, PairChange, Touch, find_loop};
+use external_dependencies::{PairChange, Touch, find_loop};
 use occurrences::{Deletion, GREATEST_SERIAL, Reason, Refusal, Reply, Row};
-use plan_store::{Change, DefinitionChange, Moves, Need, Verdict, View};
-use plan_store_lists::RowBlocks;
+use plan_store::{Change, DefinitionChange, Moves, Need, NewLists, Verdict, View};
+use plan_store_lists::{LinkBlocks, RowBlocks};
 use plan_store_pairs::{
     are_few, live_rows_of, live_rows_with, pair_change, pairs_of_apps, pairs_of_plans,
-    reached_apps, single, touch_of, touch_of_rows,
+    reached_apps, single, touch_of, touch_of_list, touch_of_rows,
 };
 use planner_machine::{Bounds, Draft, MOST_PLANNED_ROWS};
 use std::alloc::{AllocError, Global};
@@ -46,7 +47,7 @@ use work_calendars::{App, Day};
 /// defined in force. Refused where there is no plan (20), where an active application lacks its calendar (22) or a
 /// period (23), where the lists have a loop (25), and where the rows would be too many (31).
 pub fn modify_all(alloc: Global, view: &View<'_>) -> Result<Verdict, AllocError>
-    ensures { IfOk result (λ verdict. (c : Content) → Shows Need.LongTerm view.now c → IsSound c
+    ensures { IfOk result (λ verdict. (c : Content) → Shows (Need.LongTerm None) view.now c → IsSound c
         → VerdictIs modify_all c verdict) }
 {
     let Some(bounds) = view.bounds() else {
@@ -59,7 +60,8 @@ pub fn modify_all(alloc: Global, view: &View<'_>) -> Result<Verdict, AllocError>
     if let Some(app) = find_loop(alloc, &links)? {
         return Ok(Verdict::Refused(Refusal::Loop { app }));
     }
-    modify(alloc, view, &bounds, &None, Some(links))
+    let lists = LinkBlocks::from_links(alloc, &links)?;
+    modify(alloc, view, &bounds, &None, Some(NewLists::All(lists)))
 }
 
 /// `ltp-modify-one`: the same for one application, whose list alone comes into force. Refused where there is no plan
@@ -68,8 +70,8 @@ pub fn modify_all(alloc: Global, view: &View<'_>) -> Result<Verdict, AllocError>
 /// (25),
 /// where it isn't active (26), and where the rows would be too many (31).
 pub fn modify_one(alloc: Global, view: &View<'_>, app: &App) -> Result<Verdict, AllocError>
-    ensures { IfOk result (λ verdict. (c : Content) → Shows Need.LongTerm view.now c → IsSound c
-        → VerdictIs (modify_one app.now) c verdict) }
+    ensures { IfOk result (λ verdict. (c : Content) → Shows (Need.LongTerm (Some app.now)) view.now c
+        → IsSound c → VerdictIs (modify_one app.now) c verdict) }
 {
     let Some(bounds) = view.bounds() else {
         return Ok(Verdict::Refused(Refusal::NoPlan));
@@ -78,8 +80,8 @@ pub fn modify_one(alloc: Global, view: &View<'_>, app: &App) -> Result<Verdict, 
     if let Some(refusal) = lacking_own_definition(all, app) {
         return Ok(Verdict::Refused(refusal));
     }
-    let new = lists_of_one(alloc, all, view.in_force(), app)?;
-    if let Some(least) = loop_of_one(alloc, &new, app)? {
+    let new = new_list(alloc, all, view.in_force(), app)?;
+    if let Some(least) = loop_of_one(alloc, view, &new, app)? {
         return Ok(Verdict::Refused(Refusal::Loop { app: least }));
     }
     if active(all, app).is_none() {
@@ -108,13 +110,13 @@ fn modify(
     view: &View<'_>,
     bounds: &Bounds,
     only: &Option<App>,
-    new: Option<Links>,
+    new: Option<NewLists>,
 ) -> Result<Verdict, AllocError>
-    ensures { IfOk result (λ verdict. HoldsOfSound Need.LongTerm view.now
-        (λ c. AreKnownLinks c (unwrap_or new c.in_force)
+    ensures { IsNewOf only.now new → IfOk result (λ verdict. HoldsOfSound (Need.LongTerm only.now) view.now
+        (λ c. AreKnownLinks c (lists_after new c.in_force)
         → c.sets.bounds ≡ Some bounds.now
         → ((key : KeyValue) → bounds.now.plan_end ≤ key.ia → ShowsDeleted c view.now key)
-        → ModifiesPlan c only.now (unwrap_or new c.in_force) verdict)) }
+        → ModifiesPlan c only.now (lists_after new c.in_force) verdict)) }
 {
     let all = view.definitions();
     let apps = asked(alloc, all, only)?;
@@ -185,25 +187,26 @@ fn pairs_then(
     named: Vec<Draft>,
     gone: &[Row],
     put: &[Row],
-    new: &Option<Links>,
+    new: &Option<NewLists>,
 ) -> Result<PairChange, AllocError>
     ensures { DraftsRise named.items
         → ListsSet of_row (shown view.now).sets.ltp IsAny rows.now.items
-        → IfOk result (λ change. HoldsOfSound Need.LongTerm view.now
-        (λ c. AreKnownLinks c (unwrap_or new.now c.in_force)
+        → IsNewOf only.now new.now → AreRowsOf only.now gone.now → AreRowsOf only.now put.now
+        → IfOk result (λ change. HoldsOfSound (Need.LongTerm only.now) view.now
+        (λ c. AreKnownLinks c (lists_after new.now c.in_force)
         → (s : Sets)
         → ArePlanned rows.now.items (filter_map (outcome only.now named.items) rows.now.items)
         gone.now put.now
         → HavePlanned c.sets (filter_map (outcome only.now named.items) rows.now.items
         ++ put.now) s
-        → ArePairs c.pairs (unwrap_or new.now c.in_force) s (pairs_after change c.pairs)
+        → ArePairs c.pairs (lists_after new.now c.in_force) s (pairs_after change c.pairs)
         × LeadsOn c.pairs change)) }
 {
     let current = view.cp();
     let lasts = view.lasts();
-    let links = lists_then(view, new);
+    let lists = lists_then(view, new);
     let touch = touch_then(alloc, view, gone, put, new)?;
-    let apps = reached_apps(alloc, links, &touch)?;
+    let apps = reached_apps(alloc, &lists, &touch)?;
     let few = are_few(view, &apps);
     let live = if few {
         let planned = planned_of(alloc, view, &apps, only, &named, put)?;
@@ -220,17 +223,12 @@ fn pairs_then(
     } else {
         pairs_of_plans(alloc, view)?
     };
-    pair_change(alloc, &before, &live, links, &touch)
-}
-
-// The lists in force then.
-fn lists_then<'a>(view: &View<'a>, new: &'a Option<Links>) -> &'a Links
-    ensures { result.now ≡ unwrap_or new.now (shown view.now).in_force }
-{
-    match new {
-        Some(links) => links,
-        None => view.in_force(),
-    }
+    let links = if few {
+        lists.of_apps(alloc, &apps)?
+    } else {
+        lists.to_links(alloc)?
+    };
+    pair_change(alloc, &before, &live, &links, &touch)
 }
 
 // What is touched where these rows are removed and made, and these lists come into force, or none.
@@ -239,14 +237,35 @@ fn touch_then(
     view: &View<'_>,
     gone: &[Row],
     put: &[Row],
-    new: &Option<Links>,
+    new: &Option<NewLists>,
 ) -> Result<Touch, AllocError>
-    ensures { IfOk result (IsTouchOf gone.now put.now (shown view.now).in_force
-        (unwrap_or new.now (shown view.now).in_force)) }
+    ensures touched { IfOk result (IsTouchOf gone.now put.now (shown view.now).in_force
+        (lists_after new.now (shown view.now).in_force)) }
+    ensures lists { IfOk result (λ touch. (only : Option (List ℕ)) → IsNewOf only new.now
+        → (app : List ℕ) → Contains touch.lists.items app → Looks only app) }
 {
     match new {
-        Some(links) => touch_of(alloc, gone, put, view.in_force(), links),
+        Some(new) => touch_with(alloc, view, gone, put, new),
         None => touch_of_rows(alloc, gone, put),
+    }
+}
+
+// What is touched where these rows are removed and made, and these lists come into force.
+fn touch_with(
+    alloc: Global,
+    view: &View<'_>,
+    gone: &[Row],
+    put: &[Row],
+    new: &NewLists,
+) -> Result<Touch, AllocError>
+    ensures touched { IfOk result (IsTouchOf gone.now put.now (shown view.now).in_force
+        (lists_after (Some new.now) (shown view.now).in_force)) }
+    ensures lists { IfOk result (λ touch. (only : Option (List ℕ)) → IsNewOf only (Some new.now)
+        → (app : List ℕ) → Contains touch.lists.items app → Looks only app) }
+{
+    match new {
+        NewLists::All(lists) => touch_of(alloc, gone, put, view.in_force(), lists),
+        NewLists::One(list) => touch_of_list(alloc, gone, put, &list.app),
     }
 }
 
@@ -304,7 +323,7 @@ fn asked(alloc: Global, all: &Definitions, only: &Option<App>) -> Result<Vec<App
 fn change_rows(
     alloc: Global,
     view: &View<'_>,
-    new: Option<Links>,
+    new: Option<NewLists>,
     pairs: PairChange,
     gone: Vec<Row>,
     changed: Vec<Row>,
@@ -314,10 +333,10 @@ fn change_rows(
     ensures { IfOk result (λ verdict. HoldsOfAny view.now (λ c. IsSound c
         → (only : Option (List ℕ)) (named made : List DraftValue)
         → AreModifying c.sets only named made gone.items changed.items put.items
-        → ArePairs c.pairs (unwrap_or new c.in_force) (modified_sets only named made c.sets)
+        → ArePairs c.pairs (lists_after new c.in_force) (modified_sets only named made c.sets)
         (pairs_after pairs c.pairs)
         → LeadsOn c.pairs pairs
-        → ModifiesRows c (unwrap_or new c.in_force) only named made verdict)) }
+        → ModifiesRows c (lists_after new c.in_force) only named made verdict)) }
 {
     let made = put.len();
     let reply = Reply::Made {

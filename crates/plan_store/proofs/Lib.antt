@@ -1,8 +1,8 @@
 mod AppPairLemmas
 mod ArrivalLemmas
 mod ReadLemmas
+mod EmittedLemmas
 pub mod EndLemmas
-mod KeptLastLemmas
 mod LackLemmas
 pub mod FitLemmas
 mod FittingLemmas

@@ -14,6 +14,7 @@ use Rattle.app_definition_records.specs.declared.predecessors.Predecessor.{Prede
 use Rattle.app_definition_records.proofs.ByNameLemmas.{entry_is, entry_there}
 use Rattle.occurrences.specs.declared.key.Key.{Key}
 use Rattle.occurrences.specs.declared.place.CurrentRow.{CurrentRow}
+use Rattle.occurrences.specs.declared.row.Row.{Row}
 use Rattle.occurrences.specs.declared.status.Status.TheVariants.{W}
 use Rattle.external_dependencies.specs.Link.{Lists}
 use Rattle.external_dependencies.specs.declared.links.Link.{Link}
@@ -21,10 +22,11 @@ use Rattle.external_dependencies.proofs.OrderLemmas.{then_equal}
 use Rattle.planner_machine.specs.Content.{Content}
 use Rattle.planner_machine.specs.declared.content.Bounds.{Bounds}
 use Rattle.plan_store_lists.specs.Rows.{AreRows, look_up, of_current}
+use Rattle.plan_store_lists.specs.declared.namings.Naming.{Naming}
 use Rattle.plan_store_lists.proofs.KeyLemmas.{nothing}
 use Rattle.plan_store_lists.proofs.LookLemmas.{look_has, look_some}
-use Rattle.plan_store.specs.HistoryReads.{ReadsKey, ReadsPlan, ListsDefined}
-use Rattle.plan_store.specs.Queries.{ReadByOne, ReadsEach, ReadsEnd, ReadsRow, IsAsked, IsDefined}
+use Rattle.plan_store.specs.HistoryReads.{ReadsKey, ReadsNaming, ReadsPlan, ListsDefined, ListsEither}
+use Rattle.plan_store.specs.Queries.{ReadByOne, ReadsEach, ReadsEnd, ReadsEndOf, ReadsRow, IsAsked, IsDefined}
 use Rattle.plan_store.specs.Views.{current_serial}
 use Rattle.plan_store.specs.Queries.{AddsQueries, IsQueriedIn}
 use Rattle.plan_store.specs.declared.queries.LastQuery.{LastQuery}
@@ -306,37 +308,133 @@ asks_key c key a b d own listed = asks_as (λ app m. IsAsked key.app (key.ia + 1
     Listed : List ℕ → ℕ → Type 0
     Listed = ReadsEach (Lists c.in_force key.app) (key.ia + 1)
 
+-- what is asked for at the plan end for one application
+module _ (links : List Link) (all : Definitions) (bounds : Bounds) (naming : List ℕ) where
+  abbrev OwnInForce : List ℕ → ℕ → Type 0
+  OwnInForce = ReadsEach (Lists links naming) (bounds.plan_end + 1)
+
+  abbrev OwnDefined : List ℕ → ℕ → Type 0
+  OwnDefined = ReadsEach (ListsDefined all naming) (bounds.plan_end + 1)
+
+  end_of_to : (app : List ℕ) (m : ℕ) → OwnInForce app m ⊎ OwnDefined app m → ReadsEndOf links all (Some bounds) naming app m
+  end_of_to app m (inl (at, listed)) = (bounds, refl, (at, inl listed))
+  end_of_to app m (inr (at, defined)) = (bounds, refl, (at, inr defined))
+
+  end_of_from : (app : List ℕ) (m : ℕ) → ReadsEndOf links all (Some bounds) naming app m
+      → OwnInForce app m ⊎ OwnDefined app m
+  end_of_from app m (known, is, (at, either)) =
+      let one : bounds ≡ known = cc in
+      let here : m ≡ bounds.plan_end + 1 = at ∙ ap (λ (x : Bounds). x.plan_end + 1) (sym one) in
+      elim either [ inl listed ↦ inl (here, listed) | inr defined ↦ inr (here, defined) ]
+
+  pub asks_end_of : (a b c : List LastQuery) → AddsQueries OwnInForce a b → AddsQueries OwnDefined b c
+      → AddsQueries (ReadsEndOf links all (Some bounds) naming) a c
+  asks_end_of a b c one two = asks_as (λ app m. OwnInForce app m ⊎ OwnDefined app m)
+      (ReadsEndOf links all (Some bounds) naming) a c end_of_to end_of_from (asks_then OwnInForce OwnDefined a b c one two)
+
+pub no_end_of : (links : List Link) (all : Definitions) (naming : List ℕ) (a : List LastQuery)
+    → AddsQueries (ReadsEndOf links all None naming) a a
+no_end_of links all naming a = asks_none (ReadsEndOf links all None naming) a
+    (λ app m (known, is, asked). absurd (none_some known is))
+  where
+    none_some : (known : Bounds) → (let none : Option Bounds = None in none) ≡ Some known → ⊥
+    none_some known same = cc
+
 -- what a statement on the long-term plan asks
 module _ (c : Content) (cp : List CurrentRow) (cp_rows : AreRows of_current cp)
     (cp_is : c.sets.cp ≡ look_up current_serial cp) where
+  -- a row that waits, and the row itself
+  row_stands : (x : CurrentRow) → Contains cp x → x.status ≡ W
+      → c.sets.cp x.row.serial ≡ Some (record { row = x.row; status = W })
+  row_stands x there waits =
+      let same : x ≡ record { row = x.row; status = W } = λ i. record { row = x.row; status = waits i } in
+      ap (λ (f : ℕ → Option CurrentRow). f x.row.serial) cp_is ∙ look_has current_serial cp cp_rows.one_each x there
+      ∙ ap Some same
+
+  row_there : (row : Row) → c.sets.cp row.serial ≡ Some (record { row = row; status = W })
+      → Contains cp (record { row = row; status = W })
+  row_there row stands = (look_some current_serial cp row.serial (record { row = row; status = W })
+      (ap (λ (f : ℕ → Option CurrentRow). f row.serial) (sym cp_is) ∙ stands)).0
+
+  -- for one application
+  module _ (naming : List ℕ) (own : List CurrentRow)
+      (own_are : (x : CurrentRow) → Contains own x ↔ (Contains cp x × (x.row.key.app ≡ naming))) where
+    abbrev ReadsOwn : List ℕ → ℕ → Type 0
+    ReadsOwn = ReadByOne (ReadsRow c.in_force c.definitions) own
+
+    abbrev OwnAtEnd : List ℕ → ℕ → Type 0
+    OwnAtEnd = ReadsEndOf c.in_force c.definitions c.sets.bounds naming
+
+    naming_to : (app : List ℕ) (minute : ℕ) → ReadsOwn app minute ⊎ OwnAtEnd app minute → ReadsNaming c naming app minute
+    naming_to app minute (inl (x, there, asked)) =
+        let both = (own_are x).0 there in
+        inl (x.row, row_stands x both.0 asked.0, both.1, asked.1.0, subst (λ n. ListsEither c n app) both.1 asked.1.1)
+    naming_to app minute (inr (bounds, is, asked)) = inr (bounds, is, asked.0, asked.1)
+
+    naming_from : (app : List ℕ) (minute : ℕ) → ReadsNaming c naming app minute → ReadsOwn app minute ⊎ OwnAtEnd app minute
+    naming_from app minute (inl (row, stands, of_app, at, lists)) =
+        let x : CurrentRow = record { row = row; status = W } in
+        inl (x, (own_are x).1 (row_there row stands, of_app), (refl, (at, subst (λ n. ListsEither c n app) (sym of_app) lists)))
+    naming_from app minute (inr (bounds, is, at, lists)) = inr (bounds, is, (at, lists))
+
+    pub asks_naming : (a b d : List LastQuery) → AddsQueries ReadsOwn a b → AddsQueries OwnAtEnd b d
+        → AddsQueries (ReadsNaming c naming) a d
+    asks_naming a b d current ends = asks_as (λ app minute. ReadsOwn app minute ⊎ OwnAtEnd app minute)
+        (ReadsNaming c naming) a d naming_to naming_from (asks_then ReadsOwn OwnAtEnd a b d current ends)
+
+  -- for all
   abbrev ReadsCurrent : List ℕ → ℕ → Type 0
   ReadsCurrent = ReadByOne (ReadsRow c.in_force c.definitions) cp
 
   abbrev AtEnd : List ℕ → ℕ → Type 0
   AtEnd = ReadsEnd c.in_force c.definitions c.sets.bounds
 
-  plan_to : (app : List ℕ) (minute : ℕ) → ReadsCurrent app minute ⊎ AtEnd app minute → ReadsPlan c app minute
-  plan_to app minute (inl (x, there, is_asked)) =
-      let waits = is_asked.0 in
-      let same : x ≡ record { row = x.row; status = W } = λ i. record { row = x.row; status = waits i } in
-      let stands : c.sets.cp x.row.serial ≡ Some (record { row = x.row; status = W }) =
-      ap (λ (f : ℕ → Option CurrentRow). f x.row.serial) cp_is ∙ look_has current_serial cp cp_rows.one_each x there
-      ∙ ap Some same in
-      inl (x.row, stands, is_asked.1.0, is_asked.1.1)
-  plan_to app minute (inr (bounds, is, asked)) = inr (bounds, is, asked.0, asked.1)
+  plan_to : (app : List ℕ) (minute : ℕ) → ReadsCurrent app minute ⊎ AtEnd app minute → ReadsPlan None c app minute
+  plan_to app minute (inl (x, there, asked)) =
+      (x.row.key.app, tt, inl (x.row, row_stands x there asked.0, refl, asked.1.0, asked.1.1))
+  plan_to app minute (inr (bounds, is, asked)) = (asked.1.0, tt, inr (bounds, is, asked.0, asked.1.1))
 
-  plan_from : (app : List ℕ) (minute : ℕ) → ReadsPlan c app minute → ReadsCurrent app minute ⊎ AtEnd app minute
-  plan_from app minute (inl (row, stands, at, lists)) =
-      let x : CurrentRow = record { row = row; status = W } in
-      let there = (look_some current_serial cp row.serial x
-      (ap (λ (f : ℕ → Option CurrentRow). f row.serial) (sym cp_is) ∙ stands)).0 in
-      inl (x, there, (refl, (at, lists)))
-  plan_from app minute (inr (bounds, is, at, named)) = inr (bounds, is, (at, named))
+  plan_from : (app : List ℕ) (minute : ℕ) → ReadsPlan None c app minute → ReadsCurrent app minute ⊎ AtEnd app minute
+  plan_from app minute (naming, reached, inl (row, stands, of_app, at, lists)) = inl (
+    record { row = row; status = W },
+    row_there row stands,
+    (refl, (at, subst (λ n. ListsEither c n app) (sym of_app) lists)),
+  )
+  plan_from app minute (naming, reached, inr (bounds, is, at, lists)) = inr (bounds, is, (at, (naming, lists)))
 
   pub asks_plan : (a b d : List LastQuery) → AddsQueries ReadsCurrent a b → AddsQueries AtEnd b d
-      → AddsQueries (ReadsPlan c) a d
+      → AddsQueries (ReadsPlan None c) a d
   asks_plan a b d current ends = asks_as (λ app minute. ReadsCurrent app minute ⊎ AtEnd app minute)
-      (ReadsPlan c) a d plan_to plan_from (asks_then ReadsCurrent AtEnd a b d current ends)
+      (ReadsPlan None c) a d plan_to plan_from (asks_then ReadsCurrent AtEnd a b d current ends)
+
+-- for one application, and for each whose list in force names it
+module _ (c : Content) (one : List ℕ) (namings : List Naming)
+    (are : (naming : Naming) → Contains namings naming ↔ (Contains c.in_force naming.link
+    × (naming.link.predecessor ≡ one))) where
+  abbrev ReadsNamings : List ℕ → ℕ → Type 0
+  ReadsNamings = ReadByOne (λ (naming : Naming). ReadsNaming c naming.link.app) namings
+
+  one_to : (app : List ℕ) (minute : ℕ) → ReadsNaming c one app minute ⊎ ReadsNamings app minute
+      → ReadsPlan (Some one) c app minute
+  one_to app minute (inl own) = (one, inl refl, own)
+  one_to app minute (inr (naming, there, asked)) =
+      let both = (are naming).0 there in
+      let link = naming.link in
+      let same : link ≡ record { app = link.app; predecessor = one; within = link.within } =
+      λ i. record { app = link.app; predecessor = both.1 i; within = link.within } in
+      (link.app, inr (link.within, subst (Contains c.in_force) same both.0), asked)
+
+  one_from : (app : List ℕ) (minute : ℕ) → ReadsPlan (Some one) c app minute
+      → ReadsNaming c one app minute ⊎ ReadsNamings app minute
+  one_from app minute (naming, inl same, asked) = inl (subst (λ n. ReadsNaming c n app minute) same asked)
+  one_from app minute (naming, inr (within, listed), asked) =
+      let x : Naming = record { link = record { app = naming; predecessor = one; within = within } } in
+      inr (x, (are x).1 (listed, refl), asked)
+
+  pub asks_one_app : (a b d : List LastQuery) → AddsQueries (ReadsNaming c one) a b → AddsQueries ReadsNamings b d
+      → AddsQueries (ReadsPlan (Some one) c) a d
+  asks_one_app a b d own others = asks_as (λ app minute. ReadsNaming c one app minute ⊎ ReadsNamings app minute)
+      (ReadsPlan (Some one) c) a d one_to one_from (asks_then (ReadsNaming c one) ReadsNamings a b d own others)
 
 -- what a list has that was made from nothing
 module _ {E : Type 0} (Asked Asks : List ℕ → ℕ → Type 0) (same : Asks ≡ Asked) where

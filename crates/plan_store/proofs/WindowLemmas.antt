@@ -181,12 +181,12 @@ shows_key key view kept lasts whole asked history is =
     live_is_last c numbered own key (shown view).sets.history has serial row stands (let is : key ≡ row.key = cc in is))
 
 -- a window of the long-term plan has all deletions, and shows those that keep keys from being made
-pub shows_plan : (view : View) (kept : Kept) (lasts : List Row) → view.content.now ≡ kept
-    → IsPrepared LongTerm lasts kept → view.history.now.items ≡ kept.history.items
+pub shows_plan : (only : Option (List ℕ)) (view : View) (kept : Kept) (lasts : List Row) → view.content.now ≡ kept
+    → IsPrepared (LongTerm only) lasts kept → view.history.now.items ≡ kept.history.items
     → shown view ≡ with_part kept.buffer.key (look_up row_serial lasts)
     (λ serial. keep (bars kept.bounds) (look_up deletion_serial kept.deletions.items serial)) (content_of kept)
-    → Shows LongTerm view (content_of kept)
-shows_plan view kept lasts whole asked history is = shows_lasts LongTerm view kept lasts whole asked history
+    → Shows (LongTerm only) view (content_of kept)
+shows_plan only view kept lasts whole asked history is = shows_lasts (LongTerm only) view kept lasts whole asked history
     (is ∙ ap (λ (k : Option KeyValue). with_part k (look_up row_serial lasts)
     (λ serial. keep (bars kept.bounds) (look_up deletion_serial kept.deletions.items serial)) (content_of kept)) asked.key)
     (ap (λ (x : Content). x.sets.history) is)
@@ -281,9 +281,9 @@ pub sees_key : (key : KeyValue) (view : View) (c : Content) → Shows (Key key) 
     → Sees (Some key) (ReadsKey (with_hidden (hidden_of c) view) key) (hidden_of c) view
 sees_key key view c shows = sees (Key key) view c shows.is shows.lasts shows.predecessors
 
-pub sees_plan : (view : View) (c : Content) → Shows LongTerm view c
-    → Sees None (ReadsPlan (with_hidden (hidden_of c) view)) (hidden_of c) view
-sees_plan view c shows = sees LongTerm view c shows.is shows.lasts shows.predecessors
+pub sees_plan : (only : Option (List ℕ)) (view : View) (c : Content) → Shows (LongTerm only) view c
+    → Sees None (ReadsPlan only (with_hidden (hidden_of c) view)) (hidden_of c) view
+sees_plan only view c shows = sees (LongTerm only) view c shows.is shows.lasts shows.predecessors
 
 -- what a window shows of history stands there
 pub shows_part : {key : Option KeyValue} (Asked : List ℕ → ℕ → Type 0) (hidden : Hidden) (view : View)
@@ -292,33 +292,34 @@ shows_part Asked hidden view sees serial row there = (sees.lasts.only serial row
 
 -- a window of the long-term plan shows whether an operator deleted an occurrence of a key that arrives from the plan
 -- end on
-module _ (view : View) (c : Content) (shows : Shows LongTerm view c) (key : KeyValue) where
-  shown_was : IsDeletedKey (shown view).sets key → IsDeletedKey c.sets key
-  shown_was there =
-      let (serial, deletion, at, reason, keyed) = subst (λ (x : Content). IsDeletedKey x.sets key) shows.is there in
-      (serial, deletion, (kept_is (bars c.sets.bounds) (c.sets.deletions serial) deletion at).0, reason, keyed)
+module _ (only : Option (List ℕ)) (view : View) (c : Content) (shows : Shows (LongTerm only) view c) (key : KeyValue)
+  where
+    shown_was : IsDeletedKey (shown view).sets key → IsDeletedKey c.sets key
+    shown_was there =
+        let (serial, deletion, at, reason, keyed) = subst (λ (x : Content). IsDeletedKey x.sets key) shows.is there in
+        (serial, deletion, (kept_is (bars c.sets.bounds) (c.sets.deletions serial) deletion at).0, reason, keyed)
 
-  pub shows_deleted : (b : Bounds) → c.sets.bounds ≡ Some b → b.plan_end ≤ key.ia
-      → ShowsDeleted c view key
-  shows_deleted b bounded late = (
-    (λ (serial, deletion, at, reason, keyed).
-        let from : b.plan_end ≤ deletion.row.key.ia = subst (λ (k : KeyValue). b.plan_end ≤ k.ia) (sym keyed) late in
-        subst (λ (x : Content). IsDeletedKey x.sets key) (sym shows.is) (
-          serial,
-          deletion,
-          is_kept (bars c.sets.bounds) (c.sets.deletions serial) deletion at
-              (subst (λ o. bars o deletion ≡ true) (sym bounded) (bars_late b.plan_end deletion reason from)),
-          reason,
-          keyed,
-        )),
-    shown_was,
-  )
+    pub shows_deleted : (b : Bounds) → c.sets.bounds ≡ Some b → b.plan_end ≤ key.ia
+        → ShowsDeleted c view key
+    shows_deleted b bounded late = (
+      (λ (serial, deletion, at, reason, keyed).
+          let from : b.plan_end ≤ deletion.row.key.ia = subst (λ (k : KeyValue). b.plan_end ≤ k.ia) (sym keyed) late in
+          subst (λ (x : Content). IsDeletedKey x.sets key) (sym shows.is) (
+            serial,
+            deletion,
+            is_kept (bars c.sets.bounds) (c.sets.deletions serial) deletion at
+                (subst (λ o. bars o deletion ≡ true) (sym bounded) (bars_late b.plan_end deletion reason from)),
+            reason,
+            keyed,
+          )),
+      shown_was,
+    )
 
-  -- and so it does where nothing is planned
-  pub shows_none_deleted : IsUnplanned c → ShowsDeleted c view key
-  shows_none_deleted none = ((λ there. absurd (none_there there)), λ there. absurd (none_there (shown_was there)))
-    where
-      none_there : IsDeletedKey c.sets key → ⊥
-      none_there (serial, deletion, at, reason, keyed) =
-          let empty : c.sets.deletions serial ≡ None = ap (λ (s : Places). s.deletions) (none.rows serial) in
-          cc
+    -- and so it does where nothing is planned
+    pub shows_none_deleted : IsUnplanned c → ShowsDeleted c view key
+    shows_none_deleted none = ((λ there. absurd (none_there there)), λ there. absurd (none_there (shown_was there)))
+      where
+        none_there : IsDeletedKey c.sets key → ⊥
+        none_there (serial, deletion, at, reason, keyed) =
+            let empty : c.sets.deletions serial ≡ None = ap (λ (s : Places). s.deletions) (none.rows serial) in
+            cc

@@ -11,15 +11,19 @@ use Rattle.occurrences.specs.declared.row.Row.{Row}
 use Rattle.external_dependencies.specs.Change.{Leads}
 use Rattle.external_dependencies.specs.Nearest.{arrival_of}
 use Rattle.external_dependencies.specs.Pair.{pair_cmp}
+use Rattle.external_dependencies.specs.declared.links.Link.{Link}
 use Rattle.external_dependencies.specs.declared.pairs.Pair.{Pair}
 use Rattle.planner_machine.specs.Content.{Content, Sets}
 use Rattle.planner_machine.specs.Moves.{or_else}
 use Rattle.planner_machine.specs.declared.job.Job.{Job}
+use Rattle.plan_store_lists.specs.LinkBlocks.{with_list}
 use Rattle.plan_store_lists.specs.Rows.{HasEachOnce, look_up, of_current, of_deletion, of_row}
 use Rattle.plan_store.specs.declared.changes.Change.{Change}
 use Rattle.plan_store.specs.declared.changes.DefinitionChange.{DefinitionChange}
 use Rattle.plan_store.specs.declared.changes.DefinitionChange.TheVariants.{AsBefore, Merged, Removed}
 use Rattle.plan_store.specs.declared.changes.Moves.{Moves}
+use Rattle.plan_store.specs.declared.changes.NewLists.{NewLists}
+use Rattle.plan_store.specs.declared.changes.NewLists.TheVariants.{All, One}
 use Rattle.external_dependencies.specs.declared.change.PairChange.{PairChange}
 
 -- the definitions as they were, with a block's, or without one
@@ -44,6 +48,12 @@ sets_after change s = record {
   history = moved_set of_row change.history s.history;
   deletions = moved_set of_deletion change.deletions s.deletions;
 }
+
+-- the lists in force as they were, others in place of all, or one list in place of the one of its application
+abbrev pub lists_after : Option NewLists → List Link → List Link
+lists_after None links = links
+lists_after (Some (All lists)) links = lists.items
+lists_after (Some (One list)) links = with_list list.app list.links.items links
 
 -- a pair in its place among pairs in rising order, once
 abbrev pub placed_before : Ordering → Pair → Pair → List Pair → List Pair → List Pair
@@ -81,7 +91,7 @@ abbrev pub after : Change → Content → Content
 after change c = record {
   definitions = redefined change.definitions c.definitions;
   sets = sets_after change c.sets;
-  in_force = unwrap_or change.in_force c.in_force;
+  in_force = lists_after change.in_force c.in_force;
   pairs = pairs_after change.pairs c.pairs;
   jobs = jobs_after change.job c.jobs;
 }
@@ -112,14 +122,6 @@ pub record MovesNothing {X : Type 0} (moves : Moves X) : Type 0 where
   pub gone : moves.gone.items ≡ []
   pub changed : moves.changed.items ≡ []
   pub put : moves.put.items ≡ []
-
--- it leaves the bounds, the lists in force, the current plan and history, so of all that a statement on the long-term
--- plan reads of history only the definitions may change
-pub record KeepsReads (change : Change) : Type 0 where
-  pub bounds : change.bounds ≡ None
-  pub in_force : change.in_force ≡ None
-  pub cp : MovesNothing change.cp
-  pub history : MovesNothing change.history
 
 -- nothing changes
 pub record ChangesNothing (change : Change) : Type 0 where

@@ -19,7 +19,7 @@ content_of kept = record {
     history = look_up (λ (row : Row). row.serial) kept.history.items;
     deletions = look_up (λ (deletion : Deletion). deletion.row.serial) kept.deletions.items;
   };
-  in_force = kept.in_force;
+  in_force = kept.in_force.items;
   pairs = kept.pairs;
   jobs = look_up (λ (job : Job). job.number) kept.jobs.items;
 }

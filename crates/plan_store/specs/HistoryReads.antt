@@ -1,6 +1,6 @@
 -- What a statement reads of history: of an application the row that arrives last at a moment or before it, which is
 -- before the next minute.
-use Rattle.std.specs.Prelude.{◌≡◌, ◌≢◌, ◌⊎◌, ℕ, ◌+◌, ◌<◌, ◌≤◌, List, [], Option, None, Some}
+use Rattle.std.specs.Prelude.{◌≡◌, ◌≢◌, ◌⊎◌, ℕ, ◌+◌, ◌<◌, ◌≤◌, List, Option, None, Some}
 use Rattle.app_definitions.specs.declared.definitions.Definitions.{Definitions}
 use Rattle.occurrences.specs.declared.key.Key.{Key}
 use Rattle.occurrences.specs.declared.place.CurrentRow.{CurrentRow}
@@ -11,7 +11,6 @@ use Rattle.external_dependencies.specs.declared.links.Link.{Link}
 use Rattle.planner_machine.specs.Content.{Content, Sets}
 use Rattle.planner_machine.specs.InForce.{IsDefinedLink}
 use Rattle.planner_machine.specs.declared.content.Bounds.{Bounds}
-use Rattle.plan_store_lists.specs.Rows.{AreRows, look_up, of_row}
 
 -- the first arrives earlier, or at the same moment under no greater serial
 abbrev pub IsNoLater : Row → Row → Type 0
@@ -50,21 +49,31 @@ ListsEither c app predecessor = Lists c.in_force app predecessor ⊎ ListsDefine
 abbrev pub ReadsKey : Content → Key → List ℕ → ℕ → Type 0
 ReadsKey c key app minute = (minute ≡ key.ia + 1) × ((app ≡ key.app) ⊎ Lists c.in_force key.app app)
 
--- what is read for a row that waits in the current plan: the last at its arrival or before it, of each application of
--- its list, in force or defined
-abbrev pub ReadsWaiting : Content → List ℕ → ℕ → Type 0
-ReadsWaiting c app minute = (row : Row) × (c.sets.cp row.serial ≡ Some (record { row = row; status = W }))
-    × (minute ≡ row.key.ia + 1) × ListsEither c row.key.app app
+-- a statement on the long-term plan may reach occurrences of the application: those of all, or those of one and of each
+-- whose list in force names it
+abbrev pub ReachesApp : Option (List ℕ) → List Link → List ℕ → Type 0
+ReachesApp None links naming = Unit {0}
+ReachesApp (Some app) links naming = (naming ≡ app) ⊎ Lists links naming app
 
--- what is read in any case: the last at the plan end or before it, of each application that a list names, in force or
--- defined
-abbrev pub ReadsPlanEnd : Content → List ℕ → ℕ → Type 0
-ReadsPlanEnd c app minute = (bounds : Bounds) × (c.sets.bounds ≡ Some bounds) × (minute ≡ bounds.plan_end + 1)
-    × ((naming : List ℕ) × ListsEither c naming app)
+-- what is read for a row of the application that waits in the current plan: the last at its arrival or before it, of
+-- each application of its list, in force or defined
+abbrev pub ReadsWaiting : Content → List ℕ → List ℕ → ℕ → Type 0
+ReadsWaiting c naming app minute = (row : Row) × (c.sets.cp row.serial ≡ Some (record { row = row; status = W }))
+    × (row.key.app ≡ naming) × (minute ≡ row.key.ia + 1) × ListsEither c naming app
 
--- what a statement on the long-term plan reads
-abbrev pub ReadsPlan : Content → List ℕ → ℕ → Type 0
-ReadsPlan c app minute = ReadsWaiting c app minute ⊎ ReadsPlanEnd c app minute
+-- what is read for the application in any case: the last at the plan end or before it, of each application of its list,
+-- in force or defined
+abbrev pub ReadsPlanEnd : Content → List ℕ → List ℕ → ℕ → Type 0
+ReadsPlanEnd c naming app minute = (bounds : Bounds) × (c.sets.bounds ≡ Some bounds) × (minute ≡ bounds.plan_end + 1)
+    × ListsEither c naming app
+
+-- both
+abbrev pub ReadsNaming : Content → List ℕ → List ℕ → ℕ → Type 0
+ReadsNaming c naming app minute = ReadsWaiting c naming app minute ⊎ ReadsPlanEnd c naming app minute
+
+-- what a statement on the long-term plan reads, for all applications or for one: that of each that it may reach
+abbrev pub ReadsPlan : Option (List ℕ) → Content → List ℕ → ℕ → Type 0
+ReadsPlan only c app minute = (naming : List ℕ) × ReachesApp only c.in_force naming × ReadsNaming c naming app minute
 
 -- each row of the application that arrives before the minute has one that is shown, and that arrives no earlier
 abbrev pub HasLast : (history shown : ℕ → Option Row) → List ℕ → ℕ → Type 0
@@ -77,29 +86,3 @@ pub record HasLasts (Asked : List ℕ → ℕ → Type 0) (history shown : ℕ �
   pub only : (serial : ℕ) (row : Row) → shown serial ≡ Some row → (history serial ≡ Some row)
       × ((app : List ℕ) × (minute : ℕ) × Asked app minute × IsLastOf history app minute row)
   pub lasts : (app : List ℕ) (minute : ℕ) → Asked app minute → HasLast history shown app minute
-
--- what a statement on the long-term plan reads depends on these alone: the definitions, the bounds, the lists in force
--- and the current plan
-abbrev pub ReadsPlanOf : Definitions → Option Bounds → List Link → (ℕ → Option CurrentRow) → List ℕ → ℕ → Type 0
-ReadsPlanOf definitions bounds in_force cp = ReadsPlan (record {
-  definitions = definitions;
-  sets = record {
-    bounds = bounds;
-    issued = 0;
-    ltp = λ _. None;
-    cp = cp;
-    history = λ _. None;
-    deletions = λ _. None;
-  };
-  in_force = in_force;
-  pairs = [];
-  jobs = λ _. None;
-})
-
--- where these rows are in history, exactly those of them are at hand that it reads
-pub record HasPlanLasts (definitions : Definitions) (bounds : Option Bounds) (in_force : List Link) (cp : List CurrentRow)
-    (history found : List Row) : Type 0 where
-  pub rows : AreRows of_row found
-  pub lasts : ∥ HasLasts
-      (ReadsPlanOf definitions bounds in_force (look_up (λ (current : CurrentRow). current.row.serial) cp))
-      (look_up (λ (row : Row). row.serial) history) (look_up (λ (row : Row). row.serial) found) ∥₁

@@ -57,6 +57,11 @@ abbrev pub ReadsEnd : List Link → Definitions → Option Bounds → List ℕ �
 ReadsEnd links all bounds app minute = (known : Bounds) × (bounds ≡ Some known)
     × ReadsEach (λ named. (naming : List ℕ) × IsInEither links all naming named) (known.plan_end + 1) app minute
 
+-- and of each application in the lists of one
+abbrev pub ReadsEndOf : List Link → Definitions → Option Bounds → List ℕ → List ℕ → ℕ → Type 0
+ReadsEndOf links all bounds naming app minute = (known : Bounds) × (bounds ≡ Some known)
+    × ReadsEach (IsInEither links all naming) (known.plan_end + 1) app minute
+
 -- no row of the application arrives before the minute
 abbrev pub LacksBefore : (history : ℕ → Option Row) → List ℕ → ℕ → Type 0
 LacksBefore history app minute = (serial : ℕ) (row : Row) → history serial ≡ Some row → row.key.app ≡ app

@@ -1,5 +1,5 @@
 -- A change of definitions that is begun, and then committed or rolled back.
-use Rattle.std.specs.Prelude.{◌≡◌, ⊤}
+use Rattle.std.specs.Prelude.{⊤}
 use Rattle.app_definitions.specs.Definitions.{merged, without}
 use Rattle.app_definitions.specs.Replacing.{CanPutBack, put_back}
 use Rattle.app_definitions.specs.declared.definitions.Definitions.{Definitions}
@@ -25,11 +25,6 @@ abbrev pub undone : Redefining → Definitions → Definitions
 undone Nothing all = all
 undone (Came was) all = put_back was all
 undone (Goes kind name) all = all
-
--- whether it is committed or rolled back, all definitions stay
-pub record LeavesAll (begun : Redefining) : Type 0 where
-  pub ends : (all : Definitions) → ended begun all ≡ all
-  pub undoes : (all : Definitions) → undone begun all ≡ all
 
 -- it can be rolled back without room
 abbrev pub CanUndo : Redefining → Definitions → Type 0

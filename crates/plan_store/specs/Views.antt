@@ -105,7 +105,7 @@ shown view = record {
     history = look_up row_serial view.lasts.now;
     deletions = λ serial. keep (bars view.content.now.bounds) (look_up deletion_serial view.deletions.now.items serial);
   };
-  in_force = view.content.now.in_force;
+  in_force = view.content.now.in_force.items;
   pairs = needed_pairs view.key.now (look_up row_serial view.ltp.now.items) (look_up current_serial view.cp.now.items)
       (look_up row_serial view.history.now.items) view.pairs.now;
   jobs = λ _. None;
@@ -173,21 +173,21 @@ with_part key history deletions c = with_these (record {
 abbrev pub named : Need → (ℕ → Option Row) → Content → Content
 named need.Definitions history c = with_plans_alone (λ _. None) (λ _. None) c
 named (need.Key key) history c = with_part (Some key) history (λ _. None) c
-named need.LongTerm history c = with_part None history (λ serial. keep (bars c.sets.bounds) (c.sets.deletions serial)) c
+named (need.LongTerm only) history c = with_part None history (λ serial. keep (bars c.sets.bounds) (c.sets.deletions serial)) c
 named (need.Daily t) history c = with_plans_alone (λ serial. moved t (c.sets.ltp serial)) c.sets.cp c
 
 -- what it reads of history
 abbrev pub Asks : Need → Content → List ℕ → ℕ → Type 0
 Asks need.Definitions c = λ app minute. ⊥
 Asks (need.Key key) c = ReadsKey c key
-Asks need.LongTerm c = ReadsPlan c
+Asks (need.LongTerm only) c = ReadsPlan only c
 Asks (need.Daily t) c = λ app minute. ⊥
 
 -- the key that a need is of
 abbrev pub key_of : Need → Option Key
 key_of need.Definitions = None
 key_of (need.Key key) = Some key
-key_of need.LongTerm = None
+key_of (need.LongTerm only) = None
 key_of (need.Daily t) = None
 
 -- a pair comes with both its rows: if its predecessor is in history, the window has it
@@ -274,7 +274,7 @@ pub record IsPrepared (need : Need) (found : List Row) (kept : Kept) : Type 0 wh
 abbrev pub IsFilled : Need → Kept → Type 0
 IsFilled need.Definitions kept = Unit {0}
 IsFilled (need.Key key) kept = IsPrepared (need.Key key) kept.buffer.lasts.items kept
-IsFilled need.LongTerm kept = IsPrepared need.LongTerm kept.buffer.plan_lasts.items kept
+IsFilled (need.LongTerm only) kept = IsPrepared (need.LongTerm only) kept.buffer.lasts.items kept
 IsFilled (need.Daily t) kept = kept.buffer.early.items ≡ filter (arrives_before t) kept.ltp.items
 
 -- the list has exactly the rows of the set that pass, by application, input arrival and serial

@@ -1,4 +1,4 @@
-ghost use Rattle.std.specs.Prelude.{◌≡◌, [], false, true};
+ghost use Rattle.std.specs.Prelude.{◌≡◌, []};
 
 use occurrences::{CurrentRow, Deletion, Key, Row};
 use plan_store_lists::{PairBlocks, RowBlocks};
@@ -9,12 +9,8 @@ use std::alloc::Global;
 pub(crate) struct Buffer {
     // the rows of the long-term plan that the latest daily window shows
     pub(crate) early: RowBlocks<Row>,
-    // the rows of history that the latest window on a key shows
+    // the rows of history that the latest window on a key or on the long-term plan shows
     pub(crate) lasts: Vec<Row>,
-    // the rows of history that the latest window on the long-term plan showed
-    pub(crate) plan_lasts: Vec<Row>,
-    // whether those are what such a window on the content as it is now shows
-    pub(crate) has_plan_lasts: bool,
     // the key of the latest window, if it is on one
     pub(crate) key: Option<Key>,
     // the pairs of a window that shows none
@@ -31,27 +27,15 @@ pub(crate) struct Buffer {
 
 impl Buffer {
     // An empty buffer.
-    pub(crate) fn new(alloc: Global) -> Buffer
-        ensures { result.has_plan_lasts ≡ false }
-    {
+    pub(crate) fn new(alloc: Global) -> Buffer {
         Buffer {
             early: RowBlocks::new(alloc),
             lasts: Vec::new(alloc),
-            plan_lasts: Vec::new(alloc),
-            has_plan_lasts: false,
             key: None,
             no_pairs: PairBlocks::new(alloc),
             no_rows: RowBlocks::new(alloc),
             no_current: RowBlocks::new(alloc),
             no_deletions: RowBlocks::new(alloc),
         }
-    }
-    // Forgets the rows of the window on the long-term plan, unless what they depend on stays.
-    pub(crate) fn keep_plan_lasts(&mut self, stays: bool)
-        ensures was { self.new.has_plan_lasts ≡ true → self.old.has_plan_lasts ≡ true }
-        ensures stays { self.new.has_plan_lasts ≡ true → stays ≡ true }
-        ensures rows { self.new.plan_lasts.items ≡ self.old.plan_lasts.items }
-    {
-        self.has_plan_lasts = self.has_plan_lasts && stays;
     }
 }

@@ -1,9 +1,10 @@
-ghost use Rattle.std.specs.Prelude.{◌≡◌, ◌↔◌, [], IsTrue};
-ghost use Rattle.plan_store.specs.Changes.{ChangesNothing, KeepsReads, MovesNothing};
+ghost use Rattle.std.specs.Prelude.{◌≡◌, []};
+ghost use Rattle.plan_store.specs.Changes.{ChangesNothing};
 
 use app_definitions::{DefinitionBlock, Kind};
-use external_dependencies::{Links, PairChange, Pairs};
+use external_dependencies::{PairChange, Pairs};
 use occurrences::{CurrentRow, Deletion, Refusal, Reply, Row};
+use plan_store_lists::{AppList, LinkBlocks};
 use planner_machine::{Bounds, Job};
 use std::alloc::Global;
 use work_calendars::Name;
@@ -19,18 +20,13 @@ pub enum DefinitionChange {
     Removed { kind: Kind, name: Name },
 }
 
-impl DefinitionChange {
-    ghost use Rattle.plan_store.specs.declared.changes.DefinitionChange.TheVariants.{AsBefore};
-
-    /// Whether the definitions stay.
-    pub fn is_as_before(&self) -> bool
-        ensures { IsTrue result ↔ (self.now ≡ AsBefore) }
-    {
-        match self {
-            DefinitionChange::AsBefore => true,
-            DefinitionChange::Merged(_) | DefinitionChange::Removed { .. } => false,
-        }
-    }
+/// Lists that are put into force.
+#[derive(Drop)]
+pub enum NewLists {
+    /// All lists.
+    All(LinkBlocks),
+    /// The list of one application; the others stay.
+    One(AppList),
 }
 
 /// What a change makes of one set of rows. Each list may be given in any order.
@@ -57,13 +53,6 @@ impl<T> Moves<T> {
             put: Vec::new(alloc),
         }
     }
-
-    /// Whether nothing moves.
-    pub fn is_nothing(&self) -> bool
-        ensures { IsTrue result ↔ MovesNothing self.now }
-    {
-        self.gone.is_empty() && self.changed.is_empty() && self.put.is_empty()
-    }
 }
 
 /// What a statement changes.
@@ -76,7 +65,7 @@ pub struct Change {
     /// The new number of serials issued; `None` where it stays.
     pub issued: Option<u32>,
     /// The new lists in force; `None` where they stay.
-    pub in_force: Option<Links>,
+    pub in_force: Option<NewLists>,
     /// In the long-term plan.
     pub ltp: Moves<Row>,
     /// In the current plan.
@@ -111,17 +100,6 @@ impl Change {
             },
             job: None,
         }
-    }
-
-    /// Whether it leaves all that a window on the long-term plan depends on to show rows of history, the definitions
-    /// aside.
-    pub fn keeps_reads(&self) -> bool
-        ensures { IsTrue result ↔ KeepsReads self.now }
-    {
-        self.bounds.is_none()
-            && self.in_force.is_none()
-            && self.cp.is_nothing()
-            && self.history.is_nothing()
     }
 }
 

@@ -1,7 +1,8 @@
-ghost use Rattle.std.specs.Prelude.{◌≡◌, [], Contains, OnOk, OnErr, IfOk, option_copied, true, unwrap_or};
+ghost use Rattle.std.specs.Prelude.{◌≡◌, [], Contains, OnOk, OnErr, IfOk, option_copied, true};
 
 use crate::buffers::Buffer;
 use crate::changes::{Change, DefinitionChange};
+use crate::in_force::{put_in_force, reserve_list};
 use crate::jobs::{find_job, keep_job};
 use crate::lasts::{fill_lasts, key_of};
 use crate::moving::move_rows;
@@ -13,9 +14,11 @@ use crate::staged::Staged;
 use crate::stores::Need;
 use crate::views::View;
 use app_definitions::Definitions;
-use external_dependencies::{Links, Pair};
+use external_dependencies::Pair;
 use occurrences::{CurrentRow, Deletion, Row};
-use plan_store_lists::{Blocks, PairBlocks, RowBlocks, SeatBlocks, note_rows, reserve_for};
+use plan_store_lists::{
+    Blocks, LinkBlocks, PairBlocks, RowBlocks, SeatBlocks, note_rows, reserve_for,
+};
 use planner_machine::{Bounds, Job};
 use std::alloc::{AllocError, Global};
 use std::mem::replace;
@@ -31,7 +34,7 @@ pub struct Content {
     /// How many serials are issued.
     pub issued: u32,
     /// The lists in force.
-    pub in_force: Links,
+    pub in_force: LinkBlocks,
     /// The long-term plan.
     pub ltp: RowBlocks<Row>,
     /// The current plan.
@@ -57,14 +60,11 @@ pub struct Content {
     ghost cp_seats: { HasSeats of_current cp.items seats },
     ghost history_seats: { HasSeats of_row history.items seats },
     ghost deletion_seats: { HasSeats of_deletion deletions.items seats },
-    ghost plan_lasts: { buffer.has_plan_lasts ≡ true
-        → HasPlanLasts definitions bounds in_force cp.items history.items buffer.plan_lasts.items },
 }
 
 ghost use Rattle.plan_store_lists.specs.Rows.{AreRows, of_row, of_current, of_deletion};
 ghost use Rattle.planner_machine.specs.Moves.{keep, or_else};
 ghost use Rattle.plan_store.specs.Jobs.{AreJobs};
-ghost use Rattle.plan_store.specs.HistoryReads.{HasPlanLasts};
 ghost use Rattle.plan_store_lists.specs.Rows.{HasEachOnce};
 ghost use Rattle.plan_store_lists.specs.Seats.{HasSeats};
 ghost use Rattle.plan_store_lists.specs.declared.seats.Seat.{Seat as SeatValue};
@@ -87,7 +87,7 @@ impl Content {
     ghost use Rattle.plan_store.specs.Room.{no_jobs, with_bounds_of, with_definitions, with_in_force, with_job_set};
     ghost use Rattle.plan_store.specs.Staged.{IsReady, IsStagedFor};
     ghost use Rattle.plan_store.specs.declared.changes.DefinitionChange.TheVariants.{AsBefore};
-    ghost use Rattle.plan_store.specs.declared.stores.Need.TheVariants.{Daily, LongTerm};
+    ghost use Rattle.plan_store.specs.declared.stores.Need.TheVariants.{Daily};
 
     /// The content before the first statement.
     pub fn new(alloc: Global) -> Content
@@ -97,7 +97,7 @@ impl Content {
             definitions: Definitions::new(alloc),
             bounds: None,
             issued: 0,
-            in_force: Links::new(alloc),
+            in_force: LinkBlocks::new(alloc),
             ltp: RowBlocks::new(alloc),
             cp: RowBlocks::new(alloc),
             history: RowBlocks::new(alloc),
@@ -118,8 +118,7 @@ impl Content {
     {
         match need {
             Need::Daily(moment) => self.fill_early(*moment),
-            Need::Key(_) => self.fill_for(need),
-            Need::LongTerm => self.fill_plan(),
+            Need::Key(_) | Need::LongTerm(_) => self.fill_for(need),
             Need::Definitions => Ok(()),
         }
     }
@@ -136,7 +135,7 @@ impl Content {
         Ok(())
     }
 
-    // Fills the buffer with the rows of history that a statement with the need reads, which is of a key.
+    // Fills the buffer with the rows of history that a statement with the need reads.
     fn fill_for(&mut self, need: &Need) -> Result<(), AllocError>
         ensures same { content_of self.new ≡ content_of self.old }
         ensures filled { OnOk result (IsPrepared need.now self.new.buffer.lasts.items self.new) }
@@ -144,22 +143,6 @@ impl Content {
         self.buffer.key = key_of(need);
         let queries = last_queries_of(*self.buffer.lasts.allocator(), self, need)?;
         fill_lasts(&mut self.buffer.lasts, &self.history, &queries)
-    }
-
-    // Fills the buffer with the rows of history that a statement on the long-term plan reads, unless it has them still.
-    fn fill_plan(&mut self) -> Result<(), AllocError>
-        ensures same { content_of self.new ≡ content_of self.old }
-        ensures filled { OnOk result (IsPrepared LongTerm self.new.buffer.plan_lasts.items self.new) }
-    {
-        self.buffer.key = None;
-        if self.buffer.has_plan_lasts {
-            return Ok(());
-        }
-        let alloc = *self.buffer.plan_lasts.allocator();
-        let queries = last_queries_of(alloc, self, &Need::LongTerm)?;
-        fill_lasts(&mut self.buffer.plan_lasts, &self.history, &queries)?;
-        self.buffer.has_plan_lasts = true;
-        Ok(())
     }
 
     /// Lends a window that shows what the need names, which `fill_window` prepared. It has the sizes of the plans even
@@ -176,7 +159,7 @@ impl Content {
             }
             Need::Daily(_) => self.window_of_plans(&self.buffer.early, &self.cp),
             Need::Key(_) => { self.window_of_lasts(&self.buffer.lasts, &self.buffer.no_deletions) }
-            Need::LongTerm => self.window_of_lasts(&self.buffer.plan_lasts, &self.deletions),
+            Need::LongTerm(_) => self.window_of_lasts(&self.buffer.lasts, &self.deletions),
         }
     }
 
@@ -259,7 +242,6 @@ impl Content {
     pub fn set_definitions(&mut self, definitions: Definitions)
         ensures { content_of self.new ≡ with_definitions definitions (content_of self.old) }
     {
-        self.buffer.has_plan_lasts = false;
         self.definitions = definitions;
     }
 
@@ -267,16 +249,14 @@ impl Content {
     pub fn set_bounds(&mut self, bounds: Option<Bounds>)
         ensures { content_of self.new ≡ with_bounds_of bounds (content_of self.old) }
     {
-        self.buffer.has_plan_lasts = false;
         self.bounds = bounds;
     }
 
     /// Replaces the lists in force.
-    pub fn set_in_force(&mut self, links: Links)
-        ensures { content_of self.new ≡ with_in_force links (content_of self.old) }
+    pub fn set_in_force(&mut self, lists: LinkBlocks)
+        ensures { content_of self.new ≡ with_in_force lists.items (content_of self.old) }
     {
-        self.buffer.has_plan_lasts = false;
-        self.in_force = links;
+        self.in_force = lists;
     }
 
     // Notes the serials of all rows that the change puts.
@@ -288,7 +268,7 @@ impl Content {
         note_puts(alloc, &mut self.seats, change)
     }
 
-    // Makes room for the rows and the job that the change puts, whose serials are noted.
+    // Makes room for the rows, the list in force and the job that the change puts. The serials of the rows are noted.
     fn reserve(&mut self, alloc: Global, change: &Change) -> Result<(), AllocError>
         requires seats { HasPutSeats change.now self.old }
         requires ltp { HasEachOnce of_row change.now.ltp.put.items }
@@ -302,6 +282,7 @@ impl Content {
         self.cp.reserve(alloc, &change.cp.put)?;
         self.history.reserve(alloc, &change.history.put)?;
         self.deletions.reserve(alloc, &change.deletions.put)?;
+        reserve_list(alloc, &mut self.in_force, &change.in_force)?;
         self.jobs.reserve(1)?;
         Ok(())
     }
@@ -340,7 +321,6 @@ impl Content {
         let mut rest = change;
         let definitions = replace(&mut rest.definitions, DefinitionChange::AsBefore);
         let pairs = self.make_room(alloc, &rest)?;
-        self.buffer.keep_plan_lasts(definitions.is_as_before());
         match begin(&mut self.definitions, definitions) {
             Ok(redefining) => Ok(Staged {
                 rest,
@@ -367,7 +347,6 @@ impl Content {
             redefining,
         } = staged;
         self.make(rest, pairs);
-        self.buffer.keep_plan_lasts(redefining.is_nothing());
         end(&mut self.definitions, redefining);
     }
 
@@ -383,7 +362,6 @@ impl Content {
             pairs,
             redefining,
         } = staged;
-        self.buffer.keep_plan_lasts(redefining.is_nothing());
         undo(&mut self.definitions, redefining);
         self.pairs = PairBlocks::from_blocks(pairs);
     }
@@ -397,7 +375,6 @@ impl Content {
         ensures { content_of self.new
             ≡ after change (with_pairs_of (items_of taken) (content_of self.old)) }
     {
-        self.buffer.keep_plan_lasts(change.keeps_reads());
         let Change {
             definitions: _,
             bounds,
@@ -453,15 +430,6 @@ fn note_puts(alloc: Global, seats: &mut SeatBlocks, change: &Change) -> Result<(
     note_rows(alloc, seats, &change.cp.put)?;
     note_rows(alloc, seats, &change.history.put)?;
     note_rows(alloc, seats, &change.deletions.put)
-}
-
-// Puts new lists into force, if there are any.
-fn put_in_force(links: &mut Links, new: Option<Links>)
-    ensures { links.new ≡ unwrap_or new links.old }
-{
-    if let Some(new) = new {
-        *links = new;
-    }
 }
 
 // The new bounds, or the old ones where there are no new.

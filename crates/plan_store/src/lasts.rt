@@ -80,6 +80,6 @@ pub(crate) fn key_of(need: &Need) -> Option<Key>
 {
     match need {
         Need::Key(key) => Some(*key),
-        Need::Definitions | Need::LongTerm | Need::Daily(_) => None,
+        Need::Definitions | Need::LongTerm(_) | Need::Daily(_) => None,
     }
 }

@@ -5,7 +5,7 @@
 //! let mut store = ListStore::new(alloc);
 //! assert!(rt; store.job(7)?.is_none());
 //! // what a decision on the long-term plan sees, before there is one
-//! let view = store.read_window(Need::LongTerm)?;
+//! let view = store.read_window(Need::LongTerm(None))?;
 //! assert!(rt; view.bounds().is_none() && view.ltp().is_empty());
 //! assert_eq!(rt; view.issued(), 0);
 //! ```
@@ -17,6 +17,7 @@ mod buffers;
 mod changes;
 mod contents;
 mod fitting;
+mod in_force;
 mod jobs;
 mod lasts;
 mod list_store;
@@ -34,7 +35,7 @@ mod staged;
 mod stores;
 mod views;
 
-pub use changes::{Change, DefinitionChange, Moves, Verdict};
+pub use changes::{Change, DefinitionChange, Moves, NewLists, Verdict};
 pub use contents::Content;
 pub use list_store::ListStore;
 pub use listings::{Item, ItemRefused, ItemSink, ListFault, What};

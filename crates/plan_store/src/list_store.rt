@@ -91,7 +91,8 @@ impl PlanStore for ListStore {
     }
 
     fn links(&mut self) -> Result<Links, StoreFault> {
-        Ok(self.content.in_force.clone()?)
+        let alloc = *self.content.buffer.lasts.allocator();
+        Ok(self.content.in_force.to_links(alloc)?)
     }
 
     fn read_window<'a>(&'a mut self, need: Need) -> Result<View<'a>, StoreFault> {

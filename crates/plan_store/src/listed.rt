@@ -2,10 +2,7 @@
 ghost use Rattle.std.specs.Prelude.{◌≡◌, ◌≢◌, ◌↔◌, ◌++◌, ℕ, Contains, IfOk, IfErr, OnOk, OnErr, length, map};
 ghost use Rattle.std.specs.Prelude.{List, Option, option_copied, option_map};
 ghost use Rattle.external_dependencies.specs.Arrival.{arrival_cmp};
-ghost use Rattle.external_dependencies.specs.Link.{link_cmp};
 ghost use Rattle.external_dependencies.specs.Nearest.{arrival_of};
-ghost use Rattle.external_dependencies.specs.Rising.{IsRising};
-ghost use Rattle.external_dependencies.specs.declared.links.Link.{Link as LinkValue};
 ghost use Rattle.plan_store_lists.specs.Keyed.{IsKeyed};
 ghost use Rattle.plan_store_lists.specs.Rows.{AreRows, of_deletion, of_row};
 ghost use Rattle.planner_machine.specs.Content.{Sets};
@@ -20,9 +17,9 @@ ghost use Rattle.plan_store.specs.declared.listings.What.{What as Showable};
 
 use crate::contents::Content;
 use crate::listings::{Item, ItemRefused, ItemSink, ListFault, What};
-use external_dependencies::{Link, Links, Pair};
+use external_dependencies::{Link, Pair};
 use occurrences::{CurrentRow, Deletion, Row, Serial, Status};
-use plan_store_lists::{PlanRow, RowBlocks};
+use plan_store_lists::{LinkBlocks, PlanRow, RowBlocks};
 use std::alloc::{AllocError, Global};
 use work_calendars::App;
 
@@ -282,18 +279,6 @@ fn emit_links<K: ItemSink>(
     Ok(count)
 }
 
-// The lists of one application, or all.
-fn lists_of<'a>(links: &'a Links, app: Option<&App>) -> &'a [Link]
-    ensures rising { IsRising link_cmp result.now }
-    ensures all { (link : LinkValue) → Contains result.now link
-        ↔ (Contains links.now link × IsOfApp (option_copied app.entry) link.app) }
-{
-    match app {
-        Some(app) => links.list(app),
-        None => links.as_slice(),
-    }
-}
-
 // Passes the sink the entries of lists, in their order, each with its limit.
 fn emit_lists<K: ItemSink>(links: &[Link], sink: &mut K) -> Result<usize, ListFault>
     ensures all { IfOk result (λ count. (count ≡ length links.now)
@@ -309,6 +294,28 @@ fn emit_lists<K: ItemSink>(links: &[Link], sink: &mut K) -> Result<usize, ListFa
         }
     }
     Ok(links.len())
+}
+
+// Passes the sink the entries of all lists, block after block.
+fn emit_all_lists<K: ItemSink>(lists: &LinkBlocks, sink: &mut K) -> Result<usize, ListFault>
+    ensures all { IfOk result (λ count. (count ≡ length lists.now.items)
+        × AcceptsAll K.accepts sink.old (map in_force_shown lists.now.items) sink.new) }
+    ensures part { IfErr result (λ fault. EndsWithin K.accepts K.refuses sink.old
+        (map in_force_shown lists.now.items) sink.new fault) }
+    ensures blames { IfErr result (λ fault. fault ≢ ListFault.Device) }
+{
+    let mut count: usize = 0;
+    let all = lists.blocks();
+    for block in all {
+        let list = block.items();
+        // more than can be counted are in no memory
+        let Some(sum) = count.checked_add(list.len()) else {
+            return Err(ListFault::Memory);
+        };
+        emit_lists(list, sink)?;
+        count = sum;
+    }
+    Ok(count)
 }
 
 impl Content {
@@ -417,7 +424,13 @@ impl Content {
             sink.old sink.new) }
         ensures blames { IfErr result (λ fault. fault ≢ ListFault.Device) }
     {
-        emit_lists(lists_of(&self.in_force, app), sink)
+        match app {
+            Some(app) => emit_lists(self.in_force.list(app), sink),
+            None => {
+                self.in_force.rise();
+                emit_all_lists(&self.in_force, sink)
+            }
+        }
     }
 
     /// Passes the sink what a listing shows, in its order, of one application or of all, and returns how many items
@@ -463,6 +476,6 @@ impl Content {
             × IsListing what app (with_rest rest (content_of self.now)) items }
     {
         self.pairs.rise();
-        let _lists = self.in_force.as_slice();
+        self.in_force.rise();
     }
 }

@@ -204,8 +204,6 @@ impl Content {
         ensures ok { OnOk result (content_of self.new ≡ with_completed row (content_of self.old)) }
         ensures err { OnErr result (content_of self.new ≡ content_of self.old) }
     {
-        self.buffer
-            .keep_plan_lasts(has_serial(&self.history, &self.seats, row.serial));
         load(alloc, &mut self.history, &mut self.seats, &row)
     }
 
@@ -276,7 +274,6 @@ impl Content {
         let seats = seats_for(alloc, &self.ltp, &self.cp, &followed, &barring)?;
         let history = RowBlocks::from_rows(alloc, &followed)?;
         let deletions = RowBlocks::from_rows(alloc, &barring)?;
-        self.buffer.has_plan_lasts = false;
         self.history = history;
         self.deletions = deletions;
         self.seats = seats;

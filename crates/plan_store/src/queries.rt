@@ -1,23 +1,24 @@
 // What a window reads of history: for some applications, the last row at a moment or before it.
 
-ghost use Rattle.std.specs.Prelude.{[], ◌↔◌, ◌+◌, ℕ, Contains, IfOk, List, OnOk};
+ghost use Rattle.std.specs.Prelude.{[], ◌↔◌, ◌+◌, ℕ, Contains, IfOk, List, None, OnOk, Some};
 ghost use Rattle.std.specs.FinMap.{IsAntisymmetric};
 ghost use Rattle.app_definition_records.specs.declared.predecessors.Predecessor.{Predecessor as PredecessorValue};
 ghost use Rattle.external_dependencies.specs.Link.{Lists};
 ghost use Rattle.external_dependencies.specs.declared.links.Link.{Link as LinkValue};
+ghost use Rattle.plan_store_lists.specs.declared.namings.Naming.{Naming as NamingValue};
 ghost use Rattle.plan_store.specs.Queries.{AddsQueries, AreDistinct, IsQueriedIn};
 ghost use Rattle.plan_store.specs.declared.queries.LastQuery.{LastQuery as LastQueryValue};
-ghost use Rattle.plan_store.specs.HistoryReads.{ReadsKey, ReadsPlan, ListsDefined};
+ghost use Rattle.plan_store.specs.HistoryReads.{ReadsKey, ReadsNaming, ReadsPlan, ListsDefined};
 ghost use Rattle.plan_store.specs.Contents.{content_of};
-ghost use Rattle.plan_store.specs.Queries.{ReadByOne, ReadsEach, ReadsEnd, ReadsRow, IsAsked, IsDefined};
+ghost use Rattle.plan_store.specs.Queries.{ReadByOne, ReadsEach, ReadsEnd, ReadsEndOf, ReadsRow, IsAsked, IsDefined};
 ghost use Rattle.plan_store.specs.Views.{Asks};
 
 use crate::contents::Content;
 use crate::stores::Need;
 use app_definitions::{Definitions, Predecessor};
-use external_dependencies::{Link, Links};
+use external_dependencies::Link;
 use occurrences::{CurrentRow, Key, Status};
-use plan_store_lists::RowBlocks;
+use plan_store_lists::{LinkBlocks, Naming, RowBlocks};
 use planner_machine::Bounds;
 use std::alloc::{AllocError, Global};
 use work_calendars::{App, Moment};
@@ -45,7 +46,7 @@ pub fn last_queries_of(
 {
     match need {
         Need::Key(key) => key_queries(alloc, lists, key),
-        Need::LongTerm => plan_queries(alloc, lists),
+        Need::LongTerm(only) => plan_queries(alloc, lists, only),
         Need::Definitions | Need::Daily(_) => Ok(Vec::new(alloc)),
     }
 }
@@ -63,9 +64,92 @@ fn key_queries(alloc: Global, lists: &Content, key: &Key) -> Result<Vec<LastQuer
     Ok(queries)
 }
 
-// What a statement on the long-term plan reads.
-fn plan_queries(alloc: Global, lists: &Content) -> Result<Vec<LastQuery>, AllocError>
-    ensures adds { IfOk result (λ queries. AddsQueries (ReadsPlan (content_of lists.now)) [] queries.items) }
+// What a statement on the long-term plan reads, for all applications or for one.
+fn plan_queries(
+    alloc: Global,
+    lists: &Content,
+    only: &Option<App>,
+) -> Result<Vec<LastQuery>, AllocError>
+    ensures adds { IfOk result (λ queries.
+        AddsQueries (ReadsPlan only.now (content_of lists.now)) [] queries.items) }
+    ensures apart { IfOk result (λ queries. AreDistinct queries.items) }
+{
+    match only {
+        Some(app) => queries_of_one(alloc, lists, app),
+        None => queries_of_all(alloc, lists),
+    }
+}
+
+// The same for one application. It reads the lists of that one and of those whose list in force names it.
+fn queries_of_one(alloc: Global, lists: &Content, app: &App) -> Result<Vec<LastQuery>, AllocError>
+    ensures adds { IfOk result (λ queries.
+        AddsQueries (ReadsPlan (Some app.now) (content_of lists.now)) [] queries.items) }
+    ensures apart { IfOk result (λ queries. AreDistinct queries.items) }
+{
+    let mut queries = Vec::new(alloc);
+    add_naming(&mut queries, lists, app)?;
+    add_each_naming(&mut queries, lists, lists.in_force.naming(app))?;
+    put_in_order(&mut queries);
+    Ok(queries)
+}
+
+// Adds what is read for each application of these links.
+fn add_each_naming(
+    queries: &mut Vec<LastQuery>,
+    lists: &Content,
+    namings: &[Naming],
+) -> Result<(), AllocError>
+    ensures { OnOk result (AddsQueries
+        (ReadByOne (λ (naming : NamingValue). ReadsNaming (content_of lists.now) naming.link.app)
+        namings.now) queries.old.items queries.new.items) }
+{
+    for naming in namings {
+        add_naming(queries, lists, &naming.link.app)?;
+    }
+    Ok(())
+}
+
+// Adds what is read for the application.
+fn add_naming(queries: &mut Vec<LastQuery>, lists: &Content, naming: &App) -> Result<(), AllocError>
+    ensures { OnOk result (AddsQueries (ReadsNaming (content_of lists.now) naming.now)
+        queries.old.items queries.new.items) }
+{
+    let rows = lists.cp.of_app(naming);
+    add_waiting(queries, &lists.in_force, &lists.definitions, rows)?;
+    add_end_of(
+        queries,
+        &lists.in_force,
+        &lists.definitions,
+        lists.bounds,
+        naming,
+    )
+}
+
+// Adds, if there is a plan, the last row at the plan end of each application in the lists of the application, in force
+// and defined.
+fn add_end_of(
+    queries: &mut Vec<LastQuery>,
+    in_force: &LinkBlocks,
+    definitions: &Definitions,
+    bounds: Option<Bounds>,
+    naming: &App,
+) -> Result<(), AllocError>
+    ensures { OnOk result (AddsQueries
+        (ReadsEndOf in_force.now.items definitions.now bounds naming.now)
+        queries.old.items queries.new.items) }
+{
+    let Some(bounds) = bounds else {
+        return Ok(());
+    };
+    let moment = bounds.plan_end;
+    add_list(queries, in_force, naming, moment)?;
+    add_defined(queries, definitions, naming, moment)
+}
+
+// The same for all applications.
+fn queries_of_all(alloc: Global, lists: &Content) -> Result<Vec<LastQuery>, AllocError>
+    ensures adds { IfOk result (λ queries.
+        AddsQueries (ReadsPlan None (content_of lists.now)) [] queries.items) }
     ensures apart { IfOk result (λ queries. AreDistinct queries.items) }
 {
     let mut queries = Vec::new(alloc);
@@ -100,14 +184,31 @@ fn add_links(queries: &mut Vec<LastQuery>, links: &[Link], moment: Moment) -> Re
     Ok(())
 }
 
+// Adds the last row of each application that a list in force names.
+fn add_all_links(
+    queries: &mut Vec<LastQuery>,
+    in_force: &LinkBlocks,
+    moment: Moment,
+) -> Result<(), AllocError>
+    ensures { OnOk result (AddsQueries
+        (ReadByOne (λ (link : LinkValue). IsAsked link.predecessor (moment + 1)) in_force.now.items)
+        queries.old.items queries.new.items) }
+{
+    let all = in_force.blocks();
+    for block in all {
+        add_links(queries, block.items(), moment)?;
+    }
+    Ok(())
+}
+
 // Adds the last row of each application in the list of the application that is in force.
 fn add_list(
     queries: &mut Vec<LastQuery>,
-    in_force: &Links,
+    in_force: &LinkBlocks,
     app: &App,
     moment: Moment,
 ) -> Result<(), AllocError>
-    ensures { OnOk result (AddsQueries (ReadsEach (Lists in_force.now app.now) (moment + 1))
+    ensures { OnOk result (AddsQueries (ReadsEach (Lists in_force.now.items app.now) (moment + 1))
         queries.old.items queries.new.items) }
 {
     add_links(queries, in_force.list(app), moment)
@@ -164,12 +265,12 @@ fn add_all_defined(
 // defined.
 fn add_waiting(
     queries: &mut Vec<LastQuery>,
-    in_force: &Links,
+    in_force: &LinkBlocks,
     definitions: &Definitions,
     rows: &[CurrentRow],
 ) -> Result<(), AllocError>
     ensures { OnOk result (AddsQueries
-        (ReadByOne (ReadsRow in_force.now definitions.now) rows.now)
+        (ReadByOne (ReadsRow in_force.now.items definitions.now) rows.now)
         queries.old.items queries.new.items) }
 {
     for current in rows {
@@ -186,12 +287,12 @@ fn add_waiting(
 // Adds that for each of the rows of the current plan that waits.
 fn add_all_waiting(
     queries: &mut Vec<LastQuery>,
-    in_force: &Links,
+    in_force: &LinkBlocks,
     definitions: &Definitions,
     cp: &RowBlocks<CurrentRow>,
 ) -> Result<(), AllocError>
     ensures { OnOk result (AddsQueries
-        (ReadByOne (ReadsRow in_force.now definitions.now) cp.now.items)
+        (ReadByOne (ReadsRow in_force.now.items definitions.now) cp.now.items)
         queries.old.items queries.new.items) }
 {
     let all = cp.blocks();
@@ -204,18 +305,18 @@ fn add_all_waiting(
 // Adds, if there is a plan, the last row at the plan end of each application that a list names, in force or defined.
 fn add_plan_end(
     queries: &mut Vec<LastQuery>,
-    in_force: &Links,
+    in_force: &LinkBlocks,
     definitions: &Definitions,
     bounds: Option<Bounds>,
 ) -> Result<(), AllocError>
-    ensures { OnOk result (AddsQueries (ReadsEnd in_force.now definitions.now bounds)
+    ensures { OnOk result (AddsQueries (ReadsEnd in_force.now.items definitions.now bounds)
         queries.old.items queries.new.items) }
 {
     let Some(bounds) = bounds else {
         return Ok(());
     };
     let moment = bounds.plan_end;
-    add_links(queries, in_force.as_slice(), moment)?;
+    add_all_links(queries, in_force, moment)?;
     add_all_defined(queries, definitions, moment)?;
     Ok(())
 }

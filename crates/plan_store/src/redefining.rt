@@ -1,8 +1,8 @@
 // Changes of definitions that are begun, and then ended or rolled back.
 
-ghost use Rattle.std.specs.Prelude.{◌≡◌, OnOk, OnErr, IfOk, true};
+ghost use Rattle.std.specs.Prelude.{◌≡◌, OnOk, OnErr, IfOk};
 ghost use Rattle.plan_store.specs.Changes.{redefined};
-ghost use Rattle.plan_store.specs.Redefining.{CanUndo, LeavesAll, ended, half_redefined, undone};
+ghost use Rattle.plan_store.specs.Redefining.{CanUndo, ended, half_redefined, undone};
 
 use crate::changes::DefinitionChange;
 use app_definitions::{Definitions, Kind, Replaced, merge_is_rolled_back};
@@ -18,18 +18,6 @@ pub(crate) enum Redefining {
     Came(Replaced),
     // The definition of one kind and name is removed at the end.
     Goes { kind: Kind, name: Name },
-}
-
-impl Redefining {
-    // Whether the definitions stay.
-    pub(crate) fn is_nothing(&self) -> bool
-        ensures { result ≡ true → LeavesAll self.now }
-    {
-        match self {
-            Redefining::Nothing => true,
-            Redefining::Came(_) | Redefining::Goes { .. } => false,
-        }
-    }
 }
 
 // Begins a change of definitions; if memory is refused, changes nothing. A block's definitions are added at once; what

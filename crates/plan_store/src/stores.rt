@@ -31,11 +31,12 @@ pub enum Need {
     /// its application, which is the key's live row if that is in history, and of each application of its list in
     /// force.
     Key(Key),
-    /// The need of a statement on the long-term plan. Rows: those of both plans, and what an operator deleted from the
-    /// plan end on. Pairs: those whose successor is open. Of history: for each row that waits in the current plan, at
-    /// its arrival or before it, the last row of each application of its list, in force or defined; and at the plan
-    /// end or before it, the last row of each application that any list names, in force or defined.
-    LongTerm,
+    /// The need of a statement on the long-term plan, for all applications or for one. Rows: those of both plans, and
+    /// what an operator deleted from the plan end on. Pairs: those whose successor is open. Of history, for all
+    /// applications, or for the one and each whose list in force names it: for each row of theirs that waits in the
+    /// current plan, at its arrival or before it, the last row of each application of its list, in force or defined; and
+    /// at the plan end or before it, the last row of each application that their lists name, in force or defined.
+    LongTerm(Option<App>),
     /// The need of a daily plan to that moment. Rows: those of the current plan, and those of the long-term plan that
     /// arrive before the moment. No pair, and nothing of history.
     Daily(Moment),

@@ -15,9 +15,9 @@ use crate::slices::{
 };
 use crate::spans::next_planned;
 use app_definitions::Definitions;
-use external_dependencies::{Arrival, Links, Pair, PlacedRow, arrives_within};
+use external_dependencies::{Arrival, Pair, PlacedRow, arrives_within};
 use occurrences::{CurrentRow, Deletion, Key, Place, Row, Serial};
-use plan_store_lists::{PairBlocks, RowBlocks};
+use plan_store_lists::{LinkBlocks, PairBlocks, RowBlocks};
 use planner_machine::Bounds;
 use std::alloc::{AllocError, Global};
 use work_calendars::{App, Moment, Within};
@@ -82,8 +82,8 @@ impl<'a> View<'a> {
     }
 
     /// The lists in force.
-    pub fn in_force(&self) -> &'a Links
-        ensures { result.now ≡ (shown self.now).in_force }
+    pub fn in_force(&self) -> &'a LinkBlocks
+        ensures { result.now.items ≡ (shown self.now).in_force }
     {
         &self.content.in_force
     }

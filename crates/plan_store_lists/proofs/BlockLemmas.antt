@@ -220,7 +220,7 @@ module _ {G K X : Type 0} {group_cmp : G → G → Ordering} (total : IsTotalOrd
     was_in : Contains bs was
     was_in = (i, lt, sym at)
 
-    set_blocks : IsKeyed cmp key item.items.items → ((x : X) → Contains item.items.items x → group_of x ≡ item.group)
+    pub set_blocks : IsKeyed cmp key item.items.items → ((x : X) → Contains item.items.items x → group_of x ≡ item.group)
         → AreBlocks group_cmp cmp group_of key (set bs i item)
     set_blocks keyed grouped = record {
       rise = set_keyed total ties (λ (b : Block G X). b.group) bs is.rise item i lt holds;
@@ -256,6 +256,20 @@ module _ {G K X : Type 0} {group_cmp : G → G → Ordering} (total : IsTotalOrd
             λ same_group. apart (sym (is.grouped block old x in_it) ∙ same_group),
           )
         ]
+
+    -- only those of its group change
+    pub set_items : (x : X) → Contains (items_in (set bs i item)) x
+        ↔ (Contains item.items.items x ⊎ (Contains (items_in bs) x × (group_of x ≢ item.group)))
+    set_items x = (
+      (λ there. came_from x there),
+      λ there. elim there [
+        | inl here ↦ new_item x here
+        | inr (old, apart) ↦ elim (old_item x old) [
+          | inl here ↦ absurd (apart (is.grouped was was_in x here ∙ same))
+          | inr stays ↦ stays
+        ]
+      ],
+    )
 
     -- more items of its group
     module _ (run : List X) (one : (x : X) → Contains run x → group_of x ≡ item.group)

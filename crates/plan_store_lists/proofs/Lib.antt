@@ -1,6 +1,7 @@
 pub mod BlockLemmas
 pub mod EditLemmas
 pub mod KeyLemmas
+pub mod LinkBlockLemmas
 mod MergeLemmas
 mod MoveLemmas
 pub mod PairBlockLemmas

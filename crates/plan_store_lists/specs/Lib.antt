@@ -1,6 +1,8 @@
 pub mod Blocks
 pub mod Groups
 pub mod Keyed
+pub mod LinkBlocks
+pub mod ListsThen
 pub mod PairBlocks
 pub mod RowBlocks
 pub mod RowLists

@@ -169,7 +169,7 @@ fn grow<T>(list: &mut Vec<T>, more: usize) -> Result<(), AllocError>
 ghost use Rattle.std.specs.Prelude.{◌+◌, vec_len, vec_capacity};
 
 // Makes room for so many items of a group.
-fn reserve_group<G: Ord + Copy, T: Copy>(
+pub(crate) fn reserve_group<G: Ord + Copy, T: Copy>(
     alloc: Global,
     list: &mut Blocks<G, T>,
     group: &G,
@@ -224,7 +224,7 @@ pub fn reserve_for<T: Grouped>(
 }
 
 // Removes the items that have the keys of these, which are of one group and in the order of their keys.
-fn remove_run<T: Grouped>(list: &mut Blocks<T::Group, T>, run: &[T])
+pub(crate) fn remove_run<T: Grouped>(list: &mut Blocks<T::Group, T>, run: &[T])
     requires blocks { AreBlocks T.Group.cmp T.Key.cmp T.group_of T.key_of list.old.blocks.items }
     requires sorted { IsKeyed T.Key.cmp T.key_of run.now }
     requires some { 0 < length run.now }
@@ -297,7 +297,7 @@ pub fn replace_in<T: Grouped>(list: &mut Blocks<T::Group, T>, items: &[T])
 }
 
 // Inserts items of new keys, which are of one group and in the order of their keys. There is room for them.
-fn insert_run<T: Grouped>(list: &mut Blocks<T::Group, T>, run: &[T])
+pub(crate) fn insert_run<T: Grouped>(list: &mut Blocks<T::Group, T>, run: &[T])
     requires blocks { AreBlocks T.Group.cmp T.Key.cmp T.group_of T.key_of list.old.blocks.items }
     requires sorted { IsKeyed T.Key.cmp T.key_of run.now }
     requires new { (x : T) → Contains run.now x
@@ -337,5 +337,38 @@ pub fn insert_into<T: Grouped>(list: &mut Blocks<T::Group, T>, items: &[T])
         let run = front_group(&items[start..]);
         insert_run(list, run);
         start += run.len();
+    }
+}
+
+// These items in blocks. They are given in the order of their keys.
+pub(crate) fn from_items<T: Grouped>(
+    alloc: Global,
+    items: &[T],
+) -> Result<Blocks<T::Group, T>, AllocError>
+    requires { IsKeyed T.Key.cmp T.key_of items.now }
+    ensures blocks { IfOk result (λ list.
+        AreBlocks T.Group.cmp T.Key.cmp T.group_of T.key_of list.blocks.items) }
+    ensures same { IfOk result (λ list. (x : T) → Contains (items_of list) x ↔ Contains items.now x) }
+{
+    let mut list = Blocks::new(alloc);
+    reserve_for(alloc, &mut list, items)?;
+    insert_into(&mut list, items);
+    Ok(list)
+}
+
+// Puts these items, which are of one group and in the order of their keys, in the place of all those of the group,
+// which has a block.
+pub(crate) fn put_group<T: Grouped>(list: &mut Blocks<T::Group, T>, group: &T::Group, items: Vec<T>)
+    requires blocks { AreBlocks T.Group.cmp T.Key.cmp T.group_of T.key_of list.old.blocks.items }
+    requires sorted { IsKeyed T.Key.cmp T.key_of items.items }
+    requires one { (x : T) → Contains items.items x → T.group_of x ≡ group.now }
+    requires room { HasRoomAt list.old.blocks.items group.now 0 }
+    ensures blocks { AreBlocks T.Group.cmp T.Key.cmp T.group_of T.key_of list.new.blocks.items }
+    ensures replaced { (x : T) → Contains (items_of list.new) x ↔ (Contains items.items x
+        ⊎ (Contains (items_of list.old) x × (T.group_of x ≢ group.now))) }
+{
+    match place_of(&list.blocks, group) {
+        Ok(at) => list.blocks[at].items = items,
+        Err(_at) => {}
     }
 }

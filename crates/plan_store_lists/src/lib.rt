@@ -1,6 +1,6 @@
-//! The rows, the pairs and the seats of a plan as lists in rising order of a key, each key once: found by binary search,
-//! and changed in place. All three are in blocks: rows in one for each application, pairs and seats in one for every 256
-//! serials.
+//! The rows, the pairs, the seats and the lists of predecessors of a plan as lists in rising order of a key, each key
+//! once: found by binary search, and changed in place. All are in blocks: rows in one for each application, pairs and
+//! seats in one for every 256 serials, links in one for each application and again in one for each predecessor.
 //!
 //! ```text
 //! let mut rows = vec![in alloc; fourth, third]?;
@@ -11,10 +11,14 @@
 //! ```
 #![tactic(auto)]
 
+mod app_lists;
 mod blocks;
 mod changes;
 mod grouped;
 mod keyed;
+mod link_blocks;
+mod lists_then;
+mod namings;
 mod pair_blocks;
 mod pairs;
 mod row_blocks;
@@ -23,12 +27,16 @@ mod rows;
 mod search;
 mod seats;
 
+pub use app_lists::AppList;
 pub use blocks::{
     Block, Blocks, all_of, has_item, insert_into, of_group, remove_from, replace_in, reserve_for,
 };
 pub use changes::{insert_all, remove_all, replace_all};
 pub use grouped::Grouped;
 pub use keyed::Keyed;
+pub use link_blocks::LinkBlocks;
+pub use lists_then::ListsThen;
+pub use namings::{Names, Naming};
 pub use pair_blocks::PairBlocks;
 pub use row_lists::RowBlocks;
 pub use rows::PlanRow;

@@ -17,6 +17,7 @@ use Rattle.planner_machine.specs.Content.{Content, Seat, Sets, IsOnlyAt, alone}
 use Rattle.planner_machine.specs.Pairs.{LiveAt}
 use Rattle.planner_machine.specs.Sound.{AreNumbered}
 use Rattle.plan_store_lists.specs.Rows.{of_current, of_row}
+use Rattle.plan_store_lists.specs.declared.namings.Naming.{Naming}
 use Rattle.external_dependencies.specs.Touch.{IsWithin}
 use Rattle.plan_store.specs.HistoryReads.{IsPlannedAt}
 use Rattle.plan_store.specs.Slices.{HaveOneApp}
@@ -153,40 +154,42 @@ within_next s numbered row (Some next) (planned, later, least) ia up_to =
     let upto = up_to n live of_app (omega arith) in
     omega arith
 
--- the link names the row's application, and the occurrence is reached by it
-abbrev pub IsReachedThere : Sets → Row → Option ℕ → Link → Reached → Type 0
-IsReachedThere s row last link x = (link.predecessor ≡ row.key.app) × IsReachedBy s row last link x
+-- the occurrence is reached by the link
+abbrev pub IsReachedThere : Sets → Row → Option ℕ → Naming → Reached → Type 0
+IsReachedThere s row last naming x = IsReachedBy s row last naming.link x
 
--- all links
+-- all links that name the row's application
 module _ (c : Content) (numbered : AreNumbered c.sets) (row : Row) (last : Option ℕ)
     (next : IsNextPlanned c.sets row.key.app row.key.ia last) (once : AreNamedOnce c.in_force) where
-  pub by_links : (found : List Reached)
+  pub by_links : (namings : List Naming)
+      → ((naming : Naming) → Contains namings naming
+      ↔ (Contains c.in_force naming.link × (naming.link.predecessor ≡ row.key.app)))
+      → (found : List Reached)
       → ((x : Reached) → Contains found x
-      ↔ ((link : Link) × Contains c.in_force link × IsReachedThere c.sets row last link x))
+      ↔ ((naming : Naming) × Contains namings naming × IsReachedThere c.sets row last naming x))
       → AreReached c row found
-  by_links found are = record {
+  by_links namings are_namings found are = record {
     once = once;
     only = λ x there.
-        let (link, listed, (of_row, is)) = (are x).0 there in
-        let whole : link ≡ record { app = x.placed.row.key.app; predecessor = row.key.app; within = x.within } =
+        let (naming, at, is) = (are x).0 there in
+        let (listed, of_row) = (are_namings naming).0 at in
+        let whole : naming.link ≡ record { app = x.placed.row.key.app; predecessor = row.key.app; within = x.within } =
         λ i. record { app = sym is.of_app i; predecessor = of_row i; within = sym is.limit i } in
         record { stands = is.stands; waits = is.waits; listed = subst (Contains c.in_force) whole listed; may = is.may };
     all = λ x is up_to.
         let link : Link = record { app = x.placed.row.key.app; predecessor = row.key.app; within = x.within } in
+        let naming : Naming = record { link = link } in
         (are x).1 (
-          link,
-          is.listed,
-          (
-            refl,
-            record {
-              stands = is.stands;
-              waits = is.waits;
-              of_app = refl;
-              limit = refl;
-              may = is.may;
-              by_last = within_next c.sets numbered row last next x.placed.row.key.ia up_to;
-            },
-          ),
+          naming,
+          (are_namings naming).1 (is.listed, refl),
+          record {
+            stands = is.stands;
+            waits = is.waits;
+            of_app = refl;
+            limit = refl;
+            may = is.may;
+            by_last = within_next c.sets numbered row last next x.placed.row.key.ia up_to;
+          },
         );
   }
 

@@ -8,7 +8,7 @@ use Rattle.occurrences.specs.declared.place.Place.TheVariants.{LongTerm, History
 use Rattle.occurrences.specs.declared.row.Row.{Row}
 use Rattle.external_dependencies.specs.Link.{Lists}
 use Rattle.external_dependencies.specs.Settled.{IsOnce}
-use Rattle.external_dependencies.specs.Touch.{IsAnew, MayReach}
+use Rattle.external_dependencies.specs.Touch.{IsAnew, IsMoved, MayReach}
 use Rattle.external_dependencies.specs.declared.links.Link.{Link}
 use Rattle.external_dependencies.specs.declared.rows.PlacedRow.{PlacedRow}
 use Rattle.external_dependencies.specs.declared.touch.Touch.{Touch}
@@ -25,31 +25,41 @@ use Rattle.plan_store_pairs.proofs.TurnLemmas.{AreListed}
 
 module _ (touch : Touch) (was_links links : List Link) (gone made stay : List Row) (current : List CurrentRow)
     (completed : List Row) (now : List PlacedRow) (is : IsTouchOf gone made was_links links touch)
-    (listed : AreListed (stay ++ made) current completed now) (once : IsOnce now) (apps : List (List ℕ))
-    (has : HasReached touch links apps) where
-  of_made : (q : PlacedRow) → Contains now q → IsAnew touch q.row.serial → HasWithList links apps q.row.key.app
-  of_made q there (inr opened) = absurd (none q.row.serial (subst (λ ns. Contains ns q.row.serial) is.none_opened opened))
-  of_made q there (inl (row, named, same)) =
-      let new = subst (λ rs. Contains rs row) is.comes named in
-      let p : PlacedRow = record { row = row; place = LongTerm } in
-      let at = (listed p).1 (inl (Contains-append_right stay made row new, refl)) in
-      let one : p ≡ q = once p q at there same in
-      subst (HasWithList links apps) (ap (λ (x : PlacedRow). x.row.key.app) one) (has.touched row (inl named))
+    (listed : AreListed (stay ++ made) current completed now) (once : IsOnce now) where
+  -- what holds of the application of each row that came or went, of each whose list changed, and of each whose list names
+  -- one with such rows
+  module _ (Is : List ℕ → Type 0) (touched : (row : Row) → IsMoved touch row → Is row.key.app)
+      (changed : (app : List ℕ) → Contains touch.lists.items app → Is app)
+      (naming : (row : Row) (app : List ℕ) → IsMoved touch row → Lists links app row.key.app → Is app) where
+    of_made : (q : PlacedRow) → Contains now q → IsAnew touch q.row.serial → Is q.row.key.app
+    of_made q there (inr opened) = absurd (none q.row.serial (subst (λ ns. Contains ns q.row.serial) is.none_opened opened))
+    of_made q there (inl (row, named, same)) =
+        let new = subst (λ rs. Contains rs row) is.comes named in
+        let p : PlacedRow = record { row = row; place = LongTerm } in
+        let at = (listed p).1 (inl (Contains-append_right stay made row new, refl)) in
+        let one : p ≡ q = once p q at there same in
+        subst Is (ap (λ (x : PlacedRow). x.row.key.app) one) (touched row (inl named))
 
-  pub of_reached : (q : PlacedRow) → Contains now q → MayReach touch links q.row → HasWithList links apps q.row.key.app
-  of_reached q there (inl anew) = of_made q there anew
-  of_reached q there (inr (inl changed)) = has.changed q.row.key.app changed
-  of_reached q there (inr (inr (link, in_links, (of_app, (row, moved, may))))) =
-      let lists : Lists links q.row.key.app row.key.app = (
-        link.within,
-        subst (Contains links)
-            (λ i. record { app = of_app i; predecessor = sym may.of_app i; within = link.within }) in_links,
-      ) in
-      has.naming row q.row.key.app moved lists
+    -- holds of that of what is reached
+    pub of_each : (q : PlacedRow) → Contains now q → MayReach touch links q.row → Is q.row.key.app
+    of_each q there (inl anew) = of_made q there anew
+    of_each q there (inr (inl named)) = changed q.row.key.app named
+    of_each q there (inr (inr (link, in_links, (of_app, (row, moved, may))))) =
+        let lists : Lists links q.row.key.app row.key.app = (
+          link.within,
+          subst (Contains links)
+              (λ i. record { app = of_app i; predecessor = sym may.of_app i; within = link.within }) in_links,
+        ) in
+        naming row q.row.key.app moved lists
 
-  -- the application of what goes is one of these
-  pub gone_app : (row : Row) → Contains gone row → Contains apps row.key.app
-  gone_app row there = (has.touched row (inr (subst (λ rs. Contains rs row) (sym is.goes) there))).0
+  module _ (apps : List (List ℕ)) (has : HasReached touch links apps) where
+    pub of_reached : (q : PlacedRow) → Contains now q → MayReach touch links q.row
+        → HasWithList links apps q.row.key.app
+    of_reached = of_each (HasWithList links apps) has.touched has.changed has.naming
+
+    -- the application of what goes is one of these
+    pub gone_app : (row : Row) → Contains gone row → Contains apps row.key.app
+    gone_app row there = (has.touched row (inr (subst (λ rs. Contains rs row) (sym is.goes) there))).0
 
 -- ---- the rows of one application after another
 

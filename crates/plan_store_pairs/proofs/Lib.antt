@@ -19,5 +19,6 @@ pub mod ScratchLemmas
 pub mod SeenLemmas
 pub mod SetLemmas
 pub mod TouchLemmas
+mod ThenLemmas
 pub mod TouchedLemmas
 pub mod TurnLemmas

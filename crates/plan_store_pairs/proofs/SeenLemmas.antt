@@ -29,7 +29,7 @@ use Rattle.planner_machine.specs.declared.content.Bounds.{Bounds}
 use Rattle.planner_machine.proofs.SeatLemmas.{cases_issued, not_empty, one_place}
 use Rattle.planner_machine.proofs.SoundLemmas.{rows_sound}
 use Rattle.plan_store_lists.specs.Rows.{of_current, of_row}
-use Rattle.plan_store.specs.HistoryReads.{ReadsPlan, IsNoLater, ListsEither}
+use Rattle.plan_store.specs.HistoryReads.{ReachesApp, ReadsPlan, IsNoLater, ListsEither}
 use Rattle.plan_store.specs.Views.{Hidden, IsAny, ListsSet, Sees, needs_pairs, shown, with_hidden}
 use Rattle.plan_store.specs.declared.views.View.{View}
 use Rattle.plan_store.proofs.PlaceLemmas.{stands_cp, stands_history}
@@ -212,8 +212,8 @@ before_end (Some b) row placed = (b, refl, placed.1)
 
 -- from the content that a window of the long-term plan shows with what it hides, to the sets after a statement, which
 -- leaves history and the current plan
-module _ (h : Hidden) (view : View) (sound : IsSound (with_hidden h view))
-    (sees : Sees None (ReadsPlan (with_hidden h view)) h view) (links : List Link)
+module _ (only : Option (List ℕ)) (h : Hidden) (view : View) (sound : IsSound (with_hidden h view))
+    (sees : Sees None (ReadsPlan only (with_hidden h view)) h view) (links : List Link)
     (known : AreKnownLinks (with_hidden h view) links) (s : Sets) (planned : List Row) (current : List CurrentRow)
     (current_are : ListsSet of_current (shown view).sets.cp IsAny current) (completed lasts : List Row)
     (lasts_are : ListsSet of_row (shown view).sets.history IsAny lasts)
@@ -244,13 +244,13 @@ module _ (h : Hidden) (view : View) (sound : IsSound (with_hidden h view))
   ]
 
   -- before a row of the long-term plan
-  near_planned : (late : Row) → Contains planned late → (app : List ℕ) → Lists links late.key.app app → (row : Row)
+  near_planned : (late : Row) → ReachesApp only c.in_force late.key.app → Contains planned late → (app : List ℕ) → Lists links late.key.app app → (row : Row)
       → h.history row.serial ≡ Some row → row.key.app ≡ app → HasShown lasts late.key app row
-  near_planned late there app names row at of_app =
+  near_planned late reaches there app names row at of_app =
       let (b, bounded, early) = before_end c.sets.bounds row ((rows_sound c sound).arrivals row.serial
       (record { row = row; place = History }) (stands_history c.sets sound.serials row.serial row at)) in
       let (r, is_shown, of_one, early_too, no_later) = sees.lasts.lasts app (b.plan_end + 1)
-      (inr (b, bounded, refl, (late.key.app, known_list late.key.app app names))) row.serial row at of_app
+      (late.key.app, reaches, inr (b, bounded, refl, known_list late.key.app app names)) row.serial row at of_app
       (omega (arith, early)) in
       let lt : r.key.ia < late.key.ia = before_planned s.bounds r late (history_placed r (seen_part r is_shown))
       (placed_then (record { row = late; place = LongTerm })
@@ -281,14 +281,15 @@ module _ (h : Hidden) (view : View) (sound : IsSound (with_hidden h view))
       cc
 
   -- before a row that waits in the current plan
-  near_waiting : (late : Row) → Contains current (waiting late) → (app : List ℕ) → Lists links late.key.app app
+  near_waiting : (late : Row) → ReachesApp only c.in_force late.key.app → Contains current (waiting late) → (app : List ℕ) → Lists links late.key.app app
       → (row : Row) → h.history row.serial ≡ Some row → IsCandidate late.key app None (arrival_of row)
       → HasShown lasts late.key app row
-  near_waiting late there app names row at candidate =
+  near_waiting late reaches there app names row at candidate =
       let stands = ((current_are.exactly (waiting late)).0 there).0 in
       let in_time : row.key.ia ≤ late.key.ia = candidate.in_time in
       let (r, is_shown, of_one, early, no_later) = sees.lasts.lasts app (late.key.ia + 1)
-      (inl (late, stands, refl, known_list late.key.app app names)) row.serial row at candidate.of_app
+      (late.key.app, reaches, inl (late, stands, refl, refl, known_list late.key.app app names)) row.serial row at
+      candidate.of_app
       (omega (arith, in_time)) in
       record {
         r = r;
@@ -309,14 +310,14 @@ module _ (h : Hidden) (view : View) (sound : IsSound (with_hidden h view))
       }
 
   -- before what is open
-  near_open : (q : PlacedRow) → Contains now q → IsOpen q.place → (app : List ℕ) → Lists links q.row.key.app app
+  near_open : (q : PlacedRow) → ReachesApp only c.in_force q.row.key.app → Contains now q → IsOpen q.place → (app : List ℕ) → Lists links q.row.key.app app
       → (row : Row) → h.history row.serial ≡ Some row → IsCandidate q.row.key app None (arrival_of row)
       → HasShown lasts q.row.key app row
-  near_open q there is_open app names row at candidate = elim ((listed q).0 there) [
-    | inl first ↦ near_planned q.row first.0 app names row at candidate.of_app
+  near_open q reaches there is_open app names row at candidate = elim ((listed q).0 there) [
+    | inl first ↦ near_planned q.row reaches first.0 app names row at candidate.of_app
     | inr (inl now) ↦
         let waits : now.status ≡ W = subst IsOpen now.placed is_open in
-        near_waiting q.row
+        near_waiting q.row reaches
         (subst (λ status. Contains current (record { row = q.row; status = status })) waits now.listed) app names row
         at candidate
     | inr (inr done) ↦ absurd (subst IsOpen done.1 is_open)
@@ -326,7 +327,9 @@ module _ (h : Hidden) (view : View) (sound : IsSound (with_hidden h view))
   module _ (touch : Touch) (Passes : List ℕ → Type 0) (rows : List PlacedRow)
       (are : (p : PlacedRow) → Contains rows p ↔ (IsInLists planned current lasts p × Passes p.row.key.app))
       (pass : (q : PlacedRow) → Contains now q → IsOpen q.place → MayReach touch links q.row
-      → Passes q.row.key.app × ((app : List ℕ) → Lists links q.row.key.app app → Passes app)) where
+      → Passes q.row.key.app × ((app : List ℕ) → Lists links q.row.key.app app → Passes app))
+      (within : (q : PlacedRow) → Contains now q → IsOpen q.place → MayReach touch links q.row
+      → ReachesApp only c.in_force q.row.key.app) where
     rows_part : (q : PlacedRow) → Contains rows q → Contains now q
     rows_part q there = elim ((are q).0 there).0 [
       | inl first ↦ (listed q).1 (inl first)
@@ -363,17 +366,17 @@ module _ (h : Hidden) (view : View) (sound : IsSound (with_hidden h view))
       },
     )
 
-    behind_row : (q : PlacedRow) → Contains now q → IsOpen q.place → (app : List ℕ) → Lists links q.row.key.app app
+    behind_row : (q : PlacedRow) → ReachesApp only c.in_force q.row.key.app → Contains now q → IsOpen q.place → (app : List ℕ) → Lists links q.row.key.app app
         → Passes app → (p : PlacedRow) → Contains now p → IsLive p.place
         → IsCandidate q.row.key app None (arrival_of p.row)
         → (b : Arrival) × IsBehind rows q.row.key app (arrival_of p.row) b
-    behind_row q there is_open app names passes p there' is_live candidate =
+    behind_row q reaches there is_open app names passes p there' is_live candidate =
         let own : Passes p.row.key.app = subst Passes (sym candidate.of_app) passes in
         elim ((listed p).0 there') [
           | inl first ↦ itself q.row.key app p ((are p).1 (inl first, own)) is_live candidate
           | inr (inl now) ↦ itself q.row.key app p ((are p).1 (inr (inl now), own)) is_live candidate
           | inr (inr done) ↦
-              let has = near_open q there is_open app names p.row ((completed_are p.row).0 done.0) candidate in
+              let has = near_open q reaches there is_open app names p.row ((completed_are p.row).0 done.0) candidate in
               let order = no_earlier p.row has.r has.no_later in
               let last : PlacedRow = record { row = has.r; place = History } in (
                 arrival_of has.r,
@@ -391,11 +394,11 @@ module _ (h : Hidden) (view : View) (sound : IsSound (with_hidden h view))
               )
         ]
 
-    has_behind : (q : PlacedRow) → Contains now q → IsOpen q.place → (app : List ℕ) → Lists links q.row.key.app app
+    has_behind : (q : PlacedRow) → ReachesApp only c.in_force q.row.key.app → Contains now q → IsOpen q.place → (app : List ℕ) → Lists links q.row.key.app app
         → Passes app → HasBehind now rows q.row.key app
-    has_behind q there is_open app names passes a (p, there', is_live, arrives) candidate =
+    has_behind q reaches there is_open app names passes a (p, there', is_live, arrives) candidate =
         subst (λ (x : Arrival). (b : Arrival) × IsBehind rows q.row.key app x b) arrives
-        (behind_row q there is_open app names passes p there' is_live
+        (behind_row q reaches there is_open app names passes p there' is_live
         (subst (IsCandidate q.row.key app None) (sym arrives) candidate))
 
     -- hold what is reached, with its pairs
@@ -405,7 +408,7 @@ module _ (h : Hidden) (view : View) (sound : IsSound (with_hidden h view))
         → HoldsReached touch links now old rows pairs
     seen_hold old pairs = shown_hold touch links now rows old pairs rows_part (λ q there is_open reach. (
       open_in q there is_open (pass q there is_open reach).0,
-      λ app names. has_behind q there is_open app names ((pass q there is_open reach).1 app names),
+      λ app names. has_behind q (within q there is_open reach) there is_open app names ((pass q there is_open reach).1 app names),
     ))
 
 -- ---- the pairs of what is reached

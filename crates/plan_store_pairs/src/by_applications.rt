@@ -1,33 +1,38 @@
-ghost use Rattle.std.specs.Prelude.{◌≡◌, ◌↔◌, ◌++◌, Contains, IfOk, IsTrue, OnOk, map};
-ghost use Rattle.std.specs.Cmp.Lexicographic.{slice_cmp};
+ghost use Rattle.std.specs.Prelude.{◌≡◌, ◌↔◌, ◌++◌, Contains, IfOk, OnOk, map};
 ghost use Rattle.std.specs.FinMap.{IsAntisymmetric};
-ghost use Rattle.std.specs.Ordering.{nat_cmp};
 ghost use Rattle.occurrences.specs.declared.row.Row.{Row as RowValue};
 ghost use Rattle.external_dependencies.specs.Rising.{IsRising};
 ghost use Rattle.external_dependencies.specs.Touch.{IsMoved};
 ghost use Rattle.external_dependencies.specs.declared.links.Link.{Link as LinkValue};
 ghost use Rattle.plan_store.specs.Views.{shown};
+ghost use Rattle.plan_store_lists.specs.ListsThen.{links_then};
+ghost use Rattle.plan_store_lists.specs.declared.namings.Naming.{Naming as NamingValue};
 ghost use Rattle.plan_store_pairs.specs.ByApplications.{AreGathered, HasReached};
 
 use crate::listing::{push_current, push_rows};
-use external_dependencies::{Link, Links, Rows, Touch};
+use external_dependencies::{Link, Rows, Touch};
 use occurrences::{Place, Row};
 use plan_store::View;
+use plan_store_lists::{LinkBlocks, ListsThen, Naming};
 use std::alloc::{AllocError, Global};
 use work_calendars::App;
 
 /// The applications whose rows hold what a change reaches: those with rows that were made or withdrawn, those whose
-/// lists changed, those whose lists name one with such rows, and all that the lists of these name. Looks at each link once,
-/// unless no rows were made or withdrawn.
-pub fn reached_apps(alloc: Global, links: &Links, touch: &Touch) -> Result<Vec<App>, AllocError>
-    ensures { IfOk result (λ apps. HasReached touch.now links.now apps.items) }
+/// lists changed, those whose lists name one with such rows, and all that the lists of these name. `then` are the lists
+/// after it. Looks only at the links that name one with such rows, and at the lists of the applications that are reached.
+pub fn reached_apps(
+    alloc: Global,
+    then: &ListsThen<'_>,
+    touch: &Touch,
+) -> Result<Vec<App>, AllocError>
+    ensures { IfOk result (λ apps. HasReached touch.now (links_then then.now) apps.items) }
 {
     let touched = in_order(moved_apps(alloc, touch)?);
-    let mut reached = naming_apps(alloc, links.as_slice(), &touched)?;
+    let mut reached = naming_apps(alloc, then, &touched)?;
     reached.extend_from_slice(&touched)?;
     reached.extend_from_slice(&touch.lists)?;
     let reached = in_order(reached);
-    let mut apps = named_apps(alloc, links, &reached)?;
+    let mut apps = named_apps(alloc, then, &reached)?;
     apps.extend_from_slice(&reached)?;
     Ok(in_order(apps))
 }
@@ -51,33 +56,52 @@ fn apps_of(alloc: Global, rows: &[Row]) -> Result<Vec<App>, AllocError>
     rows.iter().map(|row| row.key.app).collect(alloc)
 }
 
-// The applications whose lists name one of these, which rise.
-fn naming_apps(alloc: Global, links: &[Link], apps: &[App]) -> Result<Vec<App>, AllocError>
-    ensures { IsRising (slice_cmp nat_cmp) apps.now → IfOk result (λ naming. (link : LinkValue)
-        → Contains links.now link → Contains apps.now link.predecessor
+// The applications whose lists name one of these. If a list replaces another, its application is among them too.
+fn naming_apps(alloc: Global, then: &ListsThen<'_>, apps: &[App]) -> Result<Vec<App>, AllocError>
+    ensures { IfOk result (λ naming. (link : LinkValue)
+        → Contains (links_then then.now) link → Contains apps.now link.predecessor
         → Contains naming.items link.app) }
 {
-    let mut naming = Vec::new(alloc);
-    if apps.is_empty() {
-        return Ok(naming);
-    }
-    for link in links {
-        if has_app(apps, &link.predecessor) {
-            naming.push(link.app)?;
-        }
+    let mut naming = standing_apps(alloc, then.lists, apps)?;
+    if let Some(own) = then.own {
+        naming.push(own.app)?;
     }
     Ok(naming)
 }
 
+// The applications whose lists name one of these, where none is replaced.
+fn standing_apps(alloc: Global, lists: &LinkBlocks, apps: &[App]) -> Result<Vec<App>, AllocError>
+    ensures { IfOk result (λ naming. (link : LinkValue)
+        → Contains lists.now.items link → Contains apps.now link.predecessor
+        → Contains naming.items link.app) }
+{
+    let mut naming = Vec::new(alloc);
+    for app in apps {
+        push_naming(&mut naming, lists.naming(app))?;
+    }
+    Ok(naming)
+}
+
+// Adds the applications of these.
+fn push_naming(apps: &mut Vec<App>, found: &[Naming]) -> Result<(), AllocError>
+    ensures { OnOk result (apps.new.items
+        ≡ apps.old.items ++ map (λ (naming : NamingValue). naming.link.app) found.now) }
+{
+    for naming in found {
+        apps.push(naming.link.app)?;
+    }
+    Ok(())
+}
+
 // The applications that the lists of these name.
-fn named_apps(alloc: Global, links: &Links, apps: &[App]) -> Result<Vec<App>, AllocError>
+fn named_apps(alloc: Global, then: &ListsThen<'_>, apps: &[App]) -> Result<Vec<App>, AllocError>
     ensures { IfOk result (λ named. (link : LinkValue)
-        → Contains links.now link → Contains apps.now link.app
+        → Contains (links_then then.now) link → Contains apps.now link.app
         → Contains named.items link.predecessor) }
 {
     let mut named = Vec::new(alloc);
     for app in apps {
-        push_named(&mut named, links.list(app))?;
+        push_named(&mut named, then.list(app))?;
     }
     Ok(named)
 }
@@ -91,13 +115,6 @@ fn push_named(named: &mut Vec<App>, list: &[Link]) -> Result<(), AllocError>
         named.push(link.predecessor)?;
     }
     Ok(())
-}
-
-// Whether the application is one of these, which rise.
-fn has_app(apps: &[App], app: &App) -> bool
-    ensures { IsRising (slice_cmp nat_cmp) apps.now → IsTrue result ↔ Contains apps.now app.now }
-{
-    apps.binary_search(app).is_ok()
 }
 
 // The items in rising order, each once.

@@ -22,8 +22,8 @@ pub(crate) struct Reached {
     pub(crate) within: Option<Within>,
 }
 
-/// The open occurrences that the row may precede, up to the next live one of its application. Looks at each link in
-/// force once, and finds the occurrences by searches.
+/// The open occurrences that the row may precede, up to the next live one of its application. Looks only at the links
+/// in force that name its application, and finds the occurrences by searches.
 pub(crate) fn reached_by(
     alloc: Global,
     view: &View<'_>,
@@ -34,10 +34,10 @@ pub(crate) fn reached_by(
 {
     let last = view.next_planned(&row.key.app, row.key.ia);
     let mut found = Vec::new(alloc);
-    for link in view.in_force().as_slice() {
-        if link.predecessor == row.key.app {
-            push_link(alloc, view, row, link, &last, &mut found)?;
-        }
+    let lists = view.in_force();
+    lists.rise();
+    for naming in lists.naming(&row.key.app) {
+        push_link(alloc, view, row, &naming.link, &last, &mut found)?;
     }
     Ok(found)
 }

@@ -33,5 +33,5 @@ pub use planned::{pairs_of_apps, pairs_of_plans};
 pub use row_pairs::row_pairs_of;
 pub use scratch::settled_pairs;
 pub use singles::single;
-pub use touches::{touch_of, touch_of_rows};
+pub use touches::{touch_of, touch_of_list, touch_of_rows};
 pub use withdrawals::pairs_without;

@@ -60,4 +60,4 @@ pub record IsBare (kept : Kept) : Type 0 where
   pub issued : kept.issued ≡ 0
   pub rows : HasNoRows kept
   pub pairs : kept.pairs ≡ []
-  pub in_force : kept.in_force ≡ []
+  pub in_force : kept.in_force.items ≡ []

@@ -49,7 +49,7 @@ fn is_bare(content: &Content) -> bool
     content.issued == 0
         && has_no_rows(content)
         && content.pairs.is_empty()
-        && content.in_force.as_slice().is_empty()
+        && content.in_force.is_empty()
 }
 
 // Whether nothing is planned.

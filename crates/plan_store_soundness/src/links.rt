@@ -11,7 +11,8 @@ pub(crate) fn has_no_loop(alloc: Global, content: &Content) -> Result<bool, Allo
     ensures { IfOk result (λ b. IsTrue b
         ↔ ((app : List ℕ) → OnLoop (content_of content.now).in_force app → ⊥)) }
 {
-    match find_loop(alloc, &content.in_force)? {
+    let links = content.in_force.to_links(alloc)?;
+    match find_loop(alloc, &links)? {
         None => Ok(true),
         Some(_) => Ok(false),
     }

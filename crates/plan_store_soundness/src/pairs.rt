@@ -49,7 +49,8 @@ pub(crate) fn has_settled_pairs(alloc: Global, content: &Content) -> Result<bool
 {
     let rows = live_rows(alloc, &content.ltp, &content.cp, &content.history)?;
     let pairs = pairs_of(alloc, content)?;
-    let settled = settled_pairs(alloc, &pairs, &rows, &content.in_force)?;
+    let links = content.in_force.to_links(alloc)?;
+    let settled = settled_pairs(alloc, &pairs, &rows, &links)?;
     Ok(same_pairs(&pairs, &settled))
 }
 

@@ -141,7 +141,8 @@ pub(crate) fn has_ranges(
     if !has_days(content) {
         return Ok(false);
     }
-    if !are_links(content.in_force.as_slice()) {
+    let links = content.in_force.to_links(alloc)?;
+    if !are_links(links.as_slice()) {
         return Ok(false);
     }
     Ok(have_ranges(content, all))

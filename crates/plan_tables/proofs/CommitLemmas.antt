@@ -1,5 +1,5 @@
 -- A change that was made in the tables and in the lists, or in neither.
-use Rattle.std.proofs.Common.{◌≡◌, ◌∙◌, ℕ, Bool, Err, IsTrue, Ok, Some, false, ap, arith, subst, sym, true}
+use Rattle.std.proofs.Common.{◌≡◌, ◌∙◌, ℕ, Bool, Err, IsTrue, Ok, Some, false, ap, arith, subst, sym}
 use Rattle.std.proofs.Math.Logic.{∥∥₁_elim, ∥∥₁_map}
 use Rattle.sqlite.specs.Effect.{Database}
 use Rattle.sqlite.specs.Held.{Held, state}
@@ -10,13 +10,11 @@ use Rattle.external_dependencies.specs.Pair.{pair_cmp}
 use Rattle.external_dependencies.specs.Rising.{IsRising}
 use Rattle.planner_machine.specs.Content.{Content}
 use Rattle.planner_machine.specs.Sound.{IsSound}
-use Rattle.plan_store.specs.Changes.{Fits, KeepsReads, after}
+use Rattle.plan_store.specs.Changes.{Fits, after}
 use Rattle.plan_store.specs.Contents.{content_of}
-use Rattle.plan_store.specs.Parts.{Rest, rest_of, with_rest}
+use Rattle.plan_store.specs.Parts.{Rest, with_rest}
 use Rattle.plan_store.specs.Staged.{jobless}
 use Rattle.plan_store.specs.declared.changes.Change.{Change}
-use Rattle.plan_store.specs.declared.changes.DefinitionChange.TheVariants.{AsBefore}
-use Rattle.plan_store.specs.declared.stores.Need.TheVariants.{LongTerm}
 use Rattle.plan_store.specs.declared.stores.StoreFault.{StoreFault}
 use Rattle.plan_tables_schema.specs.Rows.{tables_of}
 use Rattle.plan_tables_constraints.specs.Accepted.{FittingIsAccepted}
@@ -26,12 +24,11 @@ use Rattle.plan_tables_opening.specs.Opened.{IsStored}
 use Rattle.plan_tables_opening.specs.Stored.{AllHaveRowids}
 use Rattle.plan_tables_windows.specs.Changes.{KnowsNamed}
 use Rattle.plan_tables_windows.specs.Fetching.{told_rest}
-use Rattle.plan_tables_windows.specs.Windows.{IsReadyFor}
 use Rattle.plan_tables_writing.specs.Writing.{IsRepresentableChange}
 use Rattle.plan_tables_writing.specs.declared.redefining.DefinitionMoves.{DefinitionMoves}
 use Rattle.plan_tables.specs.Causes.{CanAccept, HasFailed}
 use Rattle.plan_tables.specs.Found.{Tells}
-use Rattle.plan_tables.specs.Kept.{CanRead, Holds, IsKept, IsMet}
+use Rattle.plan_tables.specs.Kept.{CanRead, IsKept, IsMet}
 use Rattle.plan_tables.specs.Representable.{BringMoves}
 use Rattle.plan_tables.specs.Session.{IsWhole, doubt_after, failures_after, fault_of}
 use Rattle.plan_tables.specs.Stored.{LeavesSound}
@@ -42,10 +39,9 @@ use Rattle.plan_tables.specs.declared.table_store.TableStore.{TableStore}
 use Rattle.plan_tables.proofs.CauseLemmas.{room_takes}
 use Rattle.plan_tables.proofs.LookLemmas.{kept_sure}
 use Rattle.plan_tables.proofs.MetLemmas.{keeps_after, kept_undone, met_so, own_rest}
-use Rattle.plan_tables.proofs.ReadyLemmas.{holds_still, ready_after}
 use Rattle.plan_tables.proofs.SessionLemmas.{counts_device, counts_none, device_is, opens_if, sure_opens}
 use Rattle.plan_tables.proofs.SetLemmas.{content_set, truth_prop}
-use Rattle.plan_tables.proofs.StoredLemmas.{kept_after, leaves_either, leaves_one, leaves_sound, told_kept}
+use Rattle.plan_tables.proofs.StoredLemmas.{keeps_still, kept_after, leaves_either, leaves_one, leaves_sound}
 use Rattle.plan_tables.proofs.WhyLemmas.{memory_is}
 
 -- what a crash leaves of it that was not there before
@@ -93,11 +89,8 @@ module _ {S : Type 0} {g : Ghosts S} (old : TableStore S g) (change : Change) (m
   abbrev own : Rest
   own = own_rest from lists change moves fits sound brings
 
-  held : ∥ (HasCleanDisk from → Holds from lists old.plan_ready) ∥₁
-  held = kept_sure old.session.in_doubt old.session.failures whole.1 whole.0 old.stored
-
   kept : ∥ (HasCleanDisk from → IsKept from lists) ∥₁
-  kept = ∥∥₁_map held (λ h clean. (h clean).kept)
+  kept = kept_sure old.session.in_doubt old.session.failures whole.1 whole.0 old.stored
 
   met : HasCleanDisk from → IsKept from lists → IsMet from lists change moves own
   met = met_so from lists change moves fits sound brings
@@ -127,20 +120,9 @@ module _ {S : Type 0} {g : Ghosts S} (old : TableStore S g) (change : Change) (m
           keeps_after from lists change moves fits sound brings tell to now did.lists k.part (knows can) (fits can)
           (stored clean k) (sound can)
 
-      -- the lists stay ready if the change leaves all that is read
-      pub keeps_commit : (failures : ℕ) (in_doubt is_ready : Bool)
-          → (is_ready ≡ true → (old.plan_ready ≡ true) × KeepsReads change × (change.definitions ≡ AsBefore))
-          → ∥ (failures ≡ 0 → HasCleanDisk to → (IsTrue in_doubt → IsTrue to.is_open) → Holds to now is_ready) ∥₁
-      keeps_commit failures in_doubt is_ready stays = ∥∥₁_map held (λ h _ clean _.
-          let was = h (calm clean) in
-          record {
-            kept = keeps clean was.kept;
-            ready = λ is.
-                let (ready, reads, as_before) = stays is in
-                subst (λ (rest : Rest). IsReadyFor rest LongTerm now) (sym (told_kept tell to goal (stored clean was.kept)))
-                (subst (IsReadyFor (rest_of goal) LongTerm) (sym did.lists)
-                (ready_after change own lists reads as_before (was.ready ready)));
-          })
+      pub keeps_commit : (failures : ℕ) (in_doubt : Bool)
+          → ∥ (failures ≡ 0 → HasCleanDisk to → (IsTrue in_doubt → IsTrue to.is_open) → IsKept to now) ∥₁
+      keeps_commit failures in_doubt = ∥∥₁_map kept (λ h _ clean _. keeps clean (h (calm clean)))
 
     module _ (now : Content) (why : Unmade) (failures : ℕ) (in_doubt : Bool)
         (did : Unchanged g old.session.conn new lists now change moves why)
@@ -149,16 +131,14 @@ module _ {S : Type 0} {g : Ghosts S} (old : TableStore S g) (change : Change) (m
       still clean = omega (arith, did.crash.clean, clean)
 
       pub keeps_undone : ∥ (failures ≡ 0 → HasCleanDisk to → (IsTrue in_doubt → IsTrue to.is_open)
-          → Holds to now old.plan_ready) ∥₁
-      keeps_undone = ∥∥₁_map held (λ h none clean sure.
-          let was = h (still clean) in
-          let k = was.kept in
+          → IsKept to now) ∥₁
+      keeps_undone = ∥∥₁_map kept (λ h none clean sure.
+          let k = h (still clean) in
           let m = met (still clean) k in
           let opens = opens_if (Some why) failures in_doubt to.is_open counted doubted none sure
           (λ leaves. did.memory clean own m (memory_is why leaves)) in
           let same = did.undone clean own m opens in
-          subst (λ (c : Content). Holds to c old.plan_ready) (sym did.lists)
-          (holds_still from to lists old.plan_ready was opens same.0 same.1))
+          subst (IsKept to) (sym did.lists) (keeps_still from to lists k opens same.0 same.1))
 
   module _ (now : TableStore S g) where
     abbrev last : State

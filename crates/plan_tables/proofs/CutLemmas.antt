@@ -1,5 +1,5 @@
 -- Lists that are cut have a part of what they had, and keep the same content beside the tables.
-use Rattle.std.proofs.Common.{◌≡◌, ◌∙◌, Bool, Contains, List, Option, ap, subst, sym, true}
+use Rattle.std.proofs.Common.{◌≡◌, ◌∙◌, Contains, List, Option, ap, subst, sym, true}
 use Rattle.std.proofs.Math.Logic.{∥∥₁_map}
 use Rattle.sqlite.specs.State.{HasCleanDisk, State}
 use Rattle.external_dependencies.specs.declared.pairs.Pair.{Pair}
@@ -11,9 +11,7 @@ use Rattle.plan_store.specs.Views.{bars}
 use Rattle.plan_tables_opening.specs.Opened.{IsStored}
 use Rattle.plan_tables_schema.specs.Rows.{tables_of}
 use Rattle.plan_tables_windows.specs.Fetching.{told_rest}
-use Rattle.plan_store.specs.declared.stores.Need.TheVariants.{LongTerm}
-use Rattle.plan_tables_windows.specs.Windows.{IsReadyFor}
-use Rattle.plan_tables.specs.Kept.{Holds, IsKept, LooksOn, kept_in}
+use Rattle.plan_tables.specs.Kept.{IsKept, LooksOn, kept_in}
 
 -- a part of a part is a part
 pub part_within : (rest : Rest) (was now : Content) → with_rest (rest_of was) now ≡ was → IsPartOf (rest_of was) now
@@ -48,16 +46,9 @@ module _ (s : State) (was now : Content)
     part = part (told_rest (tables_of s.now.trees)) kept.part;
   }
 
-  -- lists that may have been cut are not ready
-  pub held_cut : (was_ready is_ready : Bool) → ((rest : Rest) → IsPartOf rest was → IsPartOf rest now)
-      → (is_ready ≡ true → (was_ready ≡ true) × (now ≡ was)) → ∥ (HasCleanDisk s → Holds s was was_ready) ∥₁
-      → ∥ (HasCleanDisk s → Holds s now is_ready) ∥₁
-  held_cut was_ready is_ready part uncut held = ∥∥₁_map {B = HasCleanDisk s → Holds s now is_ready} held
-      (λ h clean. record {
-        kept = kept_cut part (h clean).kept;
-        ready = λ is. subst (IsReadyFor (told_rest (tables_of s.now.trees)) LongTerm) (sym (uncut is).1)
-            ((h clean).ready (uncut is).0);
-      })
+  pub held_cut : ((rest : Rest) → IsPartOf rest was → IsPartOf rest now) → ∥ (HasCleanDisk s → IsKept s was) ∥₁
+      → ∥ (HasCleanDisk s → IsKept s now) ∥₁
+  held_cut part held = ∥∥₁_map held (λ h clean. kept_cut part (h clean))
 
   pub looks_cut : (new : State) (later : Content) → LooksOn s new now later → LooksOn s new was later
   looks_cut new later looks = record {

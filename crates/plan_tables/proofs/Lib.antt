@@ -6,7 +6,6 @@ mod WindowLemmas
 mod ListLemmas
 mod EndLemmas
 pub mod LookLemmas
-pub mod ReadyLemmas
 pub mod SessionLemmas
 mod CommitLemmas
 pub mod MetLemmas

@@ -11,7 +11,7 @@ use Rattle.plan_store.specs.Stores.{ReadsStore}
 use Rattle.plan_store.specs.declared.stores.StoreFault.{StoreFault}
 use Rattle.plan_store.specs.declared.stores.StoreFault.TheVariants.{Device, Memory}
 use Rattle.plan_tables.specs.Causes.{HasFailed}
-use Rattle.plan_tables.specs.Kept.{CanRead, Holds, LooksOn, kept_in}
+use Rattle.plan_tables.specs.Kept.{CanRead, IsKept, LooksOn, kept_in}
 use Rattle.plan_tables.specs.Session.{Asks, Blames, Checks, IsWhole, Keeps, LeavesOpen, doubt_after, failures_after, fault_of}
 use Rattle.plan_tables.specs.Stored.{LeavesSound, MayLeave}
 use Rattle.plan_tables.specs.Stores.{kept_by, state_of}
@@ -21,14 +21,13 @@ use Rattle.plan_tables.specs.declared.session.Session.{Session}
 use Rattle.plan_tables.specs.declared.table_store.TableStore.{TableStore}
 use Rattle.plan_tables.proofs.CauseLemmas.{shut_so}
 use Rattle.plan_tables.proofs.LookLemmas.{looks_on, told_kept_still, told_still}
-use Rattle.plan_tables.proofs.ReadyLemmas.{holds_still}
 use Rattle.plan_tables.proofs.SetLemmas.{truth_prop}
-use Rattle.plan_tables.proofs.StoredLemmas.{looks_same, put_still}
+use Rattle.plan_tables.proofs.StoredLemmas.{keeps_still, looks_same, put_still}
 
 -- ---- a session that is checked
 
-module _ {S : Type 0} {g : Ghosts S} (old new : Session S g) (lists : Content) (is_ready : Bool)
-    (keeps : Keeps g old lists is_ready) where
+module _ {S : Type 0} {g : Ghosts S} (old new : Session S g) (lists : Content)
+    (keeps : Keeps g old lists) where
   abbrev from : State
   from = state g old.conn
 
@@ -36,23 +35,23 @@ module _ {S : Type 0} {g : Ghosts S} (old new : Session S g) (lists : Content) (
   to = state g new.conn
 
   -- nothing failed, so an open connection keeps the lists
-  pub known : old.failures ≡ 0 → ∥ (HasCleanDisk from → IsTrue from.is_open → Holds from lists is_ready) ∥₁
+  pub known : old.failures ≡ 0 → ∥ (HasCleanDisk from → IsTrue from.is_open → IsKept from lists) ∥₁
   known none = ∥∥₁_map keeps (λ h clean opens. h none clean (λ _. opens))
 
-  pub kept_checked : Checks g old new (Ok tt) → ∥ (HasCleanDisk to → Holds to lists is_ready) ∥₁
+  pub kept_checked : Checks g old new (Ok tt) → ∥ (HasCleanDisk to → IsKept to lists) ∥₁
   kept_checked did = ∥∥₁_map keeps (λ h clean.
       let fine = did.fine clean in
       let held = h did.whole.0 (omega (arith, did.survives.clean, clean)) fine.opens in
-      holds_still from to lists is_ready held (fine.stays_open held.kept.stored.is_open) fine.now fine.committed)
+      keeps_still from to lists held (fine.stays_open held.stored.is_open) fine.now fine.committed)
 
-  pub keeps_unchecked : (fault : StoreFault) → Checks g old new (Err fault) → Keeps g new lists is_ready
+  pub keeps_unchecked : (fault : StoreFault) → Checks g old new (Err fault) → Keeps g new lists
   keeps_unchecked fault did = ∥∥₁_map keeps (λ h none clean sure.
       let whole : old.failures ≡ 0 = omega (arith, did.counts, none) in
       let opens : IsTrue to.is_open = in_doubt fault did none sure in
       let put = did.stays clean opens in
       let held = h whole (omega (arith, did.survives.clean, clean)) (λ _. put.0) in
-      let still = put_still from to (kept_in from lists) held.kept.stored (did.stays clean) opens in
-      holds_still from to lists is_ready held opens still.0 still.1)
+      let still = put_still from to (kept_in from lists) held.stored (did.stays clean) opens in
+      keeps_still from to lists held opens still.0 still.1)
     where
       in_doubt : (fault : StoreFault) → Checks g old new (Err fault) → new.failures ≡ 0
           → (IsTrue new.in_doubt → IsTrue to.is_open) → IsTrue to.is_open
@@ -69,7 +68,7 @@ module _ {S : Type 0} {g : Ghosts S} (old new : Session S g) (lists : Content) (
       → IsTrue to.is_open → ∥ to.now ≡ from.now ∥₁
   seen_unchecked fault did memory clean opens = ∥∥₁_map (known (did.doubt memory).0) (λ h.
       let held = h (omega (arith, did.survives.clean, clean)) (did.stays clean opens).0 in
-      (put_still from to (kept_in from lists) held.kept.stored (did.stays clean) opens).0)
+      (put_still from to (kept_in from lists) held.stored (did.stays clean) opens).0)
 
   pub told_checked : {r : Result (Unit {0}) StoreFault} → Checks g old new r → ∥ (HasCleanDisk from → LeavesSound from) ∥₁
       → ∥ (HasCleanDisk to → LeavesSound to) ∥₁
@@ -77,7 +76,7 @@ module _ {S : Type 0} {g : Ghosts S} (old new : Session S g) (lists : Content) (
 
   pub looks_checked : {r : Result (Unit {0}) StoreFault} → Checks g old new r → old.failures ≡ 0 → LooksOn from to lists lists
   looks_checked did none = looks_on from to (λ _. ⊥) did.survives lists
-      (∥∥₁_map (known none) (λ h clean opens. (h clean opens).kept)) ∣ did.stays ∣₁
+      (known none) ∣ did.stays ∣₁
       ∣ (λ _ db none. none) ∣₁
 
   -- a store that had failed is not checked
@@ -111,9 +110,9 @@ opens_if (Some unmade.Doubt) failures in_doubt opens counted kept none sure leav
 opens_if (Some unmade.Device) failures in_doubt opens counted kept none sure leaves =
     absurd (let h : ⊥ = omega (arith, counted, none) in h)
 
-module _ {S : Type 0} (g : Ghosts S) (old new : Held S) (was : Content) (was_ready : Bool) (why : Option Unmade)
+module _ {S : Type 0} (g : Ghosts S) (old new : Held S) (was : Content) (why : Option Unmade)
     (asks : Asks g old new was why)
-    (held : ∥ (HasCleanDisk (state g old) → Holds (state g old) was was_ready) ∥₁) where
+    (held : ∥ (HasCleanDisk (state g old) → IsKept (state g old) was) ∥₁) where
   abbrev asked_from : State
   asked_from = state g old
 
@@ -124,29 +123,27 @@ module _ {S : Type 0} (g : Ghosts S) (old new : Held S) (was : Content) (was_rea
   calm clean = omega (arith, asks.survives.clean, clean)
 
   pub opens_asked : HasCleanDisk asked_to → LeavesOpen why → IsTrue asked_to.is_open
-  opens_asked clean leaves = ∥∥₁_elim held (truth_prop asked_to.is_open) (λ h. asks.opens clean (h (calm clean)).kept leaves)
+  opens_asked clean leaves = ∥∥₁_elim held (truth_prop asked_to.is_open) (λ h. asks.opens clean (h (calm clean)) leaves)
 
   pub seen_asked : HasCleanDisk asked_to → IsTrue asked_to.is_open → ∥ asked_to.now ≡ asked_from.now ∥₁
   seen_asked clean opens = ∥∥₁_map held (λ h.
-      let k = (h (calm clean)).kept in (put_still asked_from asked_to (kept_in asked_from was) k.stored (asks.stays clean k) opens).0)
+      let k = (h (calm clean)) in (put_still asked_from asked_to (kept_in asked_from was) k.stored (asks.stays clean k) opens).0)
 
   -- what was kept is kept with these lists, if they have a part of what the tables have still
-  pub keeps_asked : (failures : ℕ) (in_doubt : Bool) (lists : Content) (is_ready : Bool) → failures ≡ failures_after why 0
+  pub keeps_asked : (failures : ℕ) (in_doubt : Bool) (lists : Content) → failures ≡ failures_after why 0
       → in_doubt ≡ doubt_after why false
-      → (HasCleanDisk asked_to → Holds asked_from was was_ready → IsTrue asked_to.is_open → asked_to.now ≡ asked_from.now
-      → asked_to.committed ≡ asked_from.committed → Holds asked_to lists is_ready)
+      → (HasCleanDisk asked_to → IsKept asked_from was → IsTrue asked_to.is_open → asked_to.now ≡ asked_from.now
+      → asked_to.committed ≡ asked_from.committed → IsKept asked_to lists)
       → ∥ (failures ≡ 0 → HasCleanDisk asked_to → (IsTrue in_doubt → IsTrue asked_to.is_open)
-      → Holds asked_to lists is_ready) ∥₁
-  keeps_asked failures in_doubt lists is_ready counted doubt still = ∥∥₁_map held (λ h none clean sure.
-      let before = h (calm clean) in
-      let k = before.kept in
+      → IsKept asked_to lists) ∥₁
+  keeps_asked failures in_doubt lists counted doubt still = ∥∥₁_map held (λ h none clean sure.
+      let k = h (calm clean) in
       let opens = opens_if why failures in_doubt asked_to.is_open counted doubt none sure (asks.opens clean k) in
       let put = put_still asked_from asked_to (kept_in asked_from was) k.stored (asks.stays clean k) opens in
-      still clean before opens put.0 put.1)
+      still clean k opens put.0 put.1)
 
   pub told_asked : ∥ (HasCleanDisk asked_from → LeavesSound asked_from) ∥₁ → ∥ (HasCleanDisk asked_to → LeavesSound asked_to) ∥₁
-  told_asked told = told_kept_still asked_from asked_to asks.survives was
-      (∥∥₁_map held (λ h clean. (h clean).kept)) told
+  told_asked told = told_kept_still asked_from asked_to asks.survives was held told
 
 -- and of a session that was blamed since
 pub asks_blamed : {S : Type 0} {g : Ghosts S} {old : Held S} {last now : Session S g} {why : Unmade} {fault : StoreFault}
@@ -155,9 +152,9 @@ asks_blamed {S} {g} {old} {last} {now} {why} was blames asks =
     subst (λ (h : Held S). Asks g old h was (Some why)) (sym blames.conn) asks
 
 -- it failed since it was checked, so it failed since before
-module _ {S : Type 0} {g : Ghosts S} (before mid : Session S g) (now : Held S) (was : Content) (was_ready : Bool)
+module _ {S : Type 0} {g : Ghosts S} (before mid : Session S g) (now : Held S) (was : Content)
     (why : Option Unmade) (checks : Checks g before mid (Ok tt)) (asks : Asks g mid.conn now was why)
-    (held : ∥ (HasCleanDisk (state g mid.conn) → Holds (state g mid.conn) was was_ready) ∥₁) where
+    (held : ∥ (HasCleanDisk (state g mid.conn) → IsKept (state g mid.conn) was) ∥₁) where
   since : HasFailed (state g mid.conn) (state g now)
       → HasFailed (state g before.conn) (state g now) ⊎ ((state g before.conn).is_open ≡ false)
   since (inl more) = inl (inl (omega (arith, checks.survives.counts, more)))
@@ -166,7 +163,7 @@ module _ {S : Type 0} {g : Ghosts S} (before mid : Session S g) (now : Held S) (
   pub failed_asked : HasCleanDisk (state g now) → why ≡ Some unmade.Device
       → ∥ HasFailed (state g before.conn) (state g now) ⊎ ((state g before.conn).is_open ≡ false) ∥₁
   failed_asked clean is = ∥∥₁_map held (λ h.
-      since (asks.failed clean (h (omega (arith, asks.survives.clean, clean))).kept is))
+      since (asks.failed clean (h (omega (arith, asks.survives.clean, clean))) is))
 
 -- a store before its connection was asked and after, and why what is asked is not done, if it is not
 pub record Asked {S : Type 0} {g : Ghosts S} (before now : TableStore S g) (why : Option Unmade) : Type 0 where
@@ -179,9 +176,9 @@ pub record Asked {S : Type 0} {g : Ghosts S} (before now : TableStore S g) (why 
       → ∥ HasFailed (state_of before) (state_of now) ⊎ ((state_of before).is_open ≡ false) ∥₁
 
 module _ {S : Type 0} {g : Ghosts S} (before now : TableStore S g) (mid : Session S g) (was : Content)
-    (was_ready : Bool) (why : Option Unmade) (checks : Checks g before.session mid (Ok tt))
+    (why : Option Unmade) (checks : Checks g before.session mid (Ok tt))
     (asks : Asks g mid.conn now.session.conn was why)
-    (held : ∥ (HasCleanDisk (state g mid.conn) → Holds (state g mid.conn) was was_ready) ∥₁) where
+    (held : ∥ (HasCleanDisk (state g mid.conn) → IsKept (state g mid.conn) was) ∥₁) where
   pub asked : now.session.failures ≡ failures_after why 0 → now.session.in_doubt ≡ doubt_after why false
       → LooksOn (state g mid.conn) (state_of now) (content_of before.lists) (content_of now.lists) → Asked before now why
   asked failures in_doubt later = record {
@@ -190,10 +187,10 @@ module _ {S : Type 0} {g : Ghosts S} (before now : TableStore S g) (mid : Sessio
     in_doubt = in_doubt;
     looks = looks_then (state_of before) (state g mid.conn) (state_of now) (content_of before.lists)
         (content_of before.lists) (content_of now.lists)
-        (looks_checked before.session mid (content_of before.lists) before.plan_ready before.stored checks checks.whole.0)
+        (looks_checked before.session mid (content_of before.lists) before.stored checks checks.whole.0)
         later;
-    opens = opens_asked g mid.conn now.session.conn was was_ready why asks held;
-    failed = failed_asked before.session mid now.session.conn was was_ready why checks asks held;
+    opens = opens_asked g mid.conn now.session.conn was why asks held;
+    failed = failed_asked before.session mid now.session.conn was why checks asks held;
   }
 
 -- none is no more than any

@@ -1,6 +1,6 @@
 -- What a store over tables keeps: history, the deletions and the kept jobs in their tables alone, all else in lists in
 -- memory too, with what was loaded of the rest.
-use Rattle.std.specs.Prelude.{◌≡◌, ◌⊎◌, Bool, IsTrue, true}
+use Rattle.std.specs.Prelude.{◌≡◌, ◌⊎◌, IsTrue}
 use Rattle.sqlite.specs.State.{HasCleanDisk, State}
 use Rattle.planner_machine.specs.Content.{Content}
 use Rattle.planner_machine.specs.Sound.{IsSound}
@@ -8,9 +8,7 @@ use Rattle.plan_store.specs.Changes.{Fits}
 use Rattle.plan_store.specs.Parts.{IsPartOf, Rest, with_rest}
 use Rattle.plan_store.specs.declared.changes.Change.{Change}
 use Rattle.plan_tables_schema.specs.Rows.{tables_of}
-use Rattle.plan_store.specs.declared.stores.Need.TheVariants.{LongTerm}
 use Rattle.plan_tables_windows.specs.Fetching.{told_rest, told_with}
-use Rattle.plan_tables_windows.specs.Windows.{IsReadyFor}
 use Rattle.plan_tables_opening.specs.Opened.{IsStored}
 use Rattle.plan_tables_writing.specs.Redefining.{AreMovesOf}
 use Rattle.plan_tables.specs.Stored.{MayLeave}
@@ -25,12 +23,6 @@ pub record IsKept (s : State) (lists : Content) : Type 0 where
   pub stored : IsStored s (kept_in s lists)
   pub sound : IsSound (kept_in s lists)
   pub part : IsPartOf (told_rest (tables_of s.now.trees)) lists
-
--- the database keeps the lists; and if they are ready for a window on the long-term plan, they have what it reads of
--- history
-pub record Holds (s : State) (lists : Content) (is_ready : Bool) : Type 0 where
-  pub kept : IsKept s lists
-  pub ready : is_ready ≡ true → IsReadyFor (told_rest (tables_of s.now.trees)) LongTerm lists
 
 -- what was read of the database is what was written, and it can still be read
 abbrev pub CanRead : State → Type 0

@@ -13,7 +13,7 @@ use Rattle.plan_tables_schema.specs.Schema.{HasTables}
 use Rattle.plan_tables_lookups.specs.declared.faults.Stopped.{Stopped}
 use Rattle.plan_tables_lookups.specs.declared.faults.Stopped.TheVariants.{Fault, Sink}
 use Rattle.plan_tables.specs.Causes.{HasFailed}
-use Rattle.plan_tables.specs.Kept.{Holds, IsKept, StaysPut}
+use Rattle.plan_tables.specs.Kept.{IsKept, StaysPut}
 use Rattle.plan_tables.specs.declared.keeping.Unmade.{Unmade}
 use Rattle.plan_tables.specs.declared.keeping.Unmade.TheVariants as unmade
 use Rattle.plan_tables.specs.declared.session.Session.{Session}
@@ -99,9 +99,8 @@ pub record Checks {S : Type 0} (g : Ghosts S) (old new : Session S g) (result : 
   pub stays : HasCleanDisk (state g new.conn) → StaysPut (state g old.conn) (state g new.conn)
   pub survives : Survives (state g old.conn) (state g new.conn) (λ _. ⊥)
 
--- If nothing failed, what was read is what was written and the connection is open where it is in doubt, then the
--- database keeps the lists, which have what a window on the long-term plan reads of history if they are ready for one.
-abbrev pub Keeps : {S : Type 0} (g : Ghosts S) → Session S g → Content → Bool → Type 0
-Keeps g session lists is_ready = ∥ (session.failures ≡ 0 → HasCleanDisk (state g session.conn)
-    → (IsTrue session.in_doubt → IsTrue (state g session.conn).is_open)
-    → Holds (state g session.conn) lists is_ready) ∥₁
+-- if nothing failed, what was read is what was written and the connection is open where it is in doubt, then the database
+-- keeps the lists
+abbrev pub Keeps : {S : Type 0} (g : Ghosts S) → Session S g → Content → Type 0
+Keeps g session lists = ∥ (session.failures ≡ 0 → HasCleanDisk (state g session.conn)
+    → (IsTrue session.in_doubt → IsTrue (state g session.conn).is_open) → IsKept (state g session.conn) lists) ∥₁

@@ -1,11 +1,10 @@
 -- What is fetched from the tables for a window or a change, and what a call does that fetches it.
-use Rattle.std.specs.Prelude.{◌≡◌, Result, OnOk}
+use Rattle.std.specs.Prelude.{Result, OnOk}
 use Rattle.sqlite.specs.Held.{Held, state}
 use Rattle.sqlite.specs.State.{HasCleanDisk}
 use Rattle.sqlite.specs.Store.{Ghosts}
 use Rattle.planner_machine.specs.Content.{Content}
 use Rattle.plan_store.specs.Parts.{IsPartOf, Rest}
-use Rattle.plan_store.specs.declared.stores.Need.TheVariants.{LongTerm}
 use Rattle.plan_tables_windows.specs.Changes.{KnowsNamed}
 use Rattle.plan_tables_windows.specs.Windows.{IsReadyFor}
 use Rattle.plan_tables_schema.specs.Rows.{tables_of}
@@ -20,11 +19,6 @@ use Rattle.plan_tables.specs.declared.seeking.Sought.TheVariants as sought
 abbrev pub IsFoundFor : Sought → Rest → Content → Type 0
 IsFoundFor (sought.Window need) rest c = IsReadyFor rest need.now c
 IsFoundFor (sought.Change change) rest c = KnowsNamed rest change.now c
-
--- it is a window on the long-term plan
-abbrev pub IsOnPlan : Sought → Type 0
-IsOnPlan (sought.Window need) = need.now ≡ LongTerm
-IsOnPlan (sought.Change change) = ⊥
 
 -- Over a kept content an Ok has what is sought. The lists keep what they had, and may have more of the rest.
 pub record Seeks {S : Type 0} (g : Ghosts S) (old new : Held S) (was now : Content)

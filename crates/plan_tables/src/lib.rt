@@ -6,7 +6,7 @@
 //!     return Err(Fail::new("not adopted"));
 //! };
 //! assert!(rt; store.bounds()?.is_none() && store.job(7)?.is_none());
-//! let view = store.read_window(Need::LongTerm)?;
+//! let view = store.read_window(Need::LongTerm(None))?;
 //! assert_eq!(rt; view.issued(), 0);
 //! ```
 #![tactic(auto)]
@@ -20,7 +20,6 @@ mod listing;
 mod looking;
 mod opening;
 mod prepared;
-mod ready;
 mod seeking;
 mod session;
 mod table_store;

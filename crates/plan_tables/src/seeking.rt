@@ -1,6 +1,6 @@
 // What is fetched from the tables before a window is lent or a change is made, and loaded into the lists.
 
-ghost use Rattle.std.specs.Prelude.{◌≡◌, ◌⊎◌, true};
+ghost use Rattle.std.specs.Prelude.{◌≡◌, ◌⊎◌};
 ghost use Rattle.plan_store.specs.Contents.{content_of};
 ghost use Rattle.plan_store.specs.Parts.{IsPartOf, Rest, followed_alone, with_rest};
 ghost use Rattle.plan_store.specs.Room.{no_jobs, with_job_set};
@@ -71,8 +71,8 @@ fn have_loaded_much(lists: &Content, kept: usize) -> bool {
 }
 
 /// Cuts lists that loaded much: it drops the rows of history and the deletions that no plan needs. If memory is refused,
-/// they stay. `kept` says how many the last cut left; lists that may have been cut are not ready.
-pub(crate) fn cut_lists(alloc: Global, lists: &mut Content, kept: &mut usize, is_ready: &mut bool)
+/// they stay. `kept` says how many the last cut left.
+pub(crate) fn cut_lists(alloc: Global, lists: &mut Content, kept: &mut usize)
     ensures same { (rest : Rest) → with_rest rest (content_of lists.new)
         ≡ with_rest rest (content_of lists.old) }
     ensures part { (rest : Rest) → IsPartOf rest (content_of lists.old)
@@ -81,13 +81,10 @@ pub(crate) fn cut_lists(alloc: Global, lists: &mut Content, kept: &mut usize, is
     ensures cut { (content_of lists.new ≡ content_of lists.old)
         ⊎ ((content_of lists.new ≡ followed_alone (with_job_set no_jobs (content_of lists.old)))
         ⊎ (content_of lists.new ≡ with_job_set no_jobs (content_of lists.old))) }
-    ensures ready { is_ready.new ≡ true
-        → (is_ready.old ≡ true) × (content_of lists.new ≡ content_of lists.old) }
 {
     if !have_loaded_much(lists, *kept) {
         return;
     }
-    *is_ready = false;
     let _ = lists.keep_part(alloc);
     *kept = loaded_rows(lists);
 }

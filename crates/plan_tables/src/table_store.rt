@@ -34,7 +34,6 @@ use crate::keeping::{Unmade, change_both};
 use crate::listing::{ListedTable, list_kept, listing_fault};
 use crate::looking::job_kept;
 use crate::prepared::{Prepared, can_number, prepare};
-use crate::ready::{are_both, is_either, is_on_plan, leaves_reads};
 use crate::seeking::{Sought, cut_lists, loaded_rows, seek};
 use crate::session::Session;
 use app_definitions::Definitions;
@@ -62,13 +61,11 @@ pub struct TableStore<S: Alter> {
     lists: Content,
     // how many rows of history and of the deletions the lists had when they were cut last
     kept: usize,
-    // whether the lists have what a window on the long-term plan reads of history
-    plan_ready: bool,
     // the job that was fetched last, which is lent
     found: Option<Job>,
     alloc: Global,
     ghost jobless: { (content_of lists).jobs ≡ no_jobs },
-    ghost stored: { Keeps S.Store session (content_of lists) plan_ready },
+    ghost stored: { Keeps S.Store session (content_of lists) },
     ghost told: { ∥ (HasCleanDisk (state S.Store session.conn)
         → LeavesSound (state S.Store session.conn)) ∥₁ },
 }
@@ -125,7 +122,6 @@ impl<S: Alter + Drop> TableStore<S> {
             },
             lists,
             kept,
-            plan_ready: false,
             found: None,
             alloc,
         }
@@ -146,27 +142,14 @@ impl<S: Alter + Drop> TableStore<S> {
         }
     }
 
-    // Fetches what is sought, unless the lists have it, and loads it into them. Lists that loaded much are cut first.
+    // Fetches what is sought, and loads it into the lists. Lists that loaded much are cut first.
     fn make_ready(&mut self, sought: Sought<'_>) -> Result<(), StoreFault>
         ensures { MakesReady ⟦<TableStore<S> as PlanStore>⟧ self.old self.new sought.entry result }
     {
         self.session.check()?;
-        let on_plan = is_on_plan(sought);
-        let is_found = are_both(self.plan_ready, on_plan);
-        if is_found {
-            return Ok(());
-        }
-        cut_lists(
-            self.alloc,
-            &mut self.lists,
-            &mut self.kept,
-            &mut self.plan_ready,
-        );
+        cut_lists(self.alloc, &mut self.lists, &mut self.kept);
         match seek(self.alloc, &mut self.session.conn, &mut self.lists, sought) {
-            Ok(()) => {
-                self.plan_ready = is_either(self.plan_ready, on_plan);
-                Ok(())
-            }
+            Ok(()) => Ok(()),
             Err(why) => Err(self.session.blame(why)),
         }
     }
@@ -279,7 +262,6 @@ impl<S: Alter + Drop> TableStore<S> {
         fitting_changes_are_accepted();
         change_is_representable(&change);
         added_rise(&change);
-        let stays = leaves_reads(&change);
         match change_both(
             &mut self.session.conn,
             &mut self.lists,
@@ -288,10 +270,7 @@ impl<S: Alter + Drop> TableStore<S> {
             change,
             &prepared.line,
         ) {
-            Ok(()) => {
-                self.plan_ready = are_both(self.plan_ready, stays);
-                Ok(())
-            }
+            Ok(()) => Ok(()),
             Err(why) => Err(self.session.blame(why)),
         }
     }
@@ -356,14 +335,14 @@ impl<S: Alter + Drop> PlanStore for TableStore<S> {
 
     fn links(&mut self) -> Result<Links, StoreFault>
         ensures kept { self.new ≡ self.old }
-        ensures answer { self.old.session.failures ≡ 0 → (result ≡ Ok self.old.lists.in_force)
+        ensures answer { self.old.session.failures ≡ 0 → (result ≡ Ok self.old.lists.in_force.items)
             ⊎ (result ≡ Err StoreFault.Memory) }
         ensures broken { 0 < self.old.session.failures → result ≡ Err StoreFault.Device }
     {
         if self.session.failures > 0 {
             return Err(StoreFault::Device);
         }
-        Ok(self.lists.in_force.clone()?)
+        Ok(self.lists.in_force.to_links(self.alloc)?)
     }
 
     fn read_window<'a>(&'a mut self, need: Need) -> Result<View<'a>, StoreFault> {

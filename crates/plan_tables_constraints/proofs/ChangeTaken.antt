@@ -34,11 +34,13 @@ use Rattle.plan_tables_schema.specs.Rows.{Tables, with_cells, without_key}
 use Rattle.plan_tables_schema.specs.Accepted.{AcceptsRow}
 use Rattle.plan_tables_schema.specs.declared.tables.Table.{Table}
 use Rattle.plan_tables_schema.specs.declared.tables.Table.TheVariants as table
-use Rattle.plan_store.specs.Changes.{Fits, after, is_among, jobs_after, redefined}
+use Rattle.plan_store.specs.Changes.{Fits, after, is_among, jobs_after, lists_after, redefined}
 use Rattle.plan_store.specs.Room.{with_definitions}
 use Rattle.plan_store.specs.declared.changes.Change.{Change}
 use Rattle.plan_store.specs.declared.changes.DefinitionChange.{DefinitionChange}
 use Rattle.plan_store.specs.declared.changes.DefinitionChange.TheVariants.{AsBefore, Merged, Removed}
+use Rattle.plan_store.specs.declared.changes.NewLists.{NewLists}
+use Rattle.plan_store.specs.declared.changes.NewLists.TheVariants as new_lists
 use Rattle.plan_store.proofs.PairLemmas.{pair_total}
 use Rattle.run_cycles.specs.declared.cycles.RunCycle.{RunCycle}
 use Rattle.app_definition_records.specs.declared.predecessors.Predecessor.{Predecessor}
@@ -50,15 +52,16 @@ use Rattle.plan_tables_content.specs.Facts.{natural, pair_values, row_key, row_v
 use Rattle.plan_tables_content.specs.Facts.{IsCalendarRow, IsCycleRow, IsOffsetRow, IsPeriodRow, IsPredecessorRow}
 use Rattle.plan_tables_content.proofs.SameOptions.{none_some}
 use Rattle.plan_tables_writing.specs.Redefining.{AreMovesOf, BringsRows, definitions_moved, kind_of, moved_by, rows_of}
-use Rattle.plan_tables_writing.specs.Accepted.{AcceptsChange, AcceptsEach, AcceptsJob, AcceptsKind, AcceptsLinks, AcceptsMeta, AcceptsNewMeta, AcceptsPairs}
+use Rattle.plan_tables_writing.specs.Accepted.{AcceptsChange, AcceptsEach, AcceptsJob, AcceptsKind, AcceptsLinks, AcceptsMeta, AcceptsNewLinks, AcceptsNewMeta, AcceptsPairs}
 use Rattle.plan_tables_writing.specs.Accepted.{AcceptsPlans, AcceptsRows}
 use Rattle.plan_tables_writing.specs.Writing.{IsRepresentableChange, beside, cp_moved, history_moved, links_moved, ltp_moved}
 use Rattle.plan_tables_writing.specs.Writing.{meta_moved, pairs_moved, rows_moved, standing, without_each}
+use Rattle.plan_tables_writing.proofs.OneListLemmas.{come_of_list}
 use Rattle.plan_tables_writing.proofs.PairLemmas.{is_among-Decides}
 use Rattle.plan_tables_writing.specs.declared.redefining.DefinitionMoves.{DefinitionMoves}
 use Rattle.plan_tables_writing.proofs.KindLemmas.{job_storable, links_storable, meta_storable, pairs_storable}
 use Rattle.plan_tables_constraints.specs.Room.{CanBeStored, HaveRoom}
-use Rattle.plan_tables_constraints.specs.Accepted.{FindKind, FindMoves, FindsRoom, FittingIsAccepted}
+use Rattle.plan_tables_constraints.specs.Accepted.{FindKind, FindMoves, FindsRoom, FittingIsAccepted, links_brought}
 use Rattle.plan_tables_constraints.proofs.ChangeLemmas.{lacked_by, link_among, link_itself, link_lacks, link_shows, meta_key}
 use Rattle.plan_tables_constraints.proofs.ChangeLemmas.{pair_itself, pair_shows, pairs_told}
 use Rattle.plan_tables_constraints.proofs.ContentAfter.{current_shows, deletion_shows, history_shows, row_shows}
@@ -189,13 +192,14 @@ module _ (old new : List Link) (rising : IsRising link_cmp new) (are : (l : Link
 
   new_links_taken : (now : Tables)
       → ((v : Values) → Shows table.LinkInForce (now table.LinkInForce) v → IsOfList link_values old v)
-      → HaveRoom (length new) (now table.LinkInForce) → AcceptsLinks old (Some new) now
-  new_links_taken now held room = each_taken table.LinkInForce link_values IsNew HaveOtherNames
+      → (count : ℕ) → length (beside old new) ≤ count → HaveRoom count (now table.LinkInForce)
+      → AcceptsNewLinks old new now
+  new_links_taken now held count few room = each_taken table.LinkInForce link_values IsNew HaveOtherNames
       (λ xs at. RoomFor xs (at table.LinkInForce)) (λ l so. link_shows l) one_link (λ x xs at so. less_link x xs at) (beside old new) left links_apart
       (λ x has. (contains_filter (lacked_by old) new x has).0) (
-        length new,
-        filter_short (lacked_by old) new,
-        room_without (length new) table.LinkInForce link_key (beside new old) now room,
+        count,
+        few,
+        room_without count table.LinkInForce link_key (beside new old) now room,
       ) beside_these
     where
       left : Tables
@@ -220,12 +224,21 @@ module _ (old new : List Link) (rising : IsRising link_cmp new) (are : (l : Link
                 (subst (Contains old) (named_once new rising l x stays comes.0 same) has),
           )
 
-links_taken : (old : List Link) (new : Option (List Link)) → IfSome new (IsRising link_cmp)
-    → IfSome new (λ (links : List Link). (l : Link) → Contains links l → IsLink l) → (now : Tables)
-    → ((v : Values) → Shows table.LinkInForce (now table.LinkInForce) v → IsOfList link_values old v)
-    → IfSome new (λ (links : List Link). HaveRoom (length links) (now table.LinkInForce)) → AcceptsLinks old new now
-links_taken old None rising are now held room = tt
-links_taken old (Some new) rising are now held room = new_links_taken old new rising are now held room
+-- no more links come than the new lists bring
+few_come : (old : List Link) (new : NewLists) → IsRising link_cmp old
+    → length (beside old (lists_after (Some new) old)) ≤ length (links_brought new)
+few_come old (new_lists.All lists) rising = filter_short (lacked_by old) lists.items
+few_come old (new_lists.One list) rising =
+    omega (arith, ap length (come_of_list old list rising), filter_short (lacked_by old) list.links.items)
+
+links_taken : (old : List Link) (new : Option NewLists) → IsRising link_cmp old
+    → IsRising link_cmp (lists_after new old) → ((l : Link) → Contains (lists_after new old) l → IsLink l)
+    → (now : Tables) → ((v : Values) → Shows table.LinkInForce (now table.LinkInForce) v → IsOfList link_values old v)
+    → IfSome new (λ (lists : NewLists). HaveRoom (length (links_brought lists)) (now table.LinkInForce))
+    → AcceptsLinks old new now
+links_taken old None was rising are now held room = tt
+links_taken old (Some new) was rising are now held room = new_links_taken old (lists_after (Some new) old) rising are now
+    held (length (links_brought new)) (few_come old new was) room
 
 -- ---- how far the plans reach, and a job
 
@@ -314,12 +327,6 @@ module _ (c : Content) (change : Change) (all : Tables) (is : IsContentOf all c)
         (λ x now so beside. deletion_one (after change c) sound now x so beside),
   )
 
-  ranges : (o : Option (List Link)) → change.in_force ≡ o
-      → IfSome o (λ (links : List Link). (l : Link) → Contains links l → IsLink l)
-  ranges None e = tt
-  ranges (Some links) e = λ l has. sound.ranges.links l
-      (subst (λ p. Contains (unwrap_or p c.in_force) l) (sym e) has)
-
   new_job : (o : Option Job) → change.job ≡ o
       → IfSome o (λ (job : Job). (c.jobs job.number ≡ None) × (job.number < 2 ^ 63))
   new_job None e = tt
@@ -341,10 +348,11 @@ module _ (c : Content) (change : Change) (all : Tables) (is : IsContentOf all c)
       rows_taken,
       pairs_taken change.pairs c.pairs rows (λ v. (held table.Dependency rows at_pairs v).0) rising
           (subst (HaveRoom (length change.pairs.added)) (sym at_pairs) room.pairs),
-      links_taken c.in_force change.in_force told.links (ranges change.in_force refl) paired
+      links_taken c.in_force change.in_force is.representable.in_force
+          (told.links c.in_force is.representable.in_force) sound.ranges.links paired
           (λ v. (held table.LinkInForce paired at_links v).0)
-          (subst (λ r. IfSome change.in_force (λ (links : List Link). HaveRoom (length links) r)) (sym at_links)
-          room.links),
+          (subst (λ r. IfSome change.in_force (λ (lists : NewLists). HaveRoom (length (links_brought lists)) r))
+          (sym at_links) room.links),
       new_meta_taken change c.sets.bounds c.sets.issued c.definitions.options named linked
           (meta_values c.sets.bounds c.sets.issued c.definitions.options)
           (meta_key c.sets.bounds c.sets.issued c.definitions.options)
@@ -489,7 +497,7 @@ module _ (all : Tables) (c : Content) (change : Change) (is : IsContentOf all c)
           rows = λ none moved. tt;
           pairs = subst (HaveRoom (length change.pairs.added))
               (sym (other table.Dependency refl refl refl refl refl refl refl)) room.pairs;
-          links = subst (λ r. IfSome change.in_force (λ (links : List Link). HaveRoom (length links) r))
+          links = subst (λ r. IfSome change.in_force (λ (lists : NewLists). HaveRoom (length (links_brought lists)) r))
               (sym (other table.LinkInForce refl refl refl refl refl refl refl)) room.links;
           job = room.job;
         }),

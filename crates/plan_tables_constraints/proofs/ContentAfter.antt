@@ -11,8 +11,6 @@ use Rattle.occurrences.specs.declared.place.Deletion.{Deletion}
 use Rattle.occurrences.specs.declared.row.Row.{Row}
 use Rattle.app_definitions.specs.declared.definitions.Definitions.{Definitions}
 use Rattle.app_definitions.specs.declared.options.Options.{Options}
-use Rattle.external_dependencies.specs.Link.{link_cmp}
-use Rattle.external_dependencies.specs.Rising.{IsRising}
 use Rattle.external_dependencies.specs.declared.change.PairChange.{PairChange}
 use Rattle.external_dependencies.specs.declared.links.Link.{Link}
 use Rattle.external_dependencies.specs.declared.pairs.Pair.{Pair}
@@ -25,9 +23,10 @@ use Rattle.plan_tables_schema.specs.Rows.{Tables, matches, placed, shown, stored
 use Rattle.plan_tables_schema.specs.Schema.{place}
 use Rattle.plan_tables_schema.specs.declared.tables.Table.{Table}
 use Rattle.plan_tables_schema.specs.declared.tables.Table.TheVariants as table
-use Rattle.plan_store.specs.Changes.{after, Fits, jobs_after, redefined}
+use Rattle.plan_store.specs.Changes.{after, Fits, jobs_after, lists_after, redefined}
 use Rattle.plan_store.specs.declared.changes.Change.{Change}
 use Rattle.plan_store.specs.declared.changes.DefinitionChange.TheVariants.{AsBefore}
+use Rattle.plan_store.specs.declared.changes.NewLists.{NewLists}
 use Rattle.plan_store.proofs.PairLemmas.{pairs_after_rising}
 use Rattle.plan_tables_content.specs.Facts.{current_key, current_values, deletion_key, deletion_values, link_key, link_values, natural}
 use Rattle.plan_tables_content.specs.Facts.{pair_values, row_key, row_values}
@@ -104,11 +103,12 @@ meta_other u apart change bounds issued options all = go (is_some change.bounds 
     go true = told_other u apart (or_else change.bounds bounds) (unwrap_or change.issued issued) options all
     go false = refl
 
-pub links_other : (u : Table) → IsApart u table.LinkInForce → (old : List Link) (new : Option (List Link)) (all : Tables)
+pub links_other : (u : Table) → IsApart u table.LinkInForce → (old : List Link) (new : Option NewLists) (all : Tables)
     → links_moved old new all u ≡ all u
 links_other u apart old None all = refl
-links_other u apart old (Some new) all = with_other table.LinkInForce link_values u apart (beside old new) _
-    ∙ without_other table.LinkInForce link_key u apart (beside new old) all
+links_other u apart old (Some new) all =
+    with_other table.LinkInForce link_values u apart (beside old (lists_after (Some new) old)) _
+    ∙ without_other table.LinkInForce link_key u apart (beside (lists_after (Some new) old) old) all
 
 pub pairs_other : (u : Table) → IsApart u table.Dependency → (pairs : List Pair) (change : PairChange) (all : Tables)
     → pairs_moved pairs change all u ≡ all u
@@ -248,12 +248,13 @@ module _ (c : Content) (change : Change) (all : Tables) where
     link_rows = pairs_other table.LinkInForce refl c.pairs change.pairs (rows_moved change all)
         ∙ rows_other table.LinkInForce refl refl refl refl change all
 
-    link_facts_by : (new : Option (List Link)) (v : Values)
+    link_facts_by : (new : Option NewLists) (v : Values)
         → Shows table.LinkInForce (links_moved c.in_force new (pairs_moved c.pairs change.pairs
         (rows_moved change all)) table.LinkInForce) v
-        ↔ IsOfList link_values (unwrap_or new c.in_force) v
+        ↔ IsOfList link_values (lists_after new c.in_force) v
     link_facts_by None v = still table.LinkInForce (pairs_moved c.pairs change.pairs (rows_moved change all)) link_rows v
-    link_facts_by (Some new) v = links_shown c.in_force new is.representable.in_force (pairs_moved c.pairs change.pairs (rows_moved change all))
+    link_facts_by (Some new) v = links_shown c.in_force (lists_after (Some new) c.in_force)
+        is.representable.in_force (pairs_moved c.pairs change.pairs (rows_moved change all))
         (still table.LinkInForce (pairs_moved c.pairs change.pairs (rows_moved change all)) link_rows) v
 
     link_facts : (v : Values) → ShowsAs table.LinkInForce (plans_written c change all table.LinkInForce) v
@@ -346,11 +347,6 @@ module _ (c : Content) (change : Change) (all : Tables) where
     all_facts t v = kept t v (whole t refl refl refl refl refl refl
         refl refl) refl
 
-    links_rise : (new : Option (List Link)) → IfSome new (IsRising link_cmp)
-        → IsRising link_cmp (unwrap_or new c.in_force)
-    links_rise None rise = is.representable.in_force
-    links_rise (Some new) rise = rise
-
     jobs_own : (job : Option Job) → IsUnderOwn (λ (j : Job). j.number) (jobs_after job c.jobs)
     jobs_own None n j e = is.representable.jobs n j e
     jobs_own (Some job) n j e = go (nat_eq job.number n) refl e
@@ -380,7 +376,7 @@ module _ (c : Content) (change : Change) (all : Tables) where
       cp = moved_own of_current change.cp c.sets.cp fits.cp is.representable.cp;
       history = moved_own of_row change.history c.sets.history fits.history is.representable.history;
       deletions = moved_own of_deletion change.deletions c.sets.deletions fits.deletions is.representable.deletions;
-      in_force = links_rise change.in_force told.links;
+      in_force = told.links c.in_force is.representable.in_force;
       pairs = pairs_after_rising change.pairs c.pairs is.representable.pairs;
       jobs = jobs_own change.job;
       answers = answers_small change.job told.job;

@@ -12,6 +12,8 @@ use Rattle.plan_store.specs.Room.{with_definitions}
 use Rattle.plan_store.specs.declared.changes.Change.{Change}
 use Rattle.plan_store.specs.declared.changes.DefinitionChange.{DefinitionChange}
 use Rattle.plan_store.specs.declared.changes.DefinitionChange.TheVariants.{Merged}
+use Rattle.plan_store.specs.declared.changes.NewLists.{NewLists}
+use Rattle.plan_store.specs.declared.changes.NewLists.TheVariants as new_lists
 use Rattle.plan_tables_schema.specs.Rows.{Tables}
 use Rattle.plan_tables_schema.specs.declared.tables.Table.TheVariants as table
 use Rattle.plan_tables_content.specs.Content.{IsContentOf}
@@ -41,11 +43,16 @@ abbrev pub FindMoves : DefinitionChange → DefinitionMoves → Tables → Type 
 FindMoves (Merged b) moves all = FindKind (kind_of b) moves all
 FindMoves _ moves all = ⊤
 
+-- the links that new lists bring
+abbrev pub links_brought : NewLists → List Link
+links_brought (new_lists.All lists) = lists.items
+links_brought (new_lists.One list) = list.links.items
+
 -- there is room for what a change puts into tables that number their rows, and its job can be stored
 pub record FindsRoom (change : Change) (all : Tables) : Type 0 where
   pub rows : (moves : DefinitionMoves) → AreMovesOf change.definitions moves → FindMoves change.definitions moves all
   pub pairs : HaveRoom (length change.pairs.added) (all table.Dependency)
-  pub links : IfSome change.in_force (λ (links : List Link). HaveRoom (length links) (all table.LinkInForce))
+  pub links : IfSome change.in_force (λ (lists : NewLists). HaveRoom (length (links_brought lists)) (all table.LinkInForce))
   pub job : IfSome change.job CanBeStored
 
 -- the tables of a content accept a change that fits it, leaves it sound and has room

@@ -15,9 +15,9 @@ ghost use Rattle.plan_tables_loading.specs.Order.{NumbersRise, job_number};
 use crate::jobs::answers_are_small;
 use crate::lists::{PlanLists, PlanRows};
 use app_definitions::Definitions;
-use external_dependencies::{Links, Pair, Pairs};
+use external_dependencies::{Pair, Pairs};
 use plan_store::{Change, Content};
-use plan_store_lists::PairBlocks;
+use plan_store_lists::{LinkBlocks, PairBlocks};
 use planner_machine::{Bounds, Job};
 use std::alloc::{AllocError, Global};
 
@@ -62,12 +62,12 @@ fn put_bounds(content: &mut Content, bounds: Option<Bounds>, issued: u32)
     content.issued = issued;
 }
 
-fn put_links(content: &mut Content, links: Links)
-    ensures kept { content_of content.new ≡ with_links links (content_of content.old) }
-    ensures rising { IsRising link_cmp links }
+fn put_links(content: &mut Content, lists: LinkBlocks)
+    ensures kept { content_of content.new ≡ with_links lists.items (content_of content.old) }
+    ensures rising { IsRising link_cmp lists.items }
 {
-    let _rising = links.as_slice();
-    content.set_in_force(links);
+    lists.rise();
+    content.set_in_force(lists);
 }
 
 // The pairs in blocks.
@@ -123,9 +123,10 @@ pub fn content_of_lists(
     } = lists;
     let mut content = content_of_rows(alloc, rows)?;
     let pairs = blocks_of(alloc, pairs)?;
+    let in_force = LinkBlocks::from_links(alloc, &links)?;
     put_definitions(&mut content, definitions);
     put_bounds(&mut content, meta.bounds, meta.issued);
-    put_links(&mut content, links);
+    put_links(&mut content, in_force);
     put_pairs(&mut content, pairs);
     put_jobs(&mut content, jobs);
     Ok(content)

@@ -29,8 +29,8 @@ asks_back : (n : Need) (rest : Rest) (was now : Content) → HasMore rest was no
 asks_back need.Definitions rest was now more app minute asked = asked
 asks_back (need.Key key) rest was now more app minute asked =
     subst (λ (c : Content). Asks (need.Key key) c app minute) more.same asked
-asks_back need.LongTerm rest was now more app minute asked =
-    subst (λ (c : Content). Asks need.LongTerm c app minute) more.same asked
+asks_back (need.LongTerm only) rest was now more app minute asked =
+    subst (λ (c : Content). Asks (need.LongTerm only) c app minute) more.same asked
 asks_back (need.Daily t) rest was now more app minute asked = asked
 
 pub answered_still : (ask : LastQuery) (rest : Rest) (a b : Content) → IsPartOf rest b → HasMore rest a b

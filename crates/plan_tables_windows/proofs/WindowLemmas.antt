@@ -262,8 +262,9 @@ module _ (view : View) (rest : Rest) (c : Content) (sizes : TellsSizes c.sets vi
       sizes = λ _. sizes_of_whole;
     }
 
-  module _ (ready : IsReadyFor rest need.LongTerm c) (shows : Shows need.LongTerm view c) where
-    plan_is : shown view ≡ named need.LongTerm (shown view).sets.history (with_rest rest c)
+  module _ (only : Option (List ℕ)) (ready : IsReadyFor rest (need.LongTerm only) c)
+      (shows : Shows (need.LongTerm only) view c) where
+    plan_is : shown view ≡ named (need.LongTerm only) (shown view).sets.history (with_rest rest c)
     plan_is = shows.is ∙ (λ i. with_these (record {
       history = (shown view).sets.history;
       deletions = λ serial. barring_same (bars c.sets.bounds) (c.sets.deletions serial) (rest.deletions serial)
@@ -276,10 +277,10 @@ module _ (view : View) (rest : Rest) (c : Content) (sizes : TellsSizes c.sets vi
     plan_known pair there = asked_known rest c part None (λ serial row stands no. absurd (false≢true no)) pair
         (subst (λ (x : Content). Contains x.pairs pair) shows.is there)
 
-    plan_of_whole : Shows need.LongTerm view (with_rest rest c)
+    plan_of_whole : Shows (need.LongTerm only) view (with_rest rest c)
     plan_of_whole = record {
       is = plan_is;
-      lasts = lasts_of_whole rest.history c.sets.history part.history (ReadsPlan c) (shown view).sets.history ready
+      lasts = lasts_of_whole rest.history c.sets.history part.history (ReadsPlan only c) (shown view).sets.history ready
           shows.lasts;
       predecessors = λ pair there. shows.predecessors pair there ∙ plan_known pair there;
       live = λ _ _ serial row _ same. no_some row.key same;
@@ -294,6 +295,6 @@ window_of_part need.Definitions view rest c shows sizes part ready sound =
     definitions_of_whole view rest c sizes (part_is rest c part) shows
 window_of_part (need.Key key) view rest c shows sizes part ready sound =
     key_of_whole view rest c sizes (part_is rest c part) key ready (own_sound (with_rest rest c) sound) shows
-window_of_part need.LongTerm view rest c shows sizes part ready sound =
-    plan_of_whole view rest c sizes (part_is rest c part) ready shows
+window_of_part (need.LongTerm only) view rest c shows sizes part ready sound =
+    plan_of_whole view rest c sizes (part_is rest c part) only ready shows
 window_of_part (need.Daily t) view rest c shows sizes part ready sound = daily_of_whole view rest c sizes (part_is rest c part) t shows

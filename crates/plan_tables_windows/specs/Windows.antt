@@ -23,5 +23,5 @@ KnowsLive rest key c = (serial : ℕ) (row : Row) → rest.history serial ≡ So
 abbrev pub IsReadyFor : Rest → Need → Content → Type 0
 IsReadyFor rest need.Definitions c = Unit {0}
 IsReadyFor rest (need.Key key) c = HasLastsOf (ReadsKey c key) rest c × KnowsLive rest key c
-IsReadyFor rest need.LongTerm c = HasLastsOf (ReadsPlan c) rest c
+IsReadyFor rest (need.LongTerm only) c = HasLastsOf (ReadsPlan only c) rest c
 IsReadyFor rest (need.Daily t) c = Unit {0}

@@ -33,7 +33,7 @@ pub fn load_for_need<S: Alter>(
     match need {
         Need::Definitions => Ok(()),
         Need::Key(key) => load_for_key(alloc, conn, lists, key),
-        Need::LongTerm => load_for_plan(alloc, conn, lists),
+        Need::LongTerm(_) => find_asked(alloc, conn, lists, need),
         Need::Daily(_) => Ok(()),
     }
 }
@@ -66,18 +66,6 @@ fn find_live<S: Alter>(
 {
     let serials = unknown_for_key(alloc, lists, key)?;
     find_each_completed(alloc, conn, lists, &serials)
-}
-
-// What a statement on the long-term plan reads.
-fn load_for_plan<S: Alter>(
-    alloc: Global,
-    conn: &mut Connection<S>,
-    lists: &mut Content,
-) -> Result<(), TableFault>
-    ensures { Fetches S.Store conn.old conn.new (content_of lists.old) (content_of lists.new)
-        result (λ rest now. IsReadyFor rest Need.LongTerm now) }
-{
-    find_asked(alloc, conn, lists, &Need::LongTerm)
 }
 
 /// Loads into the lists what the change names of history and of the deletions.

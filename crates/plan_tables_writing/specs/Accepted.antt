@@ -15,8 +15,10 @@ use Rattle.planner_machine.specs.Content.{Content}
 use Rattle.planner_machine.specs.Moves.{or_else}
 use Rattle.planner_machine.specs.declared.content.Bounds.{Bounds}
 use Rattle.planner_machine.specs.declared.job.Job.{Job}
+use Rattle.plan_store.specs.Changes.{lists_after}
 use Rattle.plan_store.specs.declared.changes.Change.{Change}
 use Rattle.plan_store.specs.declared.changes.Moves.{Moves}
+use Rattle.plan_store.specs.declared.changes.NewLists.{NewLists}
 use Rattle.plan_tables_content.specs.Content.{job_values, meta_values}
 use Rattle.plan_tables_content.specs.Facts.{current_key, current_values, deletion_key, deletion_values, link_key, link_values}
 use Rattle.plan_tables_content.specs.Facts.{natural, pair_values, row_key, row_values}
@@ -61,10 +63,14 @@ AcceptsPairs pairs change all = AcceptsEach table.Dependency pair_values change.
     (without_each table.Dependency pair_values (standing pairs change.added)
     (without_each table.Dependency pair_values change.removed all))
 
-abbrev pub AcceptsLinks : List Link → Option (List Link) → Tables → Type 0
-AcceptsLinks old None all = ⊤
-AcceptsLinks old (Some new) all = AcceptsEach table.LinkInForce link_values (beside old new)
+-- the links that are new, after those that are no longer there went
+abbrev pub AcceptsNewLinks : List Link → List Link → Tables → Type 0
+AcceptsNewLinks old new all = AcceptsEach table.LinkInForce link_values (beside old new)
     (without_each table.LinkInForce link_key (beside new old) all)
+
+abbrev pub AcceptsLinks : List Link → Option NewLists → Tables → Type 0
+AcceptsLinks old None all = ⊤
+AcceptsLinks old (Some new) all = AcceptsNewLinks old (lists_after (Some new) old) all
 
 abbrev pub AcceptsMeta : Option Bounds → ℕ → Options → Tables → Type 0
 AcceptsMeta bounds issued options all =

@@ -20,9 +20,10 @@ use Rattle.external_dependencies.specs.declared.links.Link.{Link}
 use Rattle.external_dependencies.specs.declared.pairs.Pair.{Pair}
 use Rattle.planner_machine.specs.declared.content.Bounds.{Bounds}
 use Rattle.planner_machine.specs.declared.job.Job.{Job}
-use Rattle.plan_store.specs.Changes.{is_among}
+use Rattle.plan_store.specs.Changes.{is_among, lists_after}
 use Rattle.plan_store.specs.declared.changes.Change.{Change}
 use Rattle.plan_store.specs.declared.changes.Moves.{Moves}
+use Rattle.plan_store.specs.declared.changes.NewLists.{NewLists}
 use Rattle.plan_tables_content.specs.Facts.{current_key, current_values, deletion_key, deletion_values, link_values, natural}
 use Rattle.plan_tables_content.specs.Facts.{link_key, pair_values, row_key, row_values}
 use Rattle.plan_tables_content.specs.Content.{job_values, meta_values, IsSmall}
@@ -102,9 +103,9 @@ links_replaced old new all =
     with_each table.LinkInForce link_values (beside old new)
     (without_each table.LinkInForce link_key (beside new old) all)
 
-abbrev pub links_moved : List Link → Option (List Link) → Tables → Tables
+abbrev pub links_moved : List Link → Option NewLists → Tables → Tables
 links_moved old None all = all
-links_moved old (Some new) all = links_replaced old new all
+links_moved old (Some new) all = links_replaced old (lists_after (Some new) old) all
 
 abbrev pub job_put : Job → Tables → Tables
 job_put job all = with_cells table.Job (job_values job) all
@@ -150,7 +151,7 @@ pub record HoldsWritten (old : State) (rows : Tables) (db : Trees) : Type 0 wher
   pub rowids : (t : Table) → HaveRowids (tables_of db t)
   pub obeys : IsTrue old.is_open → IsDatabase (record { schema = old.now.schema; trees = db })
 
--- the lists that come into force are in their order, and the reply of the job can be encoded
+-- lists that are in their order stay so, and the reply of the job can be encoded
 pub record IsRepresentableChange (change : Change) : Type 0 where
-  pub links : IfSome change.in_force (IsRising link_cmp)
+  pub links : (old : List Link) → IsRising link_cmp old → IsRising link_cmp (lists_after change.in_force old)
   pub job : IfSome change.job (λ (job : Job). IsSmall job.reply)

@@ -2,9 +2,12 @@
 
 ghost use Rattle.std.specs.Prelude.{◌≡◌, IfOk, Some, ⊤};
 ghost use Rattle.plan_tables_writing.specs.Accepted.{AreKeysOf, AcceptsLinks, AcceptsMoves, AcceptsPairs};
-ghost use Rattle.plan_tables_writing.specs.Accepted.{AcceptsRows, WritesAccepted};
+ghost use Rattle.plan_tables_writing.specs.Accepted.{AcceptsNewLinks, AcceptsRows, WritesAccepted};
 ghost use Rattle.plan_tables_writing.specs.Writing.{AreStorable, StandAlone, moved_in, rows_moved, pairs_moved};
+ghost use Rattle.external_dependencies.specs.Link.{link_cmp};
+ghost use Rattle.external_dependencies.specs.Rising.{IsRising};
 ghost use Rattle.plan_store_lists.specs.Blocks.{items_of};
+ghost use Rattle.plan_store_lists.specs.LinkBlocks.{with_list};
 ghost use Rattle.plan_store_lists.specs.PairBlocks.{ArePairBlocks};
 ghost use Rattle.plan_store.specs.Changes.{is_among};
 ghost use Rattle.plan_tables_writing.specs.Writing.{beside, holds_link, links_moved, links_replaced, standing};
@@ -12,9 +15,9 @@ ghost use Rattle.plan_tables_writing.specs.Writing.{beside, holds_link, links_mo
 use crate::loops::{delete_each, put_each};
 use crate::many::{ManyFact, put_many};
 use crate::steps::{DeleteEach, PutEach, Step};
-use external_dependencies::{Link, Links, Pair, PairChange};
-use plan_store::{Change, Moves};
-use plan_store_lists::{Blocks, has_item};
+use external_dependencies::{Link, Pair, PairChange};
+use plan_store::{Change, Moves, NewLists};
+use plan_store_lists::{AppList, Blocks, LinkBlocks, has_item};
 use plan_tables_schema::Table;
 use sqlite::{Alter, Error, Transaction};
 use std::alloc::{AllocError, Global};
@@ -109,33 +112,39 @@ pub(crate) fn write_pairs<S: Alter>(
 }
 
 // Whether the link is one of these, with the same limit.
-fn has_link(links: &Links, link: &Link) -> bool
+fn has_link(links: &[Link], link: &Link) -> bool
+    requires { IsRising link_cmp links.now }
     ensures { result ≡ holds_link links.now link.now }
 {
-    links.contains(link)
+    match links.binary_search(link) {
+        Ok(place) => links[place].within == link.within,
+        Err(_) => false,
+    }
 }
 
 // Those of the links that the others lack; a link with another limit is another.
-fn links_beside(alloc: Global, others: &Links, links: &Links) -> Result<Vec<Link>, AllocError>
+fn links_beside(alloc: Global, others: &[Link], links: &[Link]) -> Result<Vec<Link>, AllocError>
+    requires { IsRising link_cmp others.now }
     ensures { IfOk result (λ found. found.items ≡ beside others.now links.now) }
 {
     links
-        .as_slice()
         .iter()
         .copied()
         .filter(|link| !has_link(others, link))
         .collect(alloc)
 }
 
-// Replaces the lists in force: deletes the links that are no longer there, and inserts the new ones. A link whose
-// limit changed is deleted before it is inserted, because the table has at most one row of its names.
+// Replaces links in force: deletes those that are no longer there, and inserts the new ones. A link whose limit changed
+// is deleted before it is inserted, because the table has at most one row of its names.
 fn replace_links<S: Alter>(
     tx: &mut Transaction<'_, S>,
     alloc: Global,
-    old: &Links,
-    new: &Links,
+    old: &[Link],
+    new: &[Link],
 ) -> Result<(), Error>
-    ensures { WritesAccepted (λ _. ⊤) (AcceptsLinks old.now (Some new.now)) S.Store tx.old tx.new result
+    requires old { IsRising link_cmp old.now }
+    requires new { IsRising link_cmp new.now }
+    ensures { WritesAccepted (λ _. ⊤) (AcceptsNewLinks old.now new.now) S.Store tx.old tx.new result
         (links_replaced old.now new.now) }
 {
     let gone = links_beside(alloc, new, old)?;
@@ -144,18 +153,71 @@ fn replace_links<S: Alter>(
     put_each(tx, Table::LinkInForce, &come)
 }
 
-/// Puts new lists in force in place of the old ones, if there are any.
+// Replaces all lists in force.
+fn replace_lists<S: Alter>(
+    tx: &mut Transaction<'_, S>,
+    alloc: Global,
+    old: &LinkBlocks,
+    new: &LinkBlocks,
+) -> Result<(), Error>
+    ensures { WritesAccepted (λ _. ⊤) (AcceptsNewLinks old.now.items new.now.items) S.Store
+        tx.old tx.new result
+        (links_replaced old.now.items new.now.items) }
+{
+    let before = old.to_links(alloc)?;
+    let after = new.to_links(alloc)?;
+    replace_links(tx, alloc, before.as_slice(), after.as_slice())
+}
+
+// Replaces the list of one application. The others are not looked at.
+fn replace_list<S: Alter>(
+    tx: &mut Transaction<'_, S>,
+    alloc: Global,
+    old: &LinkBlocks,
+    list: &AppList,
+) -> Result<(), Error>
+    ensures { WritesAccepted (λ _. ⊤)
+        (AcceptsNewLinks old.now.items
+        (with_list list.now.app list.now.links.items old.now.items))
+        S.Store tx.old tx.new result
+        (links_replaced old.now.items
+        (with_list list.now.app list.now.links.items old.now.items)) }
+{
+    old.rise();
+    replace_links(tx, alloc, old.list(&list.app), list.links.as_slice())
+}
+
+// Puts new lists in force.
+fn put_lists<S: Alter>(
+    tx: &mut Transaction<'_, S>,
+    alloc: Global,
+    old: &LinkBlocks,
+    new: &NewLists,
+) -> Result<(), Error>
+    ensures { WritesAccepted (λ _. ⊤) (AcceptsLinks old.now.items (Some new.now)) S.Store
+        tx.old tx.new result
+        (links_moved old.now.items (Some new.now)) }
+{
+    match new {
+        NewLists::All(lists) => replace_lists(tx, alloc, old, lists),
+        NewLists::One(list) => replace_list(tx, alloc, old, list),
+    }
+}
+
+/// Puts new lists in force in place of the old ones, if there are any. Where one list changes, only that list is
+/// compared.
 pub(crate) fn write_links<S: Alter>(
     tx: &mut Transaction<'_, S>,
     alloc: Global,
-    old: &Links,
-    new: &Option<Links>,
+    old: &LinkBlocks,
+    new: &Option<NewLists>,
 ) -> Result<(), Error>
-    ensures { WritesAccepted (λ _. ⊤) (AcceptsLinks old.now new.now) S.Store tx.old tx.new result
-        (links_moved old.now new.now) }
+    ensures { WritesAccepted (λ _. ⊤) (AcceptsLinks old.now.items new.now) S.Store
+        tx.old tx.new result
+        (links_moved old.now.items new.now) }
 {
     match new {
         None => Ok(()),
-        Some(new) => replace_links(tx, alloc, old, new),
+        Some(new) => put_lists(tx, alloc, old, new),
     }
 }

@@ -16,7 +16,7 @@ use Rattle.planner_machine.specs.Statement.{Undefine, decision_of}
 use Rattle.planner_machine.specs.declared.job.Job.{Job}
 use Rattle.plan_store_lists.specs.Rows.{HasEachOnce, of_current, of_deletion, of_row}
 use Rattle.plan_store.specs.Changes.{ChangesNothing, Fits, FitsSet, LeadsOn, MovesNothing, after, jobs_after}
-use Rattle.plan_store.specs.Changes.{moved_set, pairs_after, redefined}
+use Rattle.plan_store.specs.Changes.{lists_after, moved_set, pairs_after, redefined}
 use Rattle.plan_store.proofs.PairLemmas.{leads_nowhere}
 use Rattle.plan_store.specs.declared.changes.Change.{Change}
 use Rattle.plan_store.specs.declared.changes.DefinitionChange.{DefinitionChange}
@@ -100,7 +100,7 @@ redefined_so change d r c = λ i. record {
     history = λ serial. (unmoved of_row change.history r.history c.sets.history serial) i;
     deletions = λ serial. (unmoved of_deletion change.deletions r.deletions c.sets.deletions serial) i;
   };
-  in_force = unwrap_or (r.in_force i) c.in_force;
+  in_force = lists_after (r.in_force i) c.in_force;
   pairs = (no_pairs_move change.pairs r.removed r.added c.pairs) i;
   jobs = λ number. (ap (λ o. jobs_after o c.jobs number) r.job) i;
 }

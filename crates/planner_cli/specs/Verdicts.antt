@@ -15,6 +15,7 @@ use Rattle.planner_cli_stream.specs.declared.statements.ChangeStatement.TheVaria
 use Rattle.planner_cli_stream.specs.declared.statements.DailyFunction.{DailyFunction}
 use Rattle.planner_cli_stream.specs.declared.statements.DailyFunction.TheVariants as daily
 use Rattle.planner_cli_stream.specs.declared.statements.PlanFunction.{PlanFunction}
+use Rattle.planner_cli_stream.specs.declared.statements.PlanFunction.TheVariants as plan
 use Rattle.daily_planning.specs.DailyPlans.{IsEndBy, daily_need, plan_end_of}
 use Rattle.planner_cli.specs.Changes.{change_of}
 use Rattle.planner_cli.specs.Kinds.{count_of}
@@ -93,10 +94,18 @@ abbrev pub IsEndOf : Content → Option DailyFunction → Option ℕ → Type 0
 IsEndOf c (Some function) end = IsEnd c function end
 IsEndOf c None end = Unit {0}
 
+-- what the decision on a change of the long-term plan by what the definitions name has to see: of one application, if it
+-- is a change for one
+abbrev pub need_of_plan : PlanFunction → Need
+need_of_plan (plan.Create from to) = need.LongTerm None
+need_of_plan (plan.Extend to) = need.LongTerm None
+need_of_plan plan.ModifyAll = need.LongTerm None
+need_of_plan (plan.ModifyOne app) = need.LongTerm (Some app)
+
 -- what the decision on a change has to see, where a daily plan has that end
 abbrev pub need_of_change : Option ℕ → ChangeStatement → Need
 need_of_change end (statement.Undefine kind name) = need.Definitions
-need_of_change end (statement.Plan function) = need.LongTerm
+need_of_change end (statement.Plan function) = need_of_plan function
 need_of_change end (statement.Daily function) = daily_need end
 need_of_change end (statement.OnKey key act) = need.Key key
 

@@ -5,11 +5,12 @@ ghost use Rattle.planner_machine.specs.Sound.{IsSound};
 ghost use Rattle.planner_machine.specs.Statement.{decision_of};
 ghost use Rattle.plan_store.specs.Verdicts.{VerdictIs};
 ghost use Rattle.plan_store.specs.Views.{Shows};
-ghost use Rattle.plan_store.specs.declared.stores.Need.TheVariants.{Definitions, LongTerm};
+ghost use Rattle.plan_store.specs.declared.stores.Need.TheVariants.{Definitions};
 ghost use Rattle.long_term_plan.specs.Early.{IsRefusedEarly};
 ghost use Rattle.daily_planning.specs.DailyPlans.{daily_need};
 ghost use Rattle.planner_cli.specs.Changes.{change_of, daily_change, key_change, plan_change};
-ghost use Rattle.planner_cli.specs.Verdicts.{IsEnd, IsEndOf, daily_in, daily_of, job_change, need_of, need_of_change};
+ghost use Rattle.planner_cli.specs.Verdicts.{IsEnd, IsEndOf, daily_in, daily_of, job_change};
+ghost use Rattle.planner_cli.specs.Verdicts.{need_of, need_of_change, need_of_plan};
 ghost use Rattle.planner_cli.specs.Verdicts.{plan_in, plan_of};
 
 use crate::define::{define, undefine};
@@ -90,9 +91,21 @@ fn need_of_change(end: Option<Moment>, change: &ChangeStatement) -> Need
 {
     match change {
         ChangeStatement::Undefine { .. } => Need::Definitions,
-        ChangeStatement::Plan(_) => Need::LongTerm,
+        ChangeStatement::Plan(function) => need_of_plan(function),
         ChangeStatement::Daily(_) => daily_planning::daily_need(end),
         ChangeStatement::OnKey { key, .. } => Need::Key(*key),
+    }
+}
+
+/// What the decision on a change of the long-term plan by what the definitions name has to see.
+pub(crate) fn need_of_plan(function: &PlanFunction) -> Need
+    ensures { result ≡ need_of_plan function.now }
+{
+    match function {
+        PlanFunction::Create { .. } | PlanFunction::Extend { .. } | PlanFunction::ModifyAll => {
+            Need::LongTerm(None)
+        }
+        PlanFunction::ModifyOne { app } => Need::LongTerm(Some(*app)),
     }
 }
 
@@ -158,8 +171,8 @@ pub(crate) fn decide_plan(
     view: &View<'_>,
     function: &PlanFunction,
 ) -> Result<Verdict, AllocError>
-    ensures { IfOk result (λ verdict. (c : Content) → Shows LongTerm view.now c → IsSound c
-        → VerdictIs (decision_of (plan_change function.now)) c verdict) }
+    ensures { IfOk result (λ verdict. (c : Content) → Shows (need_of_plan function.now) view.now c
+        → IsSound c → VerdictIs (decision_of (plan_change function.now)) c verdict) }
 {
     match function {
         PlanFunction::Create { from, to } => long_term_plan::create(alloc, view, *from, *to),

@@ -9,7 +9,6 @@ ghost use Rattle.plan_listings.specs.Report.{IsReport};
 ghost use Rattle.plan_store_lists.specs.Rows.{of_current};
 ghost use Rattle.plan_store.specs.Verdicts.{VerdictIs};
 ghost use Rattle.plan_store.specs.Views.{IsAny, ListsSet, Shows};
-ghost use Rattle.plan_store.specs.declared.stores.Need.TheVariants.{LongTerm};
 ghost use Rattle.planner_cli_stream.specs.declared.statements.DailyFunction.{DailyFunction as DailyValue};
 ghost use Rattle.planner_cli_stream.specs.declared.statements.PlanFunction.{PlanFunction as PlanValue};
 ghost use Rattle.daily_planning.specs.DailyPlans.{daily_need};
@@ -19,17 +18,17 @@ ghost use Rattle.planner_cli.specs.Stores.{AnswersBy};
 ghost use Rattle.occurrences.specs.declared.place.CurrentRow.{CurrentRow as CurrentRowValue};
 ghost use Rattle.planner_cli.specs.Rows.{daily_signed};
 ghost use Rattle.planner_cli.specs.Trials.{daily_changes};
-ghost use Rattle.planner_cli.specs.Verdicts.{IsDone, IsEnd};
+ghost use Rattle.planner_cli.specs.Verdicts.{IsDone, IsEnd, need_of_plan};
 
 use crate::answers::{Printed, accepted, refused};
-use crate::decisions::{decide_daily, decide_plan};
+use crate::decisions::{decide_daily, decide_plan, need_of_plan};
 use crate::early::find_refusal;
 use crate::ends::find_end;
 use crate::well_formed::plan_is_well_formed;
 use daily_planning::daily_need;
 use occurrences::{CurrentRow, Refusal, Row, Status};
 use plan_listings::{dp_report, ltp_report};
-use plan_store::{Need, PlanStore, StoreFault, Verdict, View};
+use plan_store::{PlanStore, StoreFault, Verdict, View};
 use planner_cli_stream::{DailyFunction, PlanFunction};
 use planner_machine::{fate_is_followed, sound_content_stays_sound};
 use std::alloc::{AllocError, Global};
@@ -61,7 +60,7 @@ fn answer_seen<S: PlanStore>(
     ensures { AnswersBy S.PlanStore store.old store.new result
         (Serves (Trial (plan_change function.now)) (S.content store.old)) }
 {
-    let view = store.read_window(Need::LongTerm)?;
+    let view = store.read_window(need_of_plan(function))?;
     Ok(plan_trial(alloc, &view, function)?)
 }
 
@@ -89,7 +88,8 @@ fn plan_trial(
     view: &View<'_>,
     function: &PlanFunction,
 ) -> Result<Printed, AllocError>
-    ensures { IfOk result (λ printed. (c : Content) → Shows LongTerm view.now c → IsSound c
+    ensures { IfOk result (λ printed. (c : Content) → Shows (need_of_plan function.now) view.now c
+        → IsSound c
         → PrintsTrial (plan_change function.now) c printed) }
 {
     plan_is_well_formed(function);

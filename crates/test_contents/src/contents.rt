@@ -35,12 +35,14 @@ fn unlike_plans(
     let wanted_history = wanted.history.to_vec(alloc)?;
     let deletions = kept.deletions.to_vec(alloc)?;
     let wanted_deletions = wanted.deletions.to_vec(alloc)?;
+    let in_force = kept.in_force.to_links(alloc)?;
+    let wanted_in_force = wanted.in_force.to_links(alloc)?;
     let parts = [
         ("bounds", kept.bounds == wanted.bounds),
         ("serials issued", kept.issued == wanted.issued),
         (
             "lists in force",
-            are_same_links(&kept.in_force, &wanted.in_force),
+            are_same_links(&in_force, &wanted_in_force),
         ),
         ("long-term plan", ltp.as_slice() == wanted_ltp.as_slice()),
         ("current plan", cp.as_slice() == wanted_cp.as_slice()),

@@ -40,7 +40,7 @@ type Case = (&'static str, &'static str, &'static str, Shown);
 
 /// One after another on one store, so that each shows its own. The pairs are 2 after 1, 7 after 4 and 8 after 7 of what
 /// is open, and 5 after 4 and 4 after 1 of what is not.
-const CASES: [Case; 11] = [
+const CASES: [Case; 13] = [
     ("definitions", "", "", [0, 0, 0, 0, 0, 0, 22]),
     // It ends before its moment.
     ("daily", "", "2024-01-03/08.00", [0, 25, 0, 0, 0, 0, 22]),
@@ -57,6 +57,8 @@ const CASES: [Case; 11] = [
         "2024-01-02/08.00",
         [78, 25, 4, 2578, 1447, 0, 22],
     ),
+    // The last of its own application, which no list names.
+    ("key", "C", "2024-01-02/08.00", [78, 25, 3, 278, 147, 0, 22]),
     // It is complete and in history, and its pair, 4 after 1, is shown for its own key alone.
     (
         "key",
@@ -64,10 +66,12 @@ const CASES: [Case; 11] = [
         "2024-01-02/08.00",
         [78, 25, 4, 2478, 1147, 0, 22],
     ),
-    // The last of its own application, which no list names.
-    ("key", "C", "2024-01-02/08.00", [78, 25, 3, 278, 147, 0, 22]),
     // 1 for what waits, and 4 at the plan end; 3 is of no list; of the deletions 9 alone arrives from the plan end on.
     ("long-term", "", "", [78, 25, 14, 278, 147, 9, 22]),
+    // Of one application: 4 for its own list at the plan end, and 1 for B, which waits and names it.
+    ("one", "A", "", [78, 25, 14, 278, 147, 9, 22]),
+    // It has no list, and no list names it.
+    ("one", "C", "", [78, 25, 0, 278, 147, 9, 22]),
     ("definitions", "", "", [0, 0, 0, 0, 0, 0, 22]),
 ];
 
@@ -91,7 +95,8 @@ const TO_THE_END: [Case; 1] = [("daily", "", "2024-01-03/00.00", [34, 2, 0, 0, 0
 fn need_of(what: &str, app: &str, moment: &str) -> Option<Need> {
     match what {
         "definitions" => Some(Need::Definitions),
-        "long-term" => Some(Need::LongTerm),
+        "long-term" => Some(Need::LongTerm(None)),
+        "one" => Some(Need::LongTerm(Some(App::from_text(app)?))),
         "daily" => Some(Need::Daily(Moment::from_text(moment)?)),
         _ => Some(Need::Key(Key {
             ia: Moment::from_text(moment)?,

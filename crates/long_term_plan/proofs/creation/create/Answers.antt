@@ -86,9 +86,9 @@ returns c = weaker c.add_days.result _ _ (λ verdict adds content shows sound.
     let b : ℕ → Bounds = λ m. record { first_day = c.args.from; last_day = c.args.to; plan_end = m } in
     let P : ℕ → Type 0 = λ m. ((new : List Draft) → AreDaysAdded view (b m) m new → KeepsRowsSound view (b m) new)
     → AddsDays view (b m) m c.in_ok-links.links verdict in
-    let added = subst P c.midnight-plan_end.ensures (adds (hidden_of content) sound_view (sees_plan c.args.view.now content shows)
+    let added = subst P c.midnight-plan_end.ensures (adds (hidden_of content) sound_view (sees_plan None c.args.view.now content shows)
     (known_all view c.in_ok-links.links puts)
-    (λ key late. shows_none_deleted c.args.view.now content shows key (sound.bounds.before
+    (λ key late. shows_none_deleted None c.args.view.now content shows key (sound.bounds.before
     (subst (λ (x : Content). x.sets.bounds ≡ None) (seen_is c.args.view.now content shows.is) unplanned))))
     (keeps_sound c.args.from c.args.to view unplanned defined good c.in_ok-links.links puts sound_view none) in
     subst (λ x. VerdictIs (create c.args.from c.args.to) x verdict) (seen_is c.args.view.now content shows.is)

@@ -95,9 +95,9 @@ returns c = weaker c.add_days.result _ _ (λ verdict adds content shows sound.
     let bounded : content.sets.bounds ≡ Some b = subst (λ (x : Content). x.sets.bounds ≡ Some b) seen planned in
     let ended : b.plan_end ≤ c.midnight.result = subst (λ m. b.plan_end ≤ m) (sym first)
     (sound.bounds.after b bounded).ended in
-    let added = subst P first (adds (hidden_of content) sound_view (sees_plan c.args.view.now content shows)
+    let added = subst P first (adds (hidden_of content) sound_view (sees_plan None c.args.view.now content shows)
     (known_all view c.in_ok-links.links puts)
-    (λ key late. shows_deleted c.args.view.now content shows key b bounded (omega (arith, ended, late))))
+    (λ key late. shows_deleted None c.args.view.now content shows key b bounded (omega (arith, ended, late))))
     (keeps_sound c.args.to view b planned defined good c.in_ok-links.links puts sound_view none) in
     subst (λ x. VerdictIs (extend c.args.to) x verdict) (seen_is c.args.view.now content shows.is)
     (verdict_is c.args.to view b planned defined good c.in_ok-links.links puts sound_view none verdict

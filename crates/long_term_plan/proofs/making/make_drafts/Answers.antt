@@ -1,4 +1,4 @@
-use Rattle.std.proofs.Common.{◌≡◌, ◌↔◌, ◌+◌, ◌++◌, ◌∙◌, [], List, Some, ap, length, refl, subst}
+use Rattle.std.proofs.Common.{◌≡◌, ◌↔◌, ◌+◌, ◌++◌, ◌∙◌, [], List, None, Some, ap, length, refl, subst}
 use Rattle.std.specs.List.{Contains}
 use Rattle.external_dependencies.specs.declared.links.Link.{Link}
 use Rattle.external_dependencies.specs.declared.rows.PlacedRow.{PlacedRow}
@@ -33,11 +33,12 @@ returns c h sound sees known keeps =
     let touches : IsTouchOf [] made content.in_force links touch =
     subst (λ (rs : List Row). IsTouchOf [] rs content.in_force links touch) (c.deref.ensures.value ∙ put)
     (subst (λ (was : List Link). IsTouchOf [] c.deref.result.now was links touch) c.in_force.ensures
-    c.in_ok-touch.ensures) in
+    (subst (λ (ls : List Link). IsTouchOf [] c.deref.result.now c.in_force.result.now.items ls touch) c.in_ok-lists.ensures
+    c.in_ok-touch.ensures)) in
     let have : HavePlanned content.sets (rows ++ made) s = λ cp cp_are history history_are.
     lists_then content.sets sound_rows new b keeps rows c.ltp.ensures.rows cp cp_are history history_are in
     let plan = rows_made content sound rows c.ltp.ensures.rows new in
-    let to = turn_seen h view sound sees links known rows c.ltp.ensures.rows c.cp.result.now.items c.cp.ensures.rows
+    let to = turn_seen None h view sound sees links known rows c.ltp.ensures.rows c.cp.result.now.items c.cp.ensures.rows
     c.lasts.result.now c.lasts.ensures s rows [] made have plan touch touches in
     let listed : (p : PlacedRow) → Contains c.in_ok-live.live p
     ↔ IsInLists (rows ++ made) c.cp.result.now.items c.lasts.result.now p =
@@ -46,13 +47,13 @@ returns c h sound sees known keeps =
     (subst (λ (l : List Row). (p : PlacedRow) → Contains c.in_ok-live.live p
     ↔ IsInLists (l ++ c.deref-3.result.now) c.cp.result.now.items c.lasts.result.now p)
     (c.deref-2.ensures.value ∙ c.in_ok-planned.ensures) c.in_ok-live.ensures.listed) in
-    let holds = held h view sound sees links known rows c.ltp.ensures.rows c.cp.result.now.items c.cp.ensures.rows
+    let holds = held None h view sound sees links known rows c.ltp.ensures.rows c.cp.result.now.items c.cp.ensures.rows
     c.lasts.result.now c.lasts.ensures s rows [] made have plan touch touches (λ app. Unit {0}) c.in_ok-live.live
     (λ p. ((λ there. ((listed p).0 there, tt)), λ both. (listed p).1 both.0))
-    (λ q there is_open reach. (tt, λ app names. tt)) (λ app. Unit {0}) c.in_ok-before.before
+    (λ q there is_open reach. (tt, λ app names. tt)) (λ q there is_open reach. tt) (λ app. Unit {0}) c.in_ok-before.before
     (λ q there is_open reach. tt) (λ row there. tt) (λ pair there. ((c.in_ok-before.ensures pair).0 there).0)
     (λ pair there row is_open among same. (c.in_ok-before.ensures pair).1 (there, (row, is_open, same))) in
-    let pairs = c.in_ok-pairs.ensures content.sets s content.in_force to.now h.pairs sound.pairs.settled to.turn holds in (
+    let pairs = c.in_ok-pairs.ensures content.sets s content.in_force links to.now h.pairs (λ q there link same. ((λ here. here), λ here. here)) sound.pairs.settled to.turn holds in (
       making_is content sound b links new _ (record {
         gone = c.new.ensures.items;
         unchanged = c.new-2.ensures.items;
@@ -71,7 +72,7 @@ returns c h sound sees known keeps =
         bounds = refl;
         issued = ap (λ n. Some (n + c.len-made.result)) c.issued-2.ensures
             ∙ ap (λ n. Some (content.sets.issued + n)) count;
-        in_force = refl;
+        in_force = c.in_ok-lists.ensures;
         definitions = refl;
         job = refl;
         pairs = pairs.0;

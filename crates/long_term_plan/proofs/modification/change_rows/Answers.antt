@@ -1,8 +1,8 @@
 use Rattle.std.proofs.Common.{◌≡◌, ◌+◌, ◌∙◌, Some, ap, length, map, refl}
-use Rattle.std.specs.Prelude.{unwrap_or}
 use Rattle.occurrences.specs.declared.reply.Reply.TheVariants.{Made}
 use Rattle.planner_machine.specs.Modify.{withdrawn}
 use Rattle.planner_machine.proofs.SoundLemmas.{rows_sound}
+use Rattle.plan_store.specs.Changes.{lists_after}
 use Rattle.plan_store.specs.Views.{with_hidden}
 use Rattle.long_term_plan.proofs.ChangedLemmas.{modifying_is}
 use Rattle.long_term_plan.proofs.ModifyingLemmas.{count_gone}
@@ -15,7 +15,7 @@ returns c h sound only named made modifying pairs leads =
     let parts = modifying.parts in
     let put = modifying.come in
     let content = with_hidden h c.args.view.now in
-    let links = unwrap_or c.args.new content.in_force in
+    let links = lists_after c.args.new content.in_force in
     let gone = c.args.gone.items in
     let changed = c.args.changed.items in
     let rows = rows_sound content sound in

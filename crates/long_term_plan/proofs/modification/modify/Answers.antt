@@ -1,7 +1,7 @@
 use Rattle.std.proofs.Common.{◌≡◌, ◌≢◌, ◌+◌, ◌++◌, ◌∙◌, ℕ, List, ap, arith, filter, length, refl, sym, subst}
 use Rattle.std.proofs.Common.{Bool, Option, Result, Ok, Err}
-use Rattle.std.specs.Prelude.{IfOk, is_none, unwrap_or}
-use Rattle.std.specs.List.{AllPairs, filter_map}
+use Rattle.std.specs.Prelude.{IfOk, is_none}
+use Rattle.std.specs.List.{AllPairs, Contains, filter_map}
 use Rattle.std.proofs.lemmas.Bool.{false≢true}
 use Rattle.occurrences.specs.declared.row.Row.{Row}
 use Rattle.external_dependencies.specs.declared.links.Link.{Link}
@@ -11,7 +11,9 @@ use Rattle.planner_machine.specs.Drafts.{AreDrafts, IsMade}
 use Rattle.planner_machine.specs.Moves.{size}
 use Rattle.planner_machine.specs.Plans.{HoldTooMany}
 use Rattle.planner_machine.proofs.SoundLemmas.{rows_sound}
+use Rattle.plan_store_lists.proofs.KeyLemmas.{contains_filter}
 use Rattle.plan_store_lists.specs.Rows.{of_row}
+use Rattle.plan_store.specs.Changes.{lists_after}
 use Rattle.plan_store.specs.Views.{ListsSet, shown, with_hidden}
 use Rattle.plan_store.specs.declared.changes.Verdict.{Verdict}
 use Rattle.plan_store.specs.declared.changes.Verdict.TheVariants.{Done, Refused}
@@ -30,6 +32,8 @@ use Rattle.long_term_plan.proofs.NumberLemmas.{numbered_length}
 use Rattle.long_term_plan.proofs.PartingLemmas.{counts}
 use Rattle.long_term_plan.proofs.LookedLemmas.{changed_same, gone_same}
 use Rattle.long_term_plan.proofs.TurnedLemmas.{modifying_planned}
+use Rattle.long_term_plan.proofs.ReachingLemmas.{named_look, numbered_of}
+use Rattle.long_term_plan.specs.Reaching.{AreRowsOf}
 use Rattle.long_term_plan.proofs.modification.modify.Goals as goal
 
 weaker : {A E : Type 0} (r : Result A E) (P Q : A → Type 0) → ((a : A) → P a → Q a) → IfOk r P → IfOk r Q
@@ -55,7 +59,7 @@ change_rows-requires c =
     omega (arith, few, count)
 
 pub returns-then-are_too_many : goal.returns-then-are_too_many
-returns-then-are_too_many c h sound sees known planned deleted =
+returns-then-are_too_many c of_new h sound sees known planned deleted =
     let content = with_hidden h c.args.view.now in
     let only = c.args.only.now in
     let rows = c.ltp-rows.result.now.items in
@@ -117,7 +121,7 @@ done c links only named new (Done change reply) few made = (few, made)
 done c links only named new (Refused refusal) few made = absurd made
 
 pub returns : goal.returns
-returns c = weaker c.change_rows.result _ _ (λ verdict made h sound sees known planned deleted.
+returns c of_new = weaker c.change_rows.result _ _ (λ verdict made h sound sees known planned deleted.
     let content = with_hidden h c.args.view.now in
     let only = c.args.only.now in
     let rows = c.ltp-rows.result.now.items in
@@ -182,7 +186,16 @@ returns c = weaker c.change_rows.result _ _ (λ verdict made h sound sees known 
     (subst (λ (l : List Row). ArePlanned rows kept gone l) (sym (c.deref-9.ensures.value ∙ put))
     (modifying_planned content.sets (rows_sound content sound) rows c.ltp-rows.ensures.rows only named kept gone changed
     parts.parts new)) in
-    let led = c.in_ok-pairs.ensures are_named.rising c.ltp-rows.ensures.rows h sound sees known s plan
+    let from : gone ≡ filter (λ (r : Row). is_none (outcome only named r)) looked =
+    subst (λ (ds : List Draft). DraftsRise ds → gone ≡ filter (λ (r : Row). is_none (outcome only ds r)) looked)
+    c.deref-2.ensures.value c.in_ok-parted.ensures.gone are_named.rising in
+    let of_gone : AreRowsOf only c.deref-8.result.now = subst (AreRowsOf only) (sym c.deref-8.ensures.value) (λ row there.
+    ((looked_are.exactly row).0 (contains_filter (λ (r : Row). is_none (outcome only named r)) looked row
+    (subst (λ (l : List Row). Contains l row) from there)).0).1) in
+    let of_put : AreRowsOf only c.deref-9.result.now = subst (AreRowsOf only) (sym (c.deref-9.ensures.value ∙ put))
+    (numbered_of only content.sets.issued new (λ draft there. named_look (Looks only) content.definitions
+    content.sets.bounds draft ((are_new.exactly draft).0 there).named)) in
+    let led = c.in_ok-pairs.ensures are_named.rising c.ltp-rows.ensures.rows of_new of_gone of_put h sound sees known s plan
     (λ cp cp_are history history_are. subst (λ (l : List Row). HasLists s (kept ++ l) cp history)
     (sym (c.deref-9.ensures.value ∙ put)) (lists cp cp_are history history_are)) in
     record {
@@ -190,7 +203,7 @@ returns c = weaker c.change_rows.result _ _ (λ verdict made h sound sees known 
       are_named = are_named;
       new = new;
       are_new = are_new;
-      outcome = done content (unwrap_or c.args.new content.in_force) only named new verdict
+      outcome = done content (lists_after c.args.new content.in_force) only named new verdict
           (λ over. false≢true (sym c.if-are_too_many.false ∙ tested.1 (many.1 over)))
           (made h sound only named new (record { planned = kept; parts = parts; come = put }) led.0 led.1);
     }) c.change_rows.ensures

@@ -47,7 +47,8 @@ returns-in-Some-2 c content shows sound =
     (loops view c.in-Some.bounds planned defined c.in_ok-links.links puts c.in-Some-2.app least, refl)
 
 pub returns : goal.returns
-returns c = weaker c.modify.result _ _ (λ verdict modifies content shows sound.
+returns c = weaker c.modify.result _ _ (λ verdict modifies_lists content shows sound.
+    let modifies = rw c.in_ok-lists.ensures at modifies_lists in
     let view = with_hidden (hidden_of content) c.args.view.now in
     let sound_view : IsSound view = subst IsSound (sym (seen_is c.args.view.now content shows.is)) sound in
     let planned : view.sets.bounds ≡ Some c.in-Some.bounds = sym c.bounds.ensures ∙ c.in-Some.is in
@@ -61,8 +62,8 @@ returns c = weaker c.modify.result _ _ (λ verdict modifies content shows sound.
     subst (λ (o : Option (List ℕ)). IsLeastOnLoop c.in_ok-links.links o) c.in_default-2.is c.in_ok-app.ensures in
     subst (λ x. VerdictIs modify_all x verdict) (seen_is c.args.view.now content shows.is)
     (verdict_is view c.in-Some.bounds planned defined c.in_ok-links.links puts sound_view none verdict
-    (modifies (hidden_of content) sound_view (sees_plan c.args.view.now content shows)
+    (modifies (hidden_of content) sound_view (sees_plan None c.args.view.now content shows)
     (known_all view c.in_ok-links.links puts) planned
-    (λ key. shows_deleted c.args.view.now content shows key c.in-Some.bounds
+    (λ key. shows_deleted None c.args.view.now content shows key c.in-Some.bounds
     (subst (λ (x : Content). x.sets.bounds ≡ Some c.in-Some.bounds)
-    (seen_is c.args.view.now content shows.is) planned))))) c.modify.ensures
+    (seen_is c.args.view.now content shows.is) planned))))) (c.modify.ensures tt)

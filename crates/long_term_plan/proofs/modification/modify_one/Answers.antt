@@ -1,5 +1,5 @@
 use Rattle.std.proofs.Common.{◌≡◌, ◌∙◌, ℕ, true, false, refl, subst, sym, List, Option, None, Some, Result, Ok, Err}
-use Rattle.std.specs.Prelude.{IfNone, IfOk, IfSome, is_some, unwrap_or}
+use Rattle.std.specs.Prelude.{IfNone, IfOk, IfSome, is_some}
 use Rattle.app_occurrences.specs.Active.{IsActive}
 use Rattle.app_definition_records.specs.declared.applications.Application.{Application}
 use Rattle.app_definitions.specs.declared.definitions.Definitions.{Definitions}
@@ -11,9 +11,11 @@ use Rattle.planner_machine.specs.ModifyOne.{modify_one}
 use Rattle.planner_machine.specs.Plans.{IsPlannedApp}
 use Rattle.planner_machine.specs.Content.{Content}
 use Rattle.planner_machine.specs.Sound.{IsSound}
+use Rattle.plan_store.specs.Changes.{lists_after}
 use Rattle.plan_store.specs.Verdicts.{VerdictIs}
 use Rattle.plan_store.specs.Views.{hidden_of, with_hidden}
 use Rattle.plan_store.proofs.WindowLemmas.{seen_is, sees_plan, shows_deleted}
+use Rattle.plan_store.specs.declared.changes.NewLists.{NewLists}
 use Rattle.plan_store.specs.declared.changes.Verdict.TheVariants.{Refused}
 use Rattle.long_term_plan.specs.Making.{LacksOwnDefinition}
 use Rattle.long_term_plan.proofs.HeldLemmas.{known_one}
@@ -34,11 +36,11 @@ one_active : (all : Definitions) (app : List ℕ) (o : Option Application) → i
 one_active all app None is found = cc
 one_active all app (Some a) is found = (a, found)
 
-puts_in : (app : List ℕ) (all all' : Definitions) (before before' : List Link) (new : Option (List Link)) → all ≡ all'
-    → before ≡ before' → PutsOne app all before (unwrap_or new before) → PutsOne app all' before' (unwrap_or new before')
+puts_in : (app : List ℕ) (all all' : Definitions) (before before' : List Link) (new : Option NewLists) → all ≡ all'
+    → before ≡ before' → PutsOne app all before (lists_after new before) → PutsOne app all' before' (lists_after new before')
 puts_in app all all' before before' new same same' puts =
-    subst (λ (ds : Definitions). PutsOne app ds before' (unwrap_or new before')) same
-    (subst (λ (ls : List Link). PutsOne app all ls (unwrap_or new ls)) same' puts)
+    subst (λ (ds : Definitions). PutsOne app ds before' (lists_after new before')) same
+    (subst (λ (ls : List Link). PutsOne app all ls (lists_after new ls)) same' puts)
 
 pub returns-in-Some-lacking_own_definition : goal.returns-in-Some-lacking_own_definition
 returns-in-Some-lacking_own_definition c content shows sound =
@@ -60,13 +62,13 @@ returns-in-Some-2 c content shows sound =
     let defined : LacksOwnDefinition view.definitions app None =
     subst (λ (all : Definitions). LacksOwnDefinition all app None) c.definitions-all.ensures
     c.in_default-lacking_own_definition.ensures in
-    let puts = puts_in app c.definitions-all.result.now view.definitions c.in_force.result.now view.in_force
-    c.in_ok-new.new c.definitions-all.ensures c.in_force.ensures c.in_ok-new.ensures in
-    let links = unwrap_or c.in_ok-new.new view.in_force in
+    let puts = puts_in app c.definitions-all.result.now view.definitions c.in_force.result.now.items view.in_force
+    c.in_ok-new.new c.definitions-all.ensures c.in_force.ensures c.in_ok-new.ensures.puts in
+    let links = lists_after c.in_ok-new.new view.in_force in
     let sound_view : IsSound view = subst IsSound (sym (seen_is c.args.view.now content shows.is)) sound in
     let least : IsLeastOnLoop links (Some c.in-Some-2.least) =
     subst (λ (o : Option (List ℕ)). IsLeastOnLoop links o) c.in-Some-2.is
-    (c.in_ok-least.ensures view.definitions view.in_force puts sound_view.lists) in
+    (c.in_ok-least.ensures view.definitions puts sound_view.lists) in
     subst (λ x. VerdictIs (modify_one app) x (Refused (Loop c.in-Some-2.least))) (seen_is c.args.view.now content shows.is)
     (loops app view c.in-Some.bounds planned defined links puts c.in-Some-2.least least, refl)
 
@@ -78,13 +80,13 @@ returns-then-is_none c content shows sound =
     let defined : LacksOwnDefinition view.definitions app None =
     subst (λ (all : Definitions). LacksOwnDefinition all app None) c.definitions-all.ensures
     c.in_default-lacking_own_definition.ensures in
-    let puts = puts_in app c.definitions-all.result.now view.definitions c.in_force.result.now view.in_force
-    c.in_ok-new.new c.definitions-all.ensures c.in_force.ensures c.in_ok-new.ensures in
-    let links = unwrap_or c.in_ok-new.new view.in_force in
+    let puts = puts_in app c.definitions-all.result.now view.definitions c.in_force.result.now.items view.in_force
+    c.in_ok-new.new c.definitions-all.ensures c.in_force.ensures c.in_ok-new.ensures.puts in
+    let links = lists_after c.in_ok-new.new view.in_force in
     let sound_view : IsSound view = subst IsSound (sym (seen_is c.args.view.now content shows.is)) sound in
     let none : IsLeastOnLoop links None =
     subst (λ (o : Option (List ℕ)). IsLeastOnLoop links o) c.in_default-2.is
-    (c.in_ok-least.ensures view.definitions view.in_force puts sound_view.lists) in
+    (c.in_ok-least.ensures view.definitions puts sound_view.lists) in
     let inactive : IsPlannedApp view.definitions app → ⊥ =
     subst (λ (all : Definitions). IsPlannedApp all app → ⊥) c.definitions-all.ensures
     (no_active c.definitions-all.result.now app c.active.result c.if-is_none.ensures c.active.ensures.none) in
@@ -100,19 +102,19 @@ returns c = weaker c.modify.result _ _ (λ verdict modifies content shows sound.
     let defined : LacksOwnDefinition view.definitions app None =
     subst (λ (all : Definitions). LacksOwnDefinition all app None) c.definitions-all.ensures
     c.in_default-lacking_own_definition.ensures in
-    let puts = puts_in app c.definitions-all.result.now view.definitions c.in_force.result.now view.in_force
-    c.in_ok-new.new c.definitions-all.ensures c.in_force.ensures c.in_ok-new.ensures in
-    let links = unwrap_or c.in_ok-new.new view.in_force in
+    let puts = puts_in app c.definitions-all.result.now view.definitions c.in_force.result.now.items view.in_force
+    c.in_ok-new.new c.definitions-all.ensures c.in_force.ensures c.in_ok-new.ensures.puts in
+    let links = lists_after c.in_ok-new.new view.in_force in
     let none : IsLeastOnLoop links None =
     subst (λ (o : Option (List ℕ)). IsLeastOnLoop links o) c.in_default-2.is
-    (c.in_ok-least.ensures view.definitions view.in_force puts sound_view.lists) in
+    (c.in_ok-least.ensures view.definitions puts sound_view.lists) in
     let active : IsPlannedApp view.definitions app =
     subst (λ (all : Definitions). IsPlannedApp all app) c.definitions-all.ensures
     (one_active c.definitions-all.result.now app c.active.result c.if-is_none.ensures c.active.ensures.found) in
     subst (λ x. VerdictIs (modify_one app) x verdict) (seen_is c.args.view.now content shows.is)
     (verdict_is app view c.in-Some.bounds planned defined links puts sound_view none active verdict
-    (modifies (hidden_of content) sound_view (sees_plan c.args.view.now content shows)
+    (modifies (hidden_of content) sound_view (sees_plan (Some app) c.args.view.now content shows)
     (known_one app view links puts) planned
-    (λ key. shows_deleted c.args.view.now content shows key c.in-Some.bounds
+    (λ key. shows_deleted (Some app) c.args.view.now content shows key c.in-Some.bounds
     (subst (λ (x : Content). x.sets.bounds ≡ Some c.in-Some.bounds)
-    (seen_is c.args.view.now content shows.is) planned))))) c.modify.ensures
+    (seen_is c.args.view.now content shows.is) planned))))) (c.modify.ensures c.in_ok-new.ensures.own)

@@ -39,7 +39,7 @@ returns-clause-runs g c =
       opened,
       known_of last.session.conn c.into_connection-conn.result kept last.session.failures same g.met.D.Disk.seen_may_stay
           (c.is_unfailed-is_unfailed.ensures.unfailed both.0)
-          (∥∥₁_map last.stored (λ h none clean still. (h none clean (λ _. still)).kept.stored)) opened
+          (∥∥₁_map last.stored (λ h none clean still. (h none clean (λ _. still)).stored)) opened
           (c.close_connection-closed.ensures.honest honest) c.schema.ensures.live,
     ))
     c.tables_have_one_content.ensures gone.0 gone.1.0 gone.1.1 last.told outcome

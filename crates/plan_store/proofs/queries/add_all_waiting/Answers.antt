@@ -10,7 +10,7 @@ use Rattle.plan_store.proofs.queries.add_all_waiting.Goals as goal
 -- one more block
 pub loop-block-preserved : goal.loop-block-preserved
 loop-block-preserved c =
-    let asks = ReadsRow c.args.in_force.now c.args.definitions.now in
+    let asks = ReadsRow c.args.in_force.now.items c.args.definitions.now in
     let all = c.blocks-all.result.now in
     let block = c.block-item.result in
     let index = c.loop-block.block-index in
@@ -27,7 +27,7 @@ loop-block-preserved c =
 pub returns : goal.returns
 returns c =
     let all = c.blocks-all.result.now in
-    subst (λ (rows : List CurrentRow). AddsQueries (ReadByOne (ReadsRow c.args.in_force.now c.args.definitions.now) rows)
+    subst (λ (rows : List CurrentRow). AddsQueries (ReadByOne (ReadsRow c.args.in_force.now.items c.args.definitions.now) rows)
     c.args.queries.now.items c.loop-block.queries.items)
     (ap (λ bs. items_in bs) (take_all c.loop-block.block-index all (omega arith)) ∙ c.blocks-all.ensures.all)
     c.loop-block.invariant

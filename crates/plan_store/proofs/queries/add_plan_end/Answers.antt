@@ -6,7 +6,7 @@ use Rattle.plan_store.proofs.queries.add_plan_end.Goals as goal
 
 pub returns-in_default : goal.returns-in_default
 returns-in_default c =
-    let links = c.args.in_force.now in
+    let links = c.args.in_force.now.items in
     let all = c.args.definitions.now in
     let old = c.args.queries.now.items in
     subst (λ (b : Option Bounds). AddsQueries (ReadsEnd links all b) old old) (sym c.in_default.is)
@@ -14,12 +14,11 @@ returns-in_default c =
 
 pub returns : goal.returns
 returns c =
-    let links = c.args.in_force.now in
+    let links = c.args.in_force.now.items in
     let all = c.args.definitions.now in
     let old = c.args.queries.now.items in
     let new = c.add_all_defined.new.queries.items in
     let bounds = c.in-Some.bounds in
-    let in_force = rw c.as_slice.ensures.all at c.in_ok-add_links.ensures in
     subst (λ (b : Option Bounds). AddsQueries (ReadsEnd links all b) old new) (sym c.in-Some.is)
-    (asks_end links all bounds old c.add_links.new.queries.items new in_force
+    (asks_end links all bounds old c.add_all_links.new.queries.items new c.in_ok-add_all_links.ensures
     c.in_ok-add_all_defined.ensures)

@@ -10,7 +10,7 @@ use Rattle.plan_store.proofs.queries.add_waiting.Goals.{then-eq+in_ok-add_list+i
 -- one more row
 pub loop-current-preserved : goal.loop-current-preserved
 loop-current-preserved c =
-    let links = c.args.in_force.now in
+    let links = c.args.in_force.now.items in
     let all = c.args.definitions.now in
     let list = c.args.rows.now in
     let current = c.current-item.result in
@@ -39,6 +39,6 @@ loop-current-preserved c =
 -- all rows
 pub returns : goal.returns
 returns c =
-    subst (λ (xs : List CurrentRow). AddsQueries (ReadByOne (ReadsRow c.args.in_force.now c.args.definitions.now) xs)
+    subst (λ (xs : List CurrentRow). AddsQueries (ReadByOne (ReadsRow c.args.in_force.now.items c.args.definitions.now) xs)
     c.args.queries.now.items c.loop-current.queries.items)
     (take_all c.loop-current.current-index c.args.rows.now (omega arith)) c.loop-current.invariant

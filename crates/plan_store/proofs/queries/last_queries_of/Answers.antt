@@ -21,11 +21,11 @@ returns-in-Key-clause-only c =
 pub returns-in-LongTerm-clause-found : goal.returns-in-LongTerm-clause-found
 returns-in-LongTerm-clause-found c =
     let content = content_of c.args.lists.now in
-    asks_found (ReadsPlan content) (Asks c.args.need.now content)
+    asks_found (ReadsPlan c.in-LongTerm.only content) (Asks c.args.need.now content)
     (ap (λ (need : Need). Asks need content) c.in-LongTerm.is) c.plan_queries.result c.plan_queries.ensures.adds
 
 pub returns-in-LongTerm-clause-only : goal.returns-in-LongTerm-clause-only
 returns-in-LongTerm-clause-only c =
     let content = content_of c.args.lists.now in
-    asks_only (ReadsPlan content) (Asks c.args.need.now content)
+    asks_only (ReadsPlan c.in-LongTerm.only content) (Asks c.args.need.now content)
     (ap (λ (need : Need). Asks need content) c.in-LongTerm.is) c.plan_queries.result c.plan_queries.ensures.adds

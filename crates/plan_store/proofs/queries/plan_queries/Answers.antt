@@ -1,22 +1,7 @@
-use Rattle.std.proofs.Common.{List, [], refl, subst}
-use Rattle.plan_store.specs.HistoryReads.{ReadsPlan}
-use Rattle.plan_store.specs.Contents.{content_of}
-use Rattle.plan_store.specs.Queries.{AddsQueries, ReadByOne, ReadsRow}
-use Rattle.plan_store.specs.declared.queries.LastQuery.{LastQuery}
-use Rattle.plan_store.proofs.QueryLemmas.{ask_ties, asks_plan, asks_same}
 use Rattle.plan_store.proofs.queries.plan_queries.Goals as goal
 
-pub returns-clause-adds : goal.returns-clause-adds
-returns-clause-adds c =
-    let lists = c.args.lists.now in
-    let content = content_of lists in
-    let first = c.add_all_waiting.new.queries.items in
-    let queries = c.add_plan_end.new.queries.items in
-    let own = subst (λ (old : List LastQuery). AddsQueries (ReadByOne (ReadsRow content.in_force content.definitions)
-    lists.cp.items) old first) c.new-queries.ensures.items c.in_ok-add_all_waiting.ensures in
-    asks_same (ReadsPlan content) [] queries c.put_in_order.new.items.items
-    (asks_plan content lists.cp.items lists.cp_rows refl [] first queries own c.in_ok-add_plan_end.ensures)
-    c.put_in_order.ensures.same
+pub returns-in-Some-clause-adds : goal.returns-in-Some-clause-adds
+returns-in-Some-clause-adds c = rw c.in-Some.is c.queries_of_one.ensures.adds
 
-pub put_in_order-requires : goal.put_in_order-requires
-put_in_order-requires c = ask_ties
+pub returns-in-None-clause-adds : goal.returns-in-None-clause-adds
+returns-in-None-clause-adds c = rw c.in-None.is c.queries_of_all.ensures.adds

@@ -1,46 +1,30 @@
-use Rattle.std.proofs.Common.{◌≡◌, ◌+◌, ◌++◌, ◌∷◌, ◌∙◌, ℕ, List, [], arith, ap, subst, sym, take}
+use Rattle.std.proofs.Common.{◌≡◌, ◌++◌, ◌∷◌, List, [], inl, inr, subst, sym}
 use Rattle.std.specs.List.{Contains}
-use Rattle.std.proofs.lemmas.Bool.{false≢true}
-use Rattle.std.proofs.lemmas.List.{take_all, take_more}
+use Rattle.std.specs.Prelude.{option_map}
 use Rattle.std.proofs.lemmas.List.Elements.{Contains-append_left, Contains-push}
-use Rattle.external_dependencies.specs.declared.links.Link.{Link}
-use Rattle.plan_store_pairs.proofs.ListLemmas.{none}
-use Rattle.plan_store_pairs.proofs.TouchedLemmas.{each_more}
+use Rattle.plan_store_lists.specs.ListsThen.{with_own}
+use Rattle.plan_store_pairs.proofs.ThenLemmas.{listed_or_stood}
 use Rattle.plan_store_pairs.proofs.by_applications.naming_apps.Goals as goal
-use Rattle.plan_store_pairs.proofs.by_applications.naming_apps.Goals.{then-has_app+in_ok-push, else-has_app}
+use Rattle.plan_store_pairs.proofs.by_applications.naming_apps.Goals.{in-Some+in_ok-push, in_default}
 
--- none so far
-pub loop-link-init : goal.loop-link-init
-loop-link-init c rising link there = absurd (none link there)
-
--- one more link
-pub loop-link-preserved : goal.loop-link-preserved
-loop-link-preserved c rising =
-    let links = c.args.links.now in
-    let apps = c.args.apps.now in
-    let link = c.link-item.result in
-    let index = c.loop-link.link-index in
-    let naming = c.loop-link.naming.items in
-    let front : take (index + 1) links ≡ take index links ++ link ∷ [] =
-    take_more links index link c.loop-link-test.true ∙ ap (λ x. take index links ++ x ∷ []) (sym c.link-item.is) in
-    let Told : List (List ℕ) → Link → Type 0 = λ found x. Contains apps x.predecessor → Contains found x.app in
-    let more : (x : Link) → Contains (take index links ++ link ∷ []) x → Told c.if-has_app.naming.items x =
-    elim c.if-has_app.branch [
-      | then-has_app+in_ok-push w ↦
-          let pushed : w.push.new.self.items ≡ naming ++ link.app ∷ [] = w.in_ok-push.ensures.items in
-          rw (w.naming-is, pushed)
-          (each_more (Told naming) (Told (naming ++ link.app ∷ [])) (take index links) link (c.loop-link.invariant rising)
-          (λ x told there. Contains-append_left naming (link.app ∷ []) x.app (told there))
-          (λ there. Contains-push naming link.app))
-      | else-has_app w ↦
-          rw w.naming-is (each_more (Told naming) (Told naming) (take index links) link (c.loop-link.invariant rising)
-          (λ x told. told) (λ there. absurd (false≢true (sym w.if-has_app.false ∙ (c.has_app.ensures rising).1 there))))
-    ] in
-    subst (λ ls. (x : Link) → Contains ls x → Told c.if-has_app.naming.items x) (sym front) more
-
--- all links
 pub returns : goal.returns
-returns c rising =
-    let whole = take_all c.loop-link.link-index c.args.links.now (omega arith) in
-    subst (λ ls. (x : Link) → Contains ls x → Contains c.args.apps.now x.predecessor → Contains c.loop-link.naming.items x.app) whole
-    (c.loop-link.invariant rising)
+returns c link there of_one =
+    let links = c.args.then.now.lists.now.items in
+    let standing = c.in_ok-naming.naming.items in
+    elim c.match-then.branch [
+      | in-Some+in_ok-push w ↦
+          let own = w.in-Some.own.now in
+          let pushed : w.push.new.self.items ≡ standing ++ own.app ∷ [] = w.in_ok-push.ensures.items in
+          let among = subst (λ o. Contains (with_own (option_map (λ list. list.now) o) links) link) w.in-Some.is there in
+          let named : Contains (standing ++ own.app ∷ []) link.app =
+          elim (listed_or_stood own.app own.links.items links link among) [
+            | inl listed ↦ subst (Contains (standing ++ own.app ∷ [])) (sym (own.own link listed))
+                (Contains-push standing own.app)
+            | inr stood ↦ Contains-append_left standing (own.app ∷ []) link.app (c.in_ok-naming.ensures link stood of_one)
+          ] in
+          rw (w.naming-is, pushed) named
+      | in_default w ↦
+          let stood : Contains links link =
+          subst (λ o. Contains (with_own (option_map (λ list. list.now) o) links) link) w.in_default.is there in
+          rw w.naming-is (c.in_ok-naming.ensures link stood of_one)
+    ]

@@ -1,14 +1,12 @@
 use Rattle.std.proofs.Common.{◌≡◌, ◌++◌, ◌∙◌, ℕ, List, ap, ap₂, subst, sym}
 use Rattle.std.specs.List.{Contains}
-use Rattle.std.specs.Cmp.Lexicographic.{slice_cmp}
-use Rattle.std.specs.Ordering.{nat_cmp}
 use Rattle.std.proofs.lemmas.List.Elements.{Contains-append_left, Contains-append_right}
 use Rattle.occurrences.specs.declared.row.Row.{Row}
 use Rattle.external_dependencies.specs.Link.{Lists}
 use Rattle.external_dependencies.specs.Touch.{IsMoved}
-use Rattle.external_dependencies.specs.Rising.{IsRising}
 use Rattle.external_dependencies.specs.declared.links.Link.{Link}
 use Rattle.external_dependencies.proofs.OrderLemmas.{name_ties}
+use Rattle.plan_store_lists.specs.ListsThen.{links_then}
 use Rattle.plan_store_pairs.specs.ByApplications.{HasWithList}
 use Rattle.plan_store_pairs.proofs.by_applications.reached_apps.Goals as goal
 
@@ -25,7 +23,7 @@ pub returns : goal.returns
 returns c = record { touched = of_moved; changed = in_lists; naming = in_naming }
   where
     links : List Link
-    links = c.args.links.now
+    links = links_then c.args.then.now
 
     touched : List (List ℕ)
     touched = c.in_order-touched.result.items
@@ -86,7 +84,5 @@ returns c = record { touched = of_moved; changed = in_lists; naming = in_naming 
         with_list app (to_reached app
         (Contains-append_left (naming ++ touched) c.args.touch.now.lists.items app
         (Contains-append_left naming touched app
-        (c.in_ok-reached.ensures
-        (subst (IsRising (slice_cmp nat_cmp)) (sym c.deref.ensures.value) c.in_order-touched.ensures.rising) link
-        (subst (λ ls. Contains ls link) (sym c.as_slice.ensures.all) listed)
+        (c.in_ok-reached.ensures link listed
         (subst (λ xs. Contains xs row.key.app) (sym c.deref.ensures.value) (is_touched row moved))))))

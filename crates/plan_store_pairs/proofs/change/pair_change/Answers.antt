@@ -7,11 +7,10 @@ weaker (Ok a) P Q f is = f a is
 weaker (Err e) P Q f is = tt
 
 pub returns : goal.returns
-returns c = weaker c.resolve_touched.result _ _ (λ change leads s s' was_links now old are turn holds.
-    let links = c.args.links.now in
+returns c = weaker c.resolve_touched.result _ _ (λ change leads s s' was_links all now old same are turn holds.
     let settled = are_settled s turn.was turn.before was_links old are in
-    let exact = leads turn.was now was_links old turn.touches settled holds in (
-      pairs_led s' now turn.after links old are.rising change exact,
+    let exact = leads turn.was now was_links all old same turn.touches settled holds in (
+      pairs_led s' now turn.after all old are.rising change exact,
       led_on change old _ exact,
     ))
     c.resolve_touched.ensures

@@ -6,6 +6,6 @@ use Rattle.plan_store_pairs.proofs.GatherLemmas.{IsReachedThere}
 use Rattle.plan_store_pairs.proofs.gathering.reached_by.Given as goal
 
 -- those of the links so far
-abbrev pub invariant-loop-link : goal.invariant-loop-link
-invariant-loop-link l = HoldsOfAny l.view (λ c. AreNumbered c.sets
-    → AddsEach (IsReachedThere c.sets l.row l.last) (take l.link-index l.link-items) [] l.found.items)
+abbrev pub invariant-loop-naming : goal.invariant-loop-naming
+invariant-loop-naming l = HoldsOfAny l.view (λ c. AreNumbered c.sets
+    → AddsEach (IsReachedThere c.sets l.row l.last) (take l.naming-index l.naming-items) [] l.found.items)

@@ -9,10 +9,10 @@ pub returns : goal.returns
 returns c = lists_told before links c.extend_from_slice.new.self.items on back
   where
     before : List Link
-    before = c.args.before.now
+    before = c.args.before.now.items
 
     links : List Link
-    links = c.args.links.now
+    links = c.args.links.now.items
 
     first : List (List ℕ)
     first = c.in_ok-apps.apps.items

@@ -1,49 +1,39 @@
-use Rattle.std.proofs.Common.{◌≡◌, ◌⊎◌, ◌+◌, ◌++◌, ◌∷◌, ◌∙◌, ℕ, List, [], true, arith, ap, inl, inr, rules, subst, sym, take}
+use Rattle.std.proofs.Common.{◌⊎◌, ◌+◌, ◌++◌, ◌∙◌, ap, arith, inl, inr, subst, sym, take}
 use Rattle.std.specs.List.{Contains}
-use Rattle.std.proofs.lemmas.List.{take_all, take_more}
-use Rattle.std.proofs.lemmas.List.Elements.{Contains-append_left, Contains-push}
+use Rattle.std.proofs.lemmas.List.{take_all}
+use Rattle.std.proofs.lemmas.List.Elements.{Contains-append_cases}
 use Rattle.external_dependencies.specs.declared.links.Link.{Link}
+use Rattle.plan_store_lists.specs.Blocks.{items_in}
+use Rattle.plan_store_lists.proofs.RunLemmas.{items_more}
 use Rattle.plan_store_pairs.proofs.ListLemmas.{none}
-use Rattle.plan_store_pairs.proofs.TouchedLemmas.{each_more}
 use Rattle.plan_store_pairs.proofs.touches.lists_beside.Goals as goal
-use Rattle.plan_store_pairs.proofs.touches.lists_beside.Goals.{then-not-contains+in_ok-push, else-not-contains}
 
 -- none so far
-pub loop-link-init : goal.loop-link-init
-loop-link-init c link there = absurd (none link there)
+pub loop-block-init : goal.loop-block-init
+loop-block-init c link there = absurd (none link there)
 
--- one more link
-pub loop-link-preserved : goal.loop-link-preserved
-loop-link-preserved c =
-    let links = c.as_slice-link-items.result.now in
-    let others = c.args.others.now in
-    let link = c.link-item.result in
-    let index = c.loop-link.link-index in
-    let apps = c.loop-link.apps.items in
-    let front : take (index + 1) links ≡ take index links ++ link ∷ [] =
-    take_more links index link c.loop-link-test.true ∙ ap (λ x. take index links ++ x ∷ []) (sym c.link-item.is) in
-    let Told : List (List ℕ) → Link → Type 0 = λ named x. Contains others x ⊎ Contains named x.app in
-    let more : (x : Link) → Contains (take index links ++ link ∷ []) x → Told c.if-not-contains.apps.items x =
-    elim c.if-not-contains.branch [
-      | then-not-contains+in_ok-push w ↦
-          let pushed : w.push.new.self.items ≡ apps ++ link.app ∷ [] = w.in_ok-push.ensures.items in
-          rw (w.apps-is, pushed)
-          (each_more (Told apps) (Told (apps ++ link.app ∷ [])) (take index links) link (c.loop-link.invariant)
-          (λ x told. elim told [
-            | inl there ↦ inl there
-            | inr named ↦ inr (Contains-append_left apps (link.app ∷ []) x.app named)
-          ]) (inr (Contains-push apps link.app)))
-      | else-not-contains w ↦
-          let present : c.contains.result ≡ true = search rules in
-          rw w.apps-is (each_more (Told apps) (Told apps) (take index links) link (c.loop-link.invariant)
-          (λ x told. told) (inl (c.contains.ensures.0 present)))
-    ] in
-    subst (λ ls. (x : Link) → Contains ls x → Told c.if-not-contains.apps.items x) (sym front) more
+-- one more block
+pub loop-block-preserved : goal.loop-block-preserved
+loop-block-preserved c link there =
+    let blocks = c.blocks-block-items.result.now in
+    let block = c.block-item.result in
+    let index = c.loop-block.block-index in
+    let so_far = items_in (take index blocks) in
+    let among : Contains (so_far ++ block.items.items) link = subst (λ xs. Contains xs link)
+    (items_more blocks index block c.loop-block-test.true c.block-item.is) there in
+    elim (Contains-append_cases so_far block.items.items link among) [
+      | inl old ↦ elim (c.loop-block.invariant link old) [
+        | inl stays ↦ inl stays
+        | inr named ↦ inr (c.in_ok-push_beside.ensures.stay link.app named)
+      ]
+      | inr own ↦ c.in_ok-push_beside.ensures.told link (subst (λ xs. Contains xs link) (sym c.items.ensures) own)
+    ]
 
--- all links
+-- all blocks
 pub returns : goal.returns
 returns c =
-    let whole = take_all c.loop-link.link-index c.as_slice-link-items.result.now (omega arith)
-    ∙ c.as_slice-link-items.ensures.all in
-    subst (λ ls. (x : Link) → Contains ls x → Contains c.args.others.now x ⊎ Contains c.loop-link.apps.items x.app) whole
-    (c.loop-link.invariant)
+    let blocks = c.blocks-block-items.result.now in
+    subst (λ xs. (link : Link) → Contains xs link
+    → Contains c.args.others.now.items link ⊎ Contains c.loop-block.apps.items link.app)
+    (ap (λ bs. items_in bs) (take_all c.loop-block.block-index blocks (omega arith)) ∙ c.blocks-block-items.ensures)
+    c.loop-block.invariant

@@ -13,12 +13,13 @@ returns c sound =
     let lists = has_lists kept (has_rows kept) sound in
     let live = c.in_ok-rows.ensures.live s lists in
     let settled = c.in_ok-settled.settled in
-    let after : HasPairsAfter kept.pairs kept.in_force s settled =
-    subst (λ l. HasPairsAfter l kept.in_force s settled) c.in_ok-pairs.ensures (c.in_ok-settled.ensures s live) in
+    let after : HasPairsAfter kept.pairs kept.in_force.items s settled =
+    subst (λ l. HasPairsAfter l kept.in_force.items s settled) c.in_ok-pairs.ensures
+    (rw c.in_ok-links.ensures at c.in_ok-settled.ensures s live) in
     let same = rw c.in_ok-pairs.ensures at c.same_pairs.ensures in
     let rising = same.1 in (
       λ yes. let both = same.0.0 yes in
-          settled_to kept.in_force s kept.pairs settled rising after both.0 both.1,
+          settled_to kept.in_force.items s kept.pairs settled rising after both.0 both.1,
       λ are. same.0.1
-          (settled_from kept.in_force s kept.pairs settled rising after are),
+          (settled_from kept.in_force.items s kept.pairs settled rising after are),
     )

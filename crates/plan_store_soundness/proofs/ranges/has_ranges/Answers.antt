@@ -22,8 +22,8 @@ pub returns-then-not-are_links : goal.returns-then-not-are_links
 returns-then-not-are_links c numbered = (
   (λ yes. absurd (false≢true yes)),
   λ ranges. absurd (false≢true (sym c.if-not-are_links.true ∙ c.are_links.ensures.1
-      (subst (λ (l : List Link). All IsLink l) (sym c.as_slice.ensures.all)
-      (links_to c.args.content.now.in_force ranges.links)))),
+      (subst (λ (l : List Link). All IsLink l) (sym (c.as_slice.ensures.all ∙ c.in_ok-links.ensures))
+      (links_to c.args.content.now.in_force.items ranges.links)))),
 )
 
 pub returns : goal.returns
@@ -34,7 +34,8 @@ returns c numbered =
         definitions = c.in_ok-definitions.ensures.0 c.if-not-definitions.false;
         rows = tells.0 yes;
         days = c.has_days.ensures.0 c.if-not-has_days.false;
-        links = links_from kept.in_force (subst (λ (l : List Link). All IsLink l) c.as_slice.ensures.all
+        links = links_from kept.in_force.items (subst (λ (l : List Link). All IsLink l)
+            (c.as_slice.ensures.all ∙ c.in_ok-links.ensures)
             (c.are_links.ensures.0 c.if-not-are_links.false));
       }),
       λ ranges. tells.1 ranges.rows,

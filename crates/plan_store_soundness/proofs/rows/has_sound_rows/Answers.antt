@@ -50,7 +50,7 @@ returns-then-not-arrivals c = (
 pub returns : goal.returns
 returns c =
     let numbered = c.in_ok-numbered.ensures.0 c.if-not-numbered.false in
-    let links = c.args.content.now.in_force in
+    let links = c.args.content.now.in_force.items in
     IfOk-weaker c.has_no_loop.result (λ b. IsTrue b ↔ ((app : List ℕ) → OnLoop links app → ⊥)) _
     (λ b tells. (
       (λ yes. record {

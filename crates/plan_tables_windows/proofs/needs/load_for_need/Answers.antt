@@ -15,3 +15,6 @@ returns-in-Daily g c =
     let lists = content_of c.args.lists.now in
     gathers_none g.S.Store c.args.conn.now lists (Ok tt) (λ rest l. IsReadyFor rest c.args.need.now l) tt
     (λ rest part sound. subst (λ n. IsReadyFor rest n lists) (sym c.in-Daily.is) tt)
+
+pub returns-in-LongTerm : goal.returns-in-LongTerm
+returns-in-LongTerm g c = rw c.in-LongTerm.is (rw c.in-LongTerm.is at c.find_asked.ensures)

@@ -5,7 +5,7 @@ pub returns : goal.returns
 returns g c =
     let reads = c.read_window.follows.holds-at-none in
     read_printed g.S.PlanStore _ _ _ _ reads _ c.in_ok-view.was c.in_ok-plan_trial.field-0 _ (λ honest.
-    let shows = rw c.in_ok-view.was at reads.right honest in
+    let shows = rw (c.in_ok-view.was, c.need_of_plan.ensures) at reads.right honest in
     c.in_ok-plan_trial.ensures (g.S.PlanStore.content c.args.store.now) shows (c.requires (reads.honest honest)))
 
 pub returns-in_err-plan_trial : goal.returns-in_err-plan_trial

@@ -1,5 +1,4 @@
 use Rattle.std.proofs.Common.{◌≡◌, ◌∙◌, List, ap, filter, subst, sym}
-use Rattle.std.proofs.lemmas.Bool.{false≢true}
 use Rattle.occurrences.specs.declared.place.CurrentRow.{CurrentRow}
 use Rattle.occurrences.specs.declared.place.Deletion.{Deletion}
 use Rattle.occurrences.specs.declared.row.Row.{Row}
@@ -52,8 +51,8 @@ pub from_rows-requires-2 : goal.from_rows-requires-2
 from_rows-requires-2 c =
     rw c.deref-4.ensures.value (barring c.args.self.now c.in_ok-barring.barring.items c.in_ok-barring.ensures).keyed
 
-pub invariant_of-self-3 : goal.invariant_of-self-3
-invariant_of-self-3 c =
+pub invariant_of-self-2 : goal.invariant_of-self-2
+invariant_of-self-2 c =
     let kept = c.args.self.now in
     let history = c.in_ok-history.history.items in
     let deletions = c.in_ok-deletions.deletions.items in
@@ -69,7 +68,6 @@ invariant_of-self-3 c =
       cp_seats = c.in_ok-seats.ensures.cp;
       history_seats = rw same (rw c.deref.ensures.value at c.in_ok-seats.ensures.history);
       deletion_seats = rw alike (rw c.deref-2.ensures.value at c.in_ok-seats.ensures.deletions);
-      plan_lasts = λ on. absurd (false≢true on);
     }
 
 pub returns-clause-ok : goal.returns-clause-ok
@@ -89,7 +87,7 @@ returns-clause-ok c = λ i. record {
         ∙ look_filter of_deletion (bars c.args.self.now.bounds)
         c.args.self.now.deletions.items c.args.self.now.deletion_rows serial) i;
   };
-  in_force = c.args.self.now.in_force;
+  in_force = c.args.self.now.in_force.items;
   pairs = c.args.self.now.pairs;
   jobs = (content_of c.args.self.now).jobs;
 }

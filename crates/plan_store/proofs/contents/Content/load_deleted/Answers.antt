@@ -17,5 +17,4 @@ invariant_of-self c =
       cp_seats = seats_stay of_current kept.cp.items kept.seats seats kept.cp_seats stay;
       history_seats = seats_stay of_row kept.history.items kept.seats seats kept.history_seats stay;
       deletion_seats = c.load.ensures.seated;
-      plan_lasts = kept.plan_lasts;
     }

@@ -1,8 +1,6 @@
-use Rattle.std.proofs.Common.{◌∙◌, ap, subst, sym}
+use Rattle.std.proofs.Common.{◌∙◌, ap, sym}
 use Rattle.plan_store_lists.specs.Rows.{of_current, of_deletion, of_row}
 use Rattle.plan_store.specs.Changes.{redefined}
-use Rattle.plan_store.specs.HistoryReads.{HasPlanLasts}
-use Rattle.plan_store.proofs.KeptLastLemmas.{plan_stays}
 use Rattle.plan_store.proofs.SeatedLemmas.{seats_after}
 use Rattle.plan_store.proofs.contents.Content.make.Goals as goal
 
@@ -27,13 +25,6 @@ invariant_of-self c =
       deletion_seats = seats_after of_deletion change.deletions kept.deletions.items c.move_rows-4.new.list.items
           kept.seats c.move_rows-4.ensures.rows c.move_rows-4.ensures.moved c.requires.fits.deletions
           kept.deletion_seats room.deletion_seats;
-      plan_lasts = λ on. subst (HasPlanLasts kept.definitions c.new_or_old-self.result c.put_in_force.new.links
-          c.move_rows-2.new.list.items c.move_rows-3.new.list.items) (sym c.keep_plan_lasts.ensures.rows)
-          (plan_stays change (c.keeps_reads.ensures.0 (c.keep_plan_lasts.ensures.stays on)) kept.definitions kept.bounds
-          c.new_or_old-self.result kept.in_force c.put_in_force.new.links kept.cp.items c.move_rows-2.new.list.items
-          kept.history.items c.move_rows-3.new.list.items kept.buffer.plan_lasts.items c.new_or_old-self.ensures
-          c.put_in_force.ensures c.move_rows-2.ensures.moved c.move_rows-3.ensures.moved
-          (kept.plan_lasts (c.keep_plan_lasts.ensures.was on)));
     }
 
 pub returns : goal.returns

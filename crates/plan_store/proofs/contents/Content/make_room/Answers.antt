@@ -25,6 +25,7 @@ returns-in-Ok-clause-taken c =
           cp = has.cp;
           history = has.history;
           deletions = has.deletions;
+          lists = has.lists;
           jobs = has.jobs;
           ltp_seats = has.ltp_seats;
           cp_seats = has.cp_seats;

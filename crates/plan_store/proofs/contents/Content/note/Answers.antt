@@ -18,5 +18,4 @@ invariant_of-self c =
           kept.history_seats stay;
       deletion_seats = seats_stay of_deletion kept.deletions.items kept.seats c.note_puts.new.seats
           kept.deletion_seats stay;
-      plan_lasts = kept.plan_lasts;
     }

@@ -19,6 +19,7 @@ returns-clause-room c = record {
   cp = rw c.deref-2.ensures.value at c.in_ok-reserve-2.ensures.room;
   history = rw c.deref-3.ensures.value at c.in_ok-reserve-3.ensures.room;
   deletions = rw c.deref-4.ensures.value at c.in_ok-reserve-4.ensures.room;
+  lists = c.in_ok-reserve_list.ensures.room;
   jobs = omega (arith, c.in_ok-reserve-5.ensures);
   ltp_seats = c.requires.seats.ltp_seats;
   cp_seats = c.requires.seats.cp_seats;

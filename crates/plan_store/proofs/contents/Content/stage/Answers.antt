@@ -22,6 +22,7 @@ returns-in-Ok-clause-ready c =
           cp = has.rows.cp;
           history = has.rows.history;
           deletions = has.rows.deletions;
+          lists = has.rows.lists;
           jobs = has.rows.jobs;
           ltp_seats = has.rows.ltp_seats;
           cp_seats = has.rows.cp_seats;

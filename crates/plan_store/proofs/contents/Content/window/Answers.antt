@@ -69,7 +69,7 @@ returns-in-LongTerm-clause-shows c =
     let shows = rw c.deref-in-LongTerm.ensures.value
     at c.window_of_lasts-in-LongTerm.ensures.shown in
     subst (λ n. Shows n c.window_of_lasts-in-LongTerm.result (content_of kept)) (sym c.in-LongTerm.is)
-    (shows_plan c.window_of_lasts-in-LongTerm.result kept kept.buffer.plan_lasts.items
+    (shows_plan c.in-LongTerm.field-0 c.window_of_lasts-in-LongTerm.result kept kept.buffer.lasts.items
     c.window_of_lasts-in-LongTerm.ensures.whole filled c.window_of_lasts-in-LongTerm.ensures.history shows)
 
 pub returns-in-Daily-clause-shows : goal.returns-in-Daily-clause-shows

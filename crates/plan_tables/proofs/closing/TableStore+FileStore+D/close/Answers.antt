@@ -47,7 +47,7 @@ returns-in-Ok-clause-found_again g c none sure clean left out d found =
     (λ db may. tells_kept over_files (λ s. settled_at s g.met.D.Disk.seen_may_stay) own.session.conn
     c.into_connection-connection.result (kept_in (file_state own.session.conn) (content_of own.lists)) own.session.failures
     c.into_connection-connection.ensures none
-    (∥∥₁_map (certain own.session.in_doubt sure own.stored) (λ h whole clean. (h whole clean).kept.stored)) copied.was_clean c.schema-schema.ensures.live db may)
+    (∥∥₁_map (certain own.session.in_doubt sure own.stored) (λ h whole clean. (h whole clean).stored)) copied.was_clean c.schema-schema.ensures.live db may)
     g.met.D.Disk.seen_may_stay d found
 
 pub returns-in-Err-clause-stays : goal.returns-in-Err-clause-stays
@@ -73,7 +73,7 @@ returns-in-Err-clause-tells g c none sure clean db found =
     tells_kept over_files (λ s. settled_at s g.met.D.Disk.seen_may_stay) own.session.conn
     c.into_connection-connection.result (kept_in (file_state own.session.conn) (content_of own.lists)) own.session.failures
     c.into_connection-connection.ensures none
-    (∥∥₁_map (certain own.session.in_doubt sure own.stored) (λ h whole clean. (h whole clean).kept.stored)) (omega (arith, quiet.clean, clean))
+    (∥∥₁_map (certain own.session.in_doubt sure own.stored) (λ h whole clean. (h whole clean).stored)) (omega (arith, quiet.clean, clean))
     c.schema-schema.ensures.live db (quiet.outcomes db found)
 
 pub returns-in-Err-clause-blames : goal.returns-in-Err-clause-blames

@@ -28,7 +28,7 @@ returns-clause-admits g c clean _ =
     let lists = content_of old.lists in
     let change = c.args.change.now in
     ∥∥₁_elim (kept_sure old.session.in_doubt old.session.failures c.requires.whole.1 c.requires.whole.0 old.stored) no_prop (λ h.
-    let k = (h clean).kept in
+    let k = h clean in
     let can : CanRead before = (clean, k.stored.is_open) in
     let yes = c.requires.fit.1 (
       fits_lists before lists change old.jobless k.part (c.requires.knows can) (c.requires.fits can),

@@ -41,9 +41,7 @@ invariant_of-self-in-Ok g c =
             schema = c.in-Ok.ensures.schema;
             crash = c.change_both.ensures.crash;
           })
-          old.session.failures old.session.in_doubt c.are_both-self.result (λ is.
-          let both = c.are_both-self.ensures is in
-          let reads = c.leaves_reads-stays.ensures both.1 in (both.0, reads.0, reads.1));
+          old.session.failures old.session.in_doubt;
       told = told_commit old c.args.change c.args.prepared.now.moves r.whole r.fits r.sound r.moves
           c.change_both.new.conn c.change_both.ensures.crash;
     }

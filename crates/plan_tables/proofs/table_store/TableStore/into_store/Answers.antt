@@ -27,5 +27,5 @@ returns-clause-tells g c none sure clean db left =
     tells_kept g.S.Store g.met.S.Store.settled c.args.self.session.conn c.into_connection-conn.result
     (kept_in (state g.S.Store c.args.self.session.conn) (content_of c.args.self.lists)) c.args.self.session.failures
     c.into_connection-conn.ensures none
-    (∥∥₁_map (certain c.args.self.session.in_doubt sure c.args.self.stored) (λ h whole clean. (h whole clean).kept.stored)) before c.schema-schema.ensures.live db
+    (∥∥₁_map (certain c.args.self.session.in_doubt sure c.args.self.stored) (λ h whole clean. (h whole clean).stored)) before c.schema-schema.ensures.live db
     (c.into_store.ensures.quiet.outcomes db left)

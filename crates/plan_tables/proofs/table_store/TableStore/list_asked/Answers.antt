@@ -18,7 +18,7 @@ use Rattle.plan_tables.proofs.LookLemmas.{looks_still}
 use Rattle.plan_tables.proofs.SessionLemmas.{asks_blamed, counts_device, counts_none, device_is, failed_asked, keeps_asked, keeps_unchecked, kept_checked}
 use Rattle.plan_tables.proofs.SessionLemmas.{looks_checked, looks_then, looks_unchecked, mild_never, mild_opens, none_less, opens_asked, shut_unchecked}
 use Rattle.plan_tables.proofs.SessionLemmas.{told_asked, told_checked}
-use Rattle.plan_tables.proofs.ReadyLemmas.{holds_still}
+use Rattle.plan_tables.proofs.StoredLemmas.{keeps_still}
 use Rattle.plan_tables.proofs.table_store.TableStore.list_asked.Goals as goal
 
 -- ---- where the check failed
@@ -29,8 +29,8 @@ invariant_of-self g c =
     let lists = content_of old.lists in
     record {
       jobless = old.jobless;
-      stored = keeps_unchecked old.session c.check.new.self lists old.plan_ready old.stored c.in-Err.fault c.in-Err.ensures;
-      told = told_checked old.session c.check.new.self lists old.plan_ready old.stored c.check.ensures old.told;
+      stored = keeps_unchecked old.session c.check.new.self lists old.stored c.in-Err.fault c.in-Err.ensures;
+      told = told_checked old.session c.check.new.self lists old.stored c.check.ensures old.told;
     }
 
 pub returns-in-Err : goal.returns-in-Err
@@ -40,7 +40,7 @@ returns-in-Err g c =
     let checks = c.in-Err.ensures in
     let fault = c.in-Err.fault in
     let told = c.listing_fault.ensures in
-    let looks = looks_unchecked old.session c.check.new.self lists old.plan_ready old.stored fault checks in
+    let looks = looks_unchecked old.session c.check.new.self lists old.stored fault checks in
     record {
       all = λ honest numbered. tt;
       part = λ honest either numbered.
@@ -72,15 +72,15 @@ invariant_of-self-in-Ok-list_kept g c =
     let mid = c.check.new.self in
     let lists = content_of old.lists in
     let checks = c.in-Ok.ensures in
-    let kept = kept_checked old.session mid lists old.plan_ready old.stored checks in
+    let kept = kept_checked old.session mid lists old.stored checks in
     let asks = c.in-Ok-list_kept.ensures.asks in
     record {
       jobless = old.jobless;
-      stored = keeps_asked g.S.Store mid.conn c.list_kept.new.conn lists old.plan_ready None asks kept mid.failures mid.in_doubt lists old.plan_ready
-          checks.whole.1 checks.whole.2 (λ clean. holds_still (state g.S.Store mid.conn)
-          (state g.S.Store c.list_kept.new.conn) lists old.plan_ready);
-      told = told_asked g.S.Store mid.conn c.list_kept.new.conn lists old.plan_ready None asks kept
-          (told_checked old.session mid lists old.plan_ready old.stored checks old.told);
+      stored = keeps_asked g.S.Store mid.conn c.list_kept.new.conn lists None asks kept mid.failures mid.in_doubt lists
+          checks.whole.1 checks.whole.2 (λ clean. keeps_still (state g.S.Store mid.conn)
+          (state g.S.Store c.list_kept.new.conn) lists);
+      told = told_asked g.S.Store mid.conn c.list_kept.new.conn lists None asks kept
+          (told_checked old.session mid lists old.stored checks old.told);
     }
 
 pub invariant_of-self-in-Err-Sink : goal.invariant_of-self-in-Err-Sink
@@ -89,15 +89,15 @@ invariant_of-self-in-Err-Sink g c =
     let mid = c.check.new.self in
     let lists = content_of old.lists in
     let checks = c.in-Ok.ensures in
-    let kept = kept_checked old.session mid lists old.plan_ready old.stored checks in
+    let kept = kept_checked old.session mid lists old.stored checks in
     let asks = rw c.in-Err-Sink.field-0-is at c.in-Err-Sink.ensures.asks in
     record {
       jobless = old.jobless;
-      stored = keeps_asked g.S.Store mid.conn c.list_kept.new.conn lists old.plan_ready None asks kept mid.failures mid.in_doubt lists old.plan_ready
-          checks.whole.1 checks.whole.2 (λ clean. holds_still (state g.S.Store mid.conn)
-          (state g.S.Store c.list_kept.new.conn) lists old.plan_ready);
-      told = told_asked g.S.Store mid.conn c.list_kept.new.conn lists old.plan_ready None asks kept
-          (told_checked old.session mid lists old.plan_ready old.stored checks old.told);
+      stored = keeps_asked g.S.Store mid.conn c.list_kept.new.conn lists None asks kept mid.failures mid.in_doubt lists
+          checks.whole.1 checks.whole.2 (λ clean. keeps_still (state g.S.Store mid.conn)
+          (state g.S.Store c.list_kept.new.conn) lists);
+      told = told_asked g.S.Store mid.conn c.list_kept.new.conn lists None asks kept
+          (told_checked old.session mid lists old.stored checks old.told);
     }
 
 pub invariant_of-self-in-Err-Fault : goal.invariant_of-self-in-Err-Fault
@@ -108,16 +108,16 @@ invariant_of-self-in-Err-Fault g c =
     let why = c.in-Err-Fault.why in
     let lists = content_of old.lists in
     let checks = c.in-Ok.ensures in
-    let kept = kept_checked old.session mid lists old.plan_ready old.stored checks in
+    let kept = kept_checked old.session mid lists old.stored checks in
     let asks = asks_blamed lists c.blame.ensures (rw c.in-Err-Fault.field-0-is at c.in-Err-Fault.ensures.asks) in
     record {
       jobless = old.jobless;
-      stored = keeps_asked g.S.Store mid.conn now.conn lists old.plan_ready (Some why) asks kept now.failures now.in_doubt lists old.plan_ready
+      stored = keeps_asked g.S.Store mid.conn now.conn lists (Some why) asks kept now.failures now.in_doubt lists
           (c.blame.ensures.failures ∙ ap (failures_after (Some why)) checks.whole.1)
           (c.blame.ensures.in_doubt ∙ ap (doubt_after (Some why)) checks.whole.2)
-          (λ clean. holds_still (state g.S.Store mid.conn) (state g.S.Store now.conn) lists old.plan_ready);
-      told = told_asked g.S.Store mid.conn now.conn lists old.plan_ready (Some why) asks kept
-          (told_checked old.session mid lists old.plan_ready old.stored checks old.told);
+          (λ clean. keeps_still (state g.S.Store mid.conn) (state g.S.Store now.conn) lists);
+      told = told_asked g.S.Store mid.conn now.conn lists (Some why) asks kept
+          (told_checked old.session mid lists old.stored checks old.told);
     }
 
 pub returns-in-Ok-list_kept : goal.returns-in-Ok-list_kept
@@ -126,19 +126,19 @@ returns-in-Ok-list_kept g c =
     let mid = c.check.new.self in
     let lists = content_of old.lists in
     let checks = c.in-Ok.ensures in
-    let kept = kept_checked old.session mid lists old.plan_ready old.stored checks in
+    let kept = kept_checked old.session mid lists old.stored checks in
     let asks = c.in-Ok-list_kept.ensures.asks in
     let s1 = state g.S.Store mid.conn in
     let s2 = state g.S.Store c.list_kept.new.conn in
-    let looks = looks_still s1 s2 asks.survives lists (∥∥₁_map kept (λ h clean. (h clean).kept)) asks.stays in
-    let met = looks_checked old.session mid lists old.plan_ready old.stored checks c.requires in
+    let looks = looks_still s1 s2 asks.survives lists kept asks.stays in
+    let met = looks_checked old.session mid lists old.stored checks c.requires in
     let did = looks_then (state g.S.Store old.session.conn) s1 s2 lists lists lists met looks in
-    let opens = opens_asked g.S.Store mid.conn c.list_kept.new.conn lists old.plan_ready None asks kept in
+    let opens = opens_asked g.S.Store mid.conn c.list_kept.new.conn lists None asks kept in
     record {
       all = λ (clean, opens). subst (λ (k : Content). AreNumbered k.sets → EmitsAll g.K.ItemSink.accepts
           (IsListing (what_of c.args.asked) (option_copied c.args.app) k) c.args.sink.now c.list_kept.new.sink
           c.in-Ok-list_kept.count) (met.same (looks.clean clean, looks.opens clean opens))
-          (c.in-Ok-list_kept.ensures.all clean (∥∥₁_map kept (λ h. (h (looks.clean clean)).kept)));
+          (c.in-Ok-list_kept.ensures.all clean (∥∥₁_map kept (λ h. h (looks.clean clean))));
       part = λ honest either numbered. tt;
       same = did.same;
       crash = did.crash;
@@ -159,14 +159,14 @@ returns-in-Err-Sink g c =
     let mid = c.check.new.self in
     let lists = content_of old.lists in
     let checks = c.in-Ok.ensures in
-    let kept = kept_checked old.session mid lists old.plan_ready old.stored checks in
+    let kept = kept_checked old.session mid lists old.stored checks in
     let asks = rw c.in-Err-Sink.field-0-is at c.in-Err-Sink.ensures.asks in
     let s1 = state g.S.Store mid.conn in
     let s2 = state g.S.Store c.list_kept.new.conn in
-    let looks = looks_still s1 s2 asks.survives lists (∥∥₁_map kept (λ h clean. (h clean).kept)) asks.stays in
-    let met = looks_checked old.session mid lists old.plan_ready old.stored checks c.requires in
+    let looks = looks_still s1 s2 asks.survives lists kept asks.stays in
+    let met = looks_checked old.session mid lists old.stored checks c.requires in
     let did = looks_then (state g.S.Store old.session.conn) s1 s2 lists lists lists met looks in
-    let opens = opens_asked g.S.Store mid.conn c.list_kept.new.conn lists old.plan_ready None asks kept in
+    let opens = opens_asked g.S.Store mid.conn c.list_kept.new.conn lists None asks kept in
     record {
       all = λ honest numbered. tt;
       part = λ honest either.
@@ -176,7 +176,7 @@ returns-in-Err-Sink g c =
           (IsListing (what_of c.args.asked) (option_copied c.args.app) k) c.args.sink.now c.list_kept.new.sink
           (fault_so Sink))
           (met.same (calm, (checks.fine calm).stays_open honest.1))
-          (rw c.in-Err-Sink.field-0-is at (c.in-Err-Sink.ensures.part clean (∥∥₁_map kept (λ h. (h calm).kept))));
+          (rw c.in-Err-Sink.field-0-is at (c.in-Err-Sink.ensures.part clean (∥∥₁_map kept (λ h. h calm))));
       same = did.same;
       crash = did.crash;
       blames = λ device. absurd (no_device _ refl device);
@@ -198,16 +198,16 @@ returns-in-Err-Fault g c =
     let why = c.in-Err-Fault.why in
     let lists = content_of old.lists in
     let checks = c.in-Ok.ensures in
-    let kept = kept_checked old.session mid lists old.plan_ready old.stored checks in
+    let kept = kept_checked old.session mid lists old.stored checks in
     let asks = asks_blamed lists c.blame.ensures (rw c.in-Err-Fault.field-0-is at c.in-Err-Fault.ensures.asks) in
     let s1 = state g.S.Store mid.conn in
     let s2 = state g.S.Store last.conn in
-    let looks = looks_still s1 s2 asks.survives lists (∥∥₁_map kept (λ h clean. (h clean).kept)) asks.stays in
+    let looks = looks_still s1 s2 asks.survives lists kept asks.stays in
     let counted = c.blame.ensures.failures ∙ ap (failures_after (Some why)) checks.whole.1 in
     let doubted = c.blame.ensures.in_doubt ∙ ap (doubt_after (Some why)) checks.whole.2 in
-    let met = looks_checked old.session mid lists old.plan_ready old.stored checks c.requires in
+    let met = looks_checked old.session mid lists old.stored checks c.requires in
     let did = looks_then (state g.S.Store old.session.conn) s1 s2 lists lists lists met looks in
-    let opens = opens_asked g.S.Store mid.conn last.conn lists old.plan_ready (Some why) asks kept in
+    let opens = opens_asked g.S.Store mid.conn last.conn lists (Some why) asks kept in
     let told = c.listing_fault-in-Err-Fault.ensures ∙ ap listing_fault c.blame.ensures.fault in
     record {
       all = λ honest numbered. tt;
@@ -222,7 +222,7 @@ returns-in-Err-Fault g c =
           (subst (λ (k : Content). AreNumbered k.sets → EmitsPart g.K.ItemSink.accepts g.K.ItemSink.refuses
           (IsListing (what_of c.args.asked) (option_copied c.args.app) k) c.args.sink.now c.list_kept.new.sink
           (listing_fault (fault_of why))) is
-          (rw c.in-Err-Fault.field-0-is at (c.in-Err-Fault.ensures.part was (∥∥₁_map kept (λ h. (h calm).kept)))) numbered);
+          (rw c.in-Err-Fault.field-0-is at (c.in-Err-Fault.ensures.part was (∥∥₁_map kept (λ h. h calm)))) numbered);
       same = did.same;
       crash = did.crash;
       blames = λ device. counts_device why old.session.failures last.failures c.requires counted
@@ -231,7 +231,7 @@ returns-in-Err-Fault g c =
       still = tt;
       steady = λ memory. counts_none why old.session.failures last.failures c.requires counted
           (store_memory (fault_of why) (sym told ∙ memory));
-      caused = λ clean device. failed_asked old.session mid last.conn lists old.plan_ready (Some why) checks asks kept clean
+      caused = λ clean device. failed_asked old.session mid last.conn lists (Some why) checks asks kept clean
           (ap Some (device_is why (store_device (fault_of why) (sym told ∙ device))));
       honest = λ (clean, is_open). (did.clean clean, did.opens clean is_open);
       clean = did.clean;

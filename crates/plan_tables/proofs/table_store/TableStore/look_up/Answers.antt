@@ -1,5 +1,5 @@
 use Rattle.std.proofs.Common.{◌∙◌, None, Some, ap}
-use Rattle.std.proofs.Math.Logic.{∥∥₁_elim, ∥∥₁_map}
+use Rattle.std.proofs.Math.Logic.{∥∥₁_elim}
 use Rattle.std.proofs.lemmas.Result.{err_from_is_err_and}
 use Rattle.sqlite.specs.Held.{state}
 use Rattle.sqlite.specs.State.{HasCleanDisk}
@@ -9,7 +9,7 @@ use Rattle.plan_tables.specs.Session.{doubt_after, failures_after}
 use Rattle.plan_tables.proofs.LookLemmas.{looks_still}
 use Rattle.plan_tables.proofs.SessionLemmas.{asked, asks_blamed, keeps_asked, keeps_unchecked, kept_checked, looks_checked, looks_unchecked, reads_err, reads_ok, reads_unchecked, told_asked, told_checked}
 use Rattle.plan_tables.proofs.SetLemmas.{found_set}
-use Rattle.plan_tables.proofs.ReadyLemmas.{holds_still}
+use Rattle.plan_tables.proofs.StoredLemmas.{keeps_still}
 use Rattle.plan_tables.proofs.table_store.TableStore.look_up.Goals as goal
 
 pub invariant_of-self : goal.invariant_of-self
@@ -18,8 +18,8 @@ invariant_of-self g c =
     let lists = content_of old.lists in
     record {
       jobless = old.jobless;
-      stored = keeps_unchecked old.session c.check.new.self lists old.plan_ready old.stored c.in_err-check.field-0.0 c.in_err-check.ensures;
-      told = told_checked old.session c.check.new.self lists old.plan_ready old.stored c.check.ensures old.told;
+      stored = keeps_unchecked old.session c.check.new.self lists old.stored c.in_err-check.field-0.0 c.in_err-check.ensures;
+      told = told_checked old.session c.check.new.self lists old.stored c.check.ensures old.told;
     }
 
 -- the connection is in no transaction where the session is blamed
@@ -32,15 +32,15 @@ invariant_of-self-in-Ok g c =
     let mid = c.check.new.self in
     let lists = content_of old.lists in
     let checks = c.in_ok-check.ensures in
-    let kept = kept_checked old.session mid lists old.plan_ready old.stored checks in
+    let kept = kept_checked old.session mid lists old.stored checks in
     let asks = c.in-Ok.ensures.asks lists in
     record {
       jobless = old.jobless;
-      stored = keeps_asked g.S.Store mid.conn c.job_kept.new.conn lists old.plan_ready None asks kept mid.failures mid.in_doubt lists old.plan_ready
-          checks.whole.1 checks.whole.2 (λ clean. holds_still (state g.S.Store mid.conn)
-          (state g.S.Store c.job_kept.new.conn) lists old.plan_ready);
-      told = told_asked g.S.Store mid.conn c.job_kept.new.conn lists old.plan_ready None asks kept
-          (told_checked old.session mid lists old.plan_ready old.stored checks old.told);
+      stored = keeps_asked g.S.Store mid.conn c.job_kept.new.conn lists None asks kept mid.failures mid.in_doubt lists
+          checks.whole.1 checks.whole.2 (λ clean. keeps_still (state g.S.Store mid.conn)
+          (state g.S.Store c.job_kept.new.conn) lists);
+      told = told_asked g.S.Store mid.conn c.job_kept.new.conn lists None asks kept
+          (told_checked old.session mid lists old.stored checks old.told);
     }
 
 pub invariant_of-self-in-Err : goal.invariant_of-self-in-Err
@@ -50,16 +50,16 @@ invariant_of-self-in-Err g c =
     let now = c.blame.new.self in
     let lists = content_of old.lists in
     let checks = c.in_ok-check.ensures in
-    let kept = kept_checked old.session mid lists old.plan_ready old.stored checks in
+    let kept = kept_checked old.session mid lists old.stored checks in
     let asks = asks_blamed lists c.blame.ensures (c.in-Err.ensures.asks lists) in
     record {
       jobless = old.jobless;
-      stored = keeps_asked g.S.Store mid.conn now.conn lists old.plan_ready (Some c.in-Err.why) asks kept now.failures now.in_doubt lists old.plan_ready
+      stored = keeps_asked g.S.Store mid.conn now.conn lists (Some c.in-Err.why) asks kept now.failures now.in_doubt lists
           (c.blame.ensures.failures ∙ ap (failures_after (Some c.in-Err.why)) checks.whole.1)
           (c.blame.ensures.in_doubt ∙ ap (doubt_after (Some c.in-Err.why)) checks.whole.2)
-          (λ clean. holds_still (state g.S.Store mid.conn) (state g.S.Store now.conn) lists old.plan_ready);
-      told = told_asked g.S.Store mid.conn now.conn lists old.plan_ready (Some c.in-Err.why) asks kept
-          (told_checked old.session mid lists old.plan_ready old.stored checks old.told);
+          (λ clean. keeps_still (state g.S.Store mid.conn) (state g.S.Store now.conn) lists);
+      told = told_asked g.S.Store mid.conn now.conn lists (Some c.in-Err.why) asks kept
+          (told_checked old.session mid lists old.stored checks old.told);
     }
 
 pub returns-in_err-check : goal.returns-in_err-check
@@ -68,7 +68,7 @@ returns-in_err-check g c =
     let fault = c.in_err-check.field-0.0 in
     let p = err_from_is_err_and c.from_residual.result c.from_residual.ensures.1 in
     rw (p.1, p.2) (reads_unchecked old _ fault c.in_err-check.ensures _
-    (looks_unchecked old.session c.check.new.self (content_of old.lists) old.plan_ready old.stored fault c.in_err-check.ensures))
+    (looks_unchecked old.session c.check.new.self (content_of old.lists) old.stored fault c.in_err-check.ensures))
 
 pub returns-in-Ok : goal.returns-in-Ok
 returns-in-Ok g c =
@@ -76,17 +76,17 @@ returns-in-Ok g c =
     let mid = c.check.new.self in
     let lists = content_of old.lists in
     let checks = c.in_ok-check.ensures in
-    let kept = kept_checked old.session mid lists old.plan_ready old.stored checks in
+    let kept = kept_checked old.session mid lists old.stored checks in
     let asks = c.in-Ok.ensures.asks lists in
     let s1 = state g.S.Store mid.conn in
     let s2 = state g.S.Store c.job_kept.new.conn in
-    let looks = looks_still s1 s2 asks.survives lists (∥∥₁_map kept (λ h clean. (h clean).kept)) asks.stays in
-    reads_ok old _ _ tt (asked old _ mid lists old.plan_ready None checks asks kept checks.whole.1 checks.whole.2 looks)
+    let looks = looks_still s1 s2 asks.survives lists kept asks.stays in
+    reads_ok old _ _ tt (asked old _ mid lists None checks asks kept checks.whole.1 checks.whole.2 looks)
     (λ can.
     let calm : HasCleanDisk s1 = looks.clean can.0 in
-    ∥∥₁_elim kept (found_set _ _) (λ h. c.in-Ok.ensures.found can.0 lists (h calm).kept)
+    ∥∥₁_elim kept (found_set _ _) (λ h. c.in-Ok.ensures.found can.0 lists (h calm))
     ∙ ap (λ (k : Content). k.jobs c.args.number)
-    ((looks_checked old.session mid lists old.plan_ready old.stored checks checks.whole.0).same (calm, looks.opens can.0 can.1)))
+    ((looks_checked old.session mid lists old.stored checks checks.whole.0).same (calm, looks.opens can.0 can.1)))
 
 pub returns-in-Err : goal.returns-in-Err
 returns-in-Err g c =
@@ -94,10 +94,10 @@ returns-in-Err g c =
     let mid = c.check.new.self in
     let lists = content_of old.lists in
     let checks = c.in_ok-check.ensures in
-    let kept = kept_checked old.session mid lists old.plan_ready old.stored checks in
+    let kept = kept_checked old.session mid lists old.stored checks in
     let asks = asks_blamed lists c.blame.ensures (c.in-Err.ensures.asks lists) in
     reads_err old _ _ c.blame.result c.in-Err.why c.blame.ensures.fault
-    (asked old _ mid lists old.plan_ready (Some c.in-Err.why) checks asks kept
+    (asked old _ mid lists (Some c.in-Err.why) checks asks kept
     (c.blame.ensures.failures ∙ ap (failures_after (Some c.in-Err.why)) checks.whole.1)
     (c.blame.ensures.in_doubt ∙ ap (doubt_after (Some c.in-Err.why)) checks.whole.2)
-    (looks_still (state g.S.Store mid.conn) (state g.S.Store c.blame.new.self.conn) asks.survives lists (∥∥₁_map kept (λ h clean. (h clean).kept)) asks.stays))
+    (looks_still (state g.S.Store mid.conn) (state g.S.Store c.blame.new.self.conn) asks.survives lists kept asks.stays))

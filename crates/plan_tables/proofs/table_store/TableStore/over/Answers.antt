@@ -1,5 +1,4 @@
 use Rattle.std.proofs.Common.{subst, sym}
-use Rattle.std.proofs.lemmas.Bool.{false≢true}
 use Rattle.std.proofs.lemmas.Grind.{merely}
 use Rattle.sqlite.specs.Held.{state}
 use Rattle.planner_machine.specs.Sound.{IsSound}
@@ -20,13 +19,10 @@ invariant_of-result-2 g c =
           let stored = c.requires.opened clean in
           let kept = kept_part c.tables_represent_sets.ensures s made lists c.keep_part.ensures.same stored in
           record {
-            kept = record {
-              stored = subst (IsStored s) (sym kept) stored;
-              sound = subst IsSound (sym kept) c.requires.sound;
-              part = subst (λ (rest : Rest). IsPartOf rest lists)
-                  (sym (told_kept c.tables_represent_sets.ensures s made stored)) c.keep_part.ensures.part;
-            };
-            ready = λ no. absurd (false≢true no);
+            stored = subst (IsStored s) (sym kept) stored;
+            sound = subst IsSound (sym kept) c.requires.sound;
+            part = subst (λ (rest : Rest). IsPartOf rest lists)
+                (sym (told_kept c.tables_represent_sets.ensures s made stored)) c.keep_part.ensures.part;
           });
       told = merely (λ clean. stored_sound g.S.Store g.met.S.Store.settled c.args.conn made
           (c.requires.opened clean) c.requires.sound c.schema.ensures.live);

@@ -5,7 +5,7 @@ use Rattle.planner_machine.specs.Content.{Content}
 use Rattle.plan_store.specs.Contents.{content_of}
 use Rattle.plan_store.specs.Views.{Shows}
 use Rattle.plan_store.specs.declared.stores.StoreFault.TheVariants.{Device}
-use Rattle.plan_tables.specs.Kept.{Holds, kept_in}
+use Rattle.plan_tables.specs.Kept.{IsKept, kept_in}
 use Rattle.plan_tables.proofs.LookLemmas.{kept_sure}
 use Rattle.plan_tables.proofs.WindowLemmas.{window_kept}
 use Rattle.plan_tables.proofs.table_store.TableStorePlanStore.read_window.Goals as goal
@@ -17,7 +17,7 @@ invariant_of-self g c =
     record {
       jobless = ap (λ (k : Content). k.jobs) c.fill_window.ensures.same ∙ old.jobless;
       stored = ∥∥₁_map old.stored (λ h whole clean opens.
-          subst (λ (k : Content). Holds (state g.S.Store old.session.conn) k old.plan_ready) (sym c.fill_window.ensures.same)
+          subst (λ (k : Content). IsKept (state g.S.Store old.session.conn) k) (sym c.fill_window.ensures.same)
           (h whole clean opens));
       told = old.told;
     }
@@ -35,7 +35,7 @@ returns g c =
               (window_kept c.args.need c.window.result s (content_of mid.lists) (content_of c.fill_window.new.self)
               c.fill_window.ensures.same c.window.ensures.shows c.window.ensures.parts
               (∥∥₁_map (kept_sure mid.session.in_doubt mid.session.failures c.in_ok-make_ready.ensures.whole.1
-              c.in_ok-make_ready.ensures.whole.0 mid.stored) (λ h. (h honest.0).kept)) (reads.right honest));
+              c.in_ok-make_ready.ensures.whole.0 mid.stored) (λ h. h honest.0)) (reads.right honest));
           same = λ honest. ap (kept_in s) c.fill_window.ensures.same ∙ reads.same honest;
           crash = reads.crash;
           blames = tt;
