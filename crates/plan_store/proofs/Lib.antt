@@ -1,3 +1,4 @@
+mod AppDeletionLemmas
 mod AppPairLemmas
 mod ArrivalLemmas
 mod ReadLemmas

@@ -1,3 +1,4 @@
+pub mod AppDeletions
 pub mod AppPairs
 pub mod Arrivals
 pub mod HistoryReads

@@ -38,6 +38,7 @@ mod views;
 pub use changes::{Change, DefinitionChange, Moves, NewLists, Verdict};
 pub use contents::Content;
 pub use list_store::ListStore;
+pub use listed::deletions_to;
 pub use listings::{Item, ItemRefused, ItemSink, ListFault, What};
 pub use planner_machine::{Answer, Bounds, Job, JobText};
 pub use queries::{LastQuery, last_queries_of};

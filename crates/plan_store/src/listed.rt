@@ -1,13 +1,14 @@
 //! The items of a listing, on their way to a sink.
 ghost use Rattle.std.specs.Prelude.{◌≡◌, ◌≢◌, ◌↔◌, ◌++◌, ℕ, Contains, IfOk, IfErr, OnOk, OnErr, length, map};
-ghost use Rattle.std.specs.Prelude.{List, Option, option_copied, option_map};
+ghost use Rattle.std.specs.Prelude.{List, Option, Some, option_copied, option_map};
 ghost use Rattle.external_dependencies.specs.Arrival.{arrival_cmp};
 ghost use Rattle.external_dependencies.specs.Nearest.{arrival_of};
 ghost use Rattle.plan_store_lists.specs.Keyed.{IsKeyed};
 ghost use Rattle.plan_store_lists.specs.Rows.{AreRows, of_deletion, of_row};
-ghost use Rattle.planner_machine.specs.Content.{Sets};
+ghost use Rattle.planner_machine.specs.Content.{Content as Known, Sets};
 ghost use Rattle.planner_machine.specs.Shown.{IsOfApp};
 ghost use Rattle.planner_machine.specs.Sound.{AreNumbered};
+ghost use Rattle.plan_store.specs.AppDeletions.{AreDeletionsOf};
 ghost use Rattle.plan_store.specs.Contents.{content_of};
 ghost use Rattle.plan_store.specs.Listed.{AreBySerial, SortsRows, EndsWithin, ShowsSet, link_at};
 ghost use Rattle.plan_store.specs.Listed.{linked_rows, links_at, row_at, shown_as};
@@ -316,6 +317,30 @@ fn emit_all_lists<K: ItemSink>(lists: &LinkBlocks, sink: &mut K) -> Result<usize
         count = sum;
     }
     Ok(count)
+}
+
+/// Passes the sink deletions in their order, wherever they are stored. If they are all of one application, that is its
+/// listing.
+pub fn deletions_to<K: ItemSink>(
+    alloc: Global,
+    deletions: &[Deletion],
+    sink: &mut K,
+) -> Result<usize, ListFault>
+    ensures all { (c : Known) (app : List ℕ) → AreNumbered c.sets
+        → AreDeletionsOf app c.sets.deletions deletions.now
+        → IfOk result (EmitsAll K.accepts (IsListing Showable.Deletions (Some app) c)
+        sink.old sink.new) }
+    ensures part { (c : Known) (app : List ℕ) → AreNumbered c.sets
+        → AreDeletionsOf app c.sets.deletions deletions.now
+        → IfErr result (EmitsPart K.accepts K.refuses (IsListing Showable.Deletions (Some app) c)
+        sink.old sink.new) }
+    ensures blames { IfErr result (λ fault. fault ≢ ListFault.Device) }
+{
+    let mut found = Vec::new(alloc);
+    match push_rows(&mut found, deletions) {
+        Ok(()) => emit_each(&found, false, sink),
+        Err(_) => Err(ListFault::Memory),
+    }
 }
 
 impl Content {

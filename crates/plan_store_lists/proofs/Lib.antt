@@ -1,3 +1,4 @@
+pub mod ArrivalBlockLemmas
 pub mod BlockLemmas
 pub mod EditLemmas
 pub mod KeyLemmas

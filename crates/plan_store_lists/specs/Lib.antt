@@ -1,3 +1,4 @@
+pub mod ArrivalBlocks
 pub mod Blocks
 pub mod Groups
 pub mod Keyed

@@ -12,6 +12,7 @@
 #![tactic(auto)]
 
 mod app_lists;
+mod arrival_blocks;
 mod blocks;
 mod changes;
 mod grouped;
@@ -28,6 +29,7 @@ mod search;
 mod seats;
 
 pub use app_lists::AppList;
+pub use arrival_blocks::ArrivalBlocks;
 pub use blocks::{
     Block, Blocks, all_of, has_item, insert_into, of_group, remove_from, replace_in, reserve_for,
 };

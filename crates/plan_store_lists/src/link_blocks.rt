@@ -5,7 +5,8 @@ ghost use Rattle.external_dependencies.specs.Link.{link_cmp};
 ghost use Rattle.external_dependencies.specs.Rising.{IsRising};
 ghost use Rattle.external_dependencies.specs.declared.links.Link.{Link as LinkValue};
 ghost use Rattle.plan_store_lists.specs.Blocks.{items_in};
-ghost use Rattle.plan_store_lists.specs.LinkBlocks.{HasListRoom, with_list};
+ghost use Rattle.plan_store_lists.specs.Keyed.{IsKeyed};
+ghost use Rattle.plan_store_lists.specs.LinkBlocks.{HasListRoom, names_cmp, names_in, with_list};
 ghost use Rattle.plan_store_lists.specs.declared.namings.Naming.{Naming as NamingValue};
 
 use crate::app_lists::AppList;
@@ -85,6 +86,7 @@ impl LinkBlocks {
 
     /// The links that name an application as predecessor.
     pub fn naming(&self, predecessor: &App) -> &[Naming]
+        ensures keyed { IsKeyed names_cmp names_in result.now }
         ensures all { (naming : NamingValue) → Contains result.now naming
             ↔ (Contains self.now.items naming.link
             × (naming.link.predecessor ≡ predecessor.now)) }

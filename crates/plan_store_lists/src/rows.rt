@@ -29,7 +29,7 @@ pub trait PlanRow: Grouped<Group = App> {
 }
 
 // The key of a row in the list of a set.
-fn arrival(row: &Row) -> Arrival
+pub(crate) fn arrival(row: &Row) -> Arrival
     ensures { result ≡ arrival_of row.now }
 {
     Arrival {

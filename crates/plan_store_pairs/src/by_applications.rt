@@ -128,9 +128,11 @@ fn in_order<T: Ord + Copy>(mut items: Vec<T>) -> Vec<T>
     items
 }
 
-/// Whether these applications have at most half of the live rows, so that listing their rows apart is worth while.
+/// Whether these applications have at most half as many live rows as there are rows and lists, so that listing their
+/// rows apart is worth while.
 pub fn are_few(view: &View<'_>, apps: &[App]) -> bool {
-    let all = view.ltp().len() + view.cp().len() + view.lasts().len();
+    let rows = view.ltp().len() + view.cp().len() + view.lasts().len();
+    let all = rows.saturating_add(view.in_force().blocks().len());
     let mut count: usize = 0;
     for app in apps {
         let rows = view.ltp_of(app).len() + view.cp_of(app).len() + view.lasts_of(app).len();

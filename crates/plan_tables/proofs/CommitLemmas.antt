@@ -1,13 +1,18 @@
 -- A change that was made in the tables and in the lists, or in neither.
-use Rattle.std.proofs.Common.{◌≡◌, ◌∙◌, ℕ, Bool, Err, IsTrue, Ok, Some, false, ap, arith, subst, sym}
+use Rattle.std.proofs.Common.{◌≡◌, ◌∙◌, ℕ, Bool, Err, IsTrue, List, Ok, Option, Some, false, ap, arith, subst, sym}
 use Rattle.std.proofs.Math.Logic.{∥∥₁_elim, ∥∥₁_map}
+use Rattle.std.specs.Prelude.{IfSome}
+use Rattle.std.specs.List.{Contains}
 use Rattle.sqlite.specs.Effect.{Database}
 use Rattle.sqlite.specs.Held.{Held, state}
 use Rattle.sqlite.specs.State.{HasCleanDisk, State, Survives}
 use Rattle.sqlite.specs.Store.{Ghosts}
 use Rattle.sqlite.specs.Tree.{Trees}
+use Rattle.occurrences.specs.declared.place.Deletion.{Deletion}
+use Rattle.external_dependencies.specs.Nearest.{arrival_of}
 use Rattle.external_dependencies.specs.Pair.{pair_cmp}
 use Rattle.external_dependencies.specs.Rising.{IsRising}
+use Rattle.external_dependencies.specs.declared.live.Arrival.{Arrival}
 use Rattle.planner_machine.specs.Content.{Content}
 use Rattle.planner_machine.specs.Sound.{IsSound}
 use Rattle.plan_store.specs.Changes.{Fits, after}
@@ -28,7 +33,8 @@ use Rattle.plan_tables_writing.specs.Writing.{IsRepresentableChange}
 use Rattle.plan_tables_writing.specs.declared.redefining.DefinitionMoves.{DefinitionMoves}
 use Rattle.plan_tables.specs.Causes.{CanAccept, HasFailed}
 use Rattle.plan_tables.specs.Found.{Tells}
-use Rattle.plan_tables.specs.Kept.{CanRead, IsKept, IsMet}
+use Rattle.plan_tables.specs.Gone.{NotesAll}
+use Rattle.plan_tables.specs.Kept.{CanRead, IsKept, IsMet, NotesIn}
 use Rattle.plan_tables.specs.Representable.{BringMoves}
 use Rattle.plan_tables.specs.Session.{IsWhole, doubt_after, failures_after, fault_of}
 use Rattle.plan_tables.specs.Stored.{LeavesSound}
@@ -37,11 +43,12 @@ use Rattle.plan_tables.specs.declared.keeping.Unmade.{Unmade}
 use Rattle.plan_tables.specs.declared.keeping.Unmade.TheVariants as unmade
 use Rattle.plan_tables.specs.declared.table_store.TableStore.{TableStore}
 use Rattle.plan_tables.proofs.CauseLemmas.{room_takes}
+use Rattle.plan_tables.proofs.GoneLemmas.{noted_moved}
 use Rattle.plan_tables.proofs.LookLemmas.{kept_sure}
 use Rattle.plan_tables.proofs.MetLemmas.{keeps_after, kept_undone, met_so, own_rest}
 use Rattle.plan_tables.proofs.SessionLemmas.{counts_device, counts_none, device_is, opens_if, sure_opens}
 use Rattle.plan_tables.proofs.SetLemmas.{content_set, truth_prop}
-use Rattle.plan_tables.proofs.StoredLemmas.{keeps_still, kept_after, leaves_either, leaves_one, leaves_sound}
+use Rattle.plan_tables.proofs.StoredLemmas.{keeps_still, kept_after, leaves_either, leaves_one, leaves_sound, told_kept}
 use Rattle.plan_tables.proofs.WhyLemmas.{memory_is}
 
 -- what a crash leaves of it that was not there before
@@ -124,6 +131,19 @@ module _ {S : Type 0} {g : Ghosts S} (old : TableStore S g) (change : Change) (m
           → ∥ (failures ≡ 0 → HasCleanDisk to → (IsTrue in_doubt → IsTrue to.is_open) → IsKept to now) ∥₁
       keeps_commit failures in_doubt = ∥∥₁_map kept (λ h _ clean _. keeps clean (h (calm clean)))
 
+      -- arrivals that were noted first, and those of the deletions that are put
+      pub noted_commit : (gone : Option (List Arrival))
+          → ((all : ℕ → Option Deletion) → NotesAll all old.gone → NotesAll all gone)
+          → IfSome gone (λ noted. (d : Deletion) → Contains change.deletions.put.items d → Contains noted (arrival_of d.row))
+          → NotesIn to gone
+      noted_commit gone stay notes = ∥∥₁_elim kept squash₁ (λ h. ∥∥₁_map old.noted (λ n can.
+          let was = calm can.0 in
+          let k = h was in
+          let before : CanRead from = (was, k.stored.is_open) in
+          let told = told_kept tell to goal (stored can.0 k) in
+          subst (λ (rest : Rest). NotesAll rest.deletions gone) (sym told)
+          (noted_moved change.deletions own.deletions gone (fits before).deletions (stay own.deletions (n before)) notes)))
+
     module _ (now : Content) (why : Unmade) (failures : ℕ) (in_doubt : Bool)
         (did : Unchanged g old.session.conn new lists now change moves why)
         (counted : failures ≡ failures_after (Some why) 0) (doubted : in_doubt ≡ doubt_after (Some why) false) where
@@ -139,6 +159,15 @@ module _ {S : Type 0} {g : Ghosts S} (old : TableStore S g) (change : Change) (m
           (λ leaves. did.memory clean own m (memory_is why leaves)) in
           let same = did.undone clean own m opens in
           subst (IsKept to) (sym did.lists) (keeps_still from to lists k opens same.0 same.1))
+
+      pub noted_undone : (gone : Option (List Arrival))
+          → ((all : ℕ → Option Deletion) → NotesAll all old.gone → NotesAll all gone) → NotesIn to gone
+      noted_undone gone stay = ∥∥₁_elim kept squash₁ (λ h. ∥∥₁_map old.noted (λ n can.
+          let was = still can.0 in
+          let k = h was in
+          let same = did.undone can.0 own (met was k) can.1 in
+          subst (λ (db : Database). NotesAll (told_rest (tables_of db.trees)).deletions gone) (sym same.0)
+          (stay own.deletions (n (was, k.stored.is_open)))))
 
   module _ (now : TableStore S g) where
     abbrev last : State

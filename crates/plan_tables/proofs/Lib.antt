@@ -1,4 +1,5 @@
 mod BegunLemmas
+mod GoneLemmas
 pub mod StoredLemmas
 mod SeekLemmas
 mod WhyLemmas
@@ -12,6 +13,7 @@ pub mod MetLemmas
 pub mod SetLemmas
 pub mod StorableMoves
 pub mod UnopenedLemmas
+mod UnreadLemmas
 pub mod FoundLemmas
 pub mod RefusedLemmas
 pub mod ToldLemmas

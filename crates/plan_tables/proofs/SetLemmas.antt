@@ -1,6 +1,6 @@
 -- Contents are a set: two equations between two contents are the same.
 use Rattle.std.proofs.Props.{props}
-use Rattle.std.specs.Prelude.{ℕ, Bool, IsTrue, Option}
+use Rattle.std.specs.Prelude.{◌≡◌, ℕ, Bool, IsTrue, List, Option}
 use base.Stored.{Coded-set}
 use Rattle.app_definitions.specs.declared.definitions.Definitions.{Definitions}
 use Rattle.app_definitions.specs.contracts.definitions.Definitions as definitions
@@ -55,6 +55,12 @@ found_set = hlevel (props, job_set)
 
 pub truth_prop : (b : Bool) → IsProp (IsTrue b)
 truth_prop b = hlevel props
+
+pub test_prop : (a b : Bool) → IsProp (a ≡ b)
+test_prop a b = hlevel props
+
+pub deletions_set : IsSet (List Deletion)
+deletions_set = hlevel (props, deletion_set)
 
 pub no_prop : IsProp ⊥
 no_prop x y = absurd x

@@ -1,7 +1,8 @@
 -- What a store over tables keeps: history, the deletions and the kept jobs in their tables alone, all else in lists in
 -- memory too, with what was loaded of the rest.
-use Rattle.std.specs.Prelude.{◌≡◌, ◌⊎◌, IsTrue}
+use Rattle.std.specs.Prelude.{◌≡◌, ◌⊎◌, IsTrue, List, Option}
 use Rattle.sqlite.specs.State.{HasCleanDisk, State}
+use Rattle.external_dependencies.specs.declared.live.Arrival.{Arrival}
 use Rattle.planner_machine.specs.Content.{Content}
 use Rattle.planner_machine.specs.Sound.{IsSound}
 use Rattle.plan_store.specs.Changes.{Fits}
@@ -11,6 +12,7 @@ use Rattle.plan_tables_schema.specs.Rows.{tables_of}
 use Rattle.plan_tables_windows.specs.Fetching.{told_rest, told_with}
 use Rattle.plan_tables_opening.specs.Opened.{IsStored}
 use Rattle.plan_tables_writing.specs.Redefining.{AreMovesOf}
+use Rattle.plan_tables.specs.Gone.{NotesAll}
 use Rattle.plan_tables.specs.Stored.{MayLeave}
 use Rattle.plan_tables_writing.specs.declared.redefining.DefinitionMoves.{DefinitionMoves}
 
@@ -27,6 +29,10 @@ pub record IsKept (s : State) (lists : Content) : Type 0 where
 -- what was read of the database is what was written, and it can still be read
 abbrev pub CanRead : State → Type 0
 CanRead s = HasCleanDisk s × IsTrue s.is_open
+
+-- the arrivals of its deletions are noted
+abbrev pub NotesIn : State → Option (List Arrival) → Type 0
+NotesIn s gone = ∥ (CanRead s → NotesAll (told_rest (tables_of s.now.trees)).deletions gone) ∥₁
 
 -- an open connection was open before, sees what it saw then or what was committed, and has committed nothing
 abbrev pub StaysPut : State → State → Type 0

@@ -1,3 +1,4 @@
+pub mod Gone
 pub mod Stored
 pub mod Kept
 pub mod Session

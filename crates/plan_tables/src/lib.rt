@@ -15,6 +15,7 @@ mod answers;
 mod closing;
 mod definition_moves;
 mod ends;
+mod gone;
 mod keeping;
 mod listing;
 mod looking;

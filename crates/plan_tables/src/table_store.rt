@@ -1,6 +1,6 @@
 // A store over a database.
 
-ghost use Rattle.std.specs.Prelude.{◌≡◌, ◌≢◌, ◌⊎◌, ◌↔◌, ◌<◌, ◌≤◌, false, ◌^◌, Ok, Err, OnOk, IfOk, IfErr, IfSome, IsTrue};
+ghost use Rattle.std.specs.Prelude.{◌≡◌, ◌≢◌, ◌⊎◌, ◌↔◌, ◌<◌, ◌≤◌, false, ◌^◌, Ok, Err, OnOk, IfOk, IfErr, IfSome, IsSome, IsTrue, Some};
 ghost use Rattle.std.specs.Prelude.{option_copied};
 ghost use Rattle.sqlite.specs.State.{HasCleanDisk};
 ghost use Rattle.sqlite.specs.Held.{state};
@@ -8,12 +8,14 @@ ghost use Rattle.sqlite.specs.declared.error.Error.TheVariants.{SqliteFailure};
 ghost use Rattle.sqlite.specs.declared.error.ErrorCode.TheVariants.{OutOfMemory};
 ghost use Rattle.planner_machine.specs.Sound.{IsSound};
 ghost use Rattle.planner_machine.specs.declared.job.Job.{Job as JobValue};
+ghost use Rattle.plan_store.specs.AppDeletions.{AreDeletionsOf};
 ghost use Rattle.plan_store.specs.Changes.{Fits, after};
 ghost use Rattle.plan_store.specs.Contents.{content_of};
 ghost use Rattle.plan_store.specs.Faults.{MoreFailures};
 ghost use Rattle.plan_store.specs.Parts.{IsPartOf};
 ghost use Rattle.plan_store.specs.Room.{no_jobs};
 ghost use Rattle.plan_tables_windows.specs.Changes.{KnowsNamed};
+ghost use Rattle.plan_store.specs.declared.listings.What.TheVariants as Showable;
 ghost use Rattle.plan_store.specs.declared.stores.StoreFault.TheVariants.{Device, Memory};
 ghost use Rattle.plan_tables_content.specs.Content.{answer_text};
 ghost use Rattle.plan_tables_schema.specs.Rows.{tables_of};
@@ -22,7 +24,7 @@ ghost use Rattle.plan_tables_windows.specs.Fetching.{told_rest};
 ghost use Rattle.plan_tables_opening.specs.Opened.{IsStored};
 ghost use Rattle.plan_tables.specs.Applied.{AppliesBy, ListsBy, ReadsBy};
 ghost use Rattle.plan_tables.specs.Causes.{CanAccept, HasFailed};
-ghost use Rattle.plan_tables.specs.Kept.{CanRead};
+ghost use Rattle.plan_tables.specs.Kept.{CanRead, NotesIn};
 ghost use Rattle.plan_tables.specs.Listing.{what_of};
 ghost use Rattle.plan_tables.specs.Session.{IsWhole, Keeps};
 ghost use Rattle.plan_tables.specs.Stored.{LeavesSound, MayLeave};
@@ -30,6 +32,7 @@ ghost use Rattle.plan_tables.specs.Accepted.{HasRoomFor, KeepsSchema};
 ghost use Rattle.plan_tables.specs.Representable.{BringMoves};
 
 use crate::answers::{added_rise, change_is_representable};
+use crate::gone::{arrivals_of, deletions_kept, note_gone, noted_of};
 use crate::keeping::{Unmade, change_both};
 use crate::listing::{ListedTable, list_kept, listing_fault};
 use crate::looking::job_kept;
@@ -38,9 +41,12 @@ use crate::seeking::{Sought, cut_lists, loaded_rows, seek};
 use crate::session::Session;
 use app_definitions::Definitions;
 use external_dependencies::Links;
+use occurrences::Deletion;
 use plan_store::{
     Change, Content, ItemRefused, ItemSink, ListFault, Need, PlanStore, StoreFault, View, What,
+    deletions_to,
 };
+use plan_store_lists::ArrivalBlocks;
 use plan_tables_constraints::fitting_changes_are_accepted;
 use plan_tables_content::{tables_have_one_content, tables_represent_sets};
 use plan_tables_lookups::Stopped;
@@ -50,9 +56,13 @@ use sqlite::{Alter, Connection, Error};
 use std::alloc::Global;
 use work_calendars::App;
 
+// So many rows of a table are read in the time of one look-up.
+const ROWS_A_LOOK_UP: usize = 64;
+
 /// What a planner knows, in the tables of a database. Lists in memory hold the plans, their pairs and the definitions,
 /// and serve all reads of these. Of history and of the deletions they have what was fetched from the tables; a job is
-/// fetched each time. After a failure it returns that the device failed.
+/// fetched each time. The deletions of an application are found by their arrivals, which are noted. After a failure it
+/// returns that the device failed.
 #[derive(Drop)]
 pub struct TableStore<S: Alter> {
     // the connection, its failures, and whether it is known to be open
@@ -61,6 +71,10 @@ pub struct TableStore<S: Alter> {
     lists: Content,
     // how many rows of history and of the deletions the lists had when they were cut last
     kept: usize,
+    // the arrivals of the deletions, and perhaps of others; `None` once memory was refused for them
+    gone: Option<ArrivalBlocks>,
+    // how many deletions there are, or a few more
+    gone_count: usize,
     // the job that was fetched last, which is lent
     found: Option<Job>,
     alloc: Global,
@@ -68,6 +82,7 @@ pub struct TableStore<S: Alter> {
     ghost stored: { Keeps S.Store session (content_of lists) },
     ghost told: { ∥ (HasCleanDisk (state S.Store session.conn)
         → LeavesSound (state S.Store session.conn)) ∥₁ },
+    ghost noted: { NotesIn (state S.Store session.conn) gone },
 }
 
 impl<S: Alter + Drop> TableStore<S> {
@@ -112,6 +127,8 @@ impl<S: Alter + Drop> TableStore<S> {
         // its clause says that an open connection has a database
         let _ = conn.schema();
         let mut lists = lists;
+        let gone = arrivals_of(alloc, &lists.deletions);
+        let gone_count = lists.deletions.len();
         let _ = lists.keep_part(alloc);
         let kept = loaded_rows(&lists);
         TableStore {
@@ -122,6 +139,8 @@ impl<S: Alter + Drop> TableStore<S> {
             },
             lists,
             kept,
+            gone,
+            gone_count,
             found: None,
             alloc,
         }
@@ -175,6 +194,70 @@ impl<S: Alter + Drop> TableStore<S> {
             Ok(count) => Ok(count),
             Err(Stopped::Sink) => Err(ListFault::Sink(ItemRefused)),
             Err(Stopped::Fault(why)) => Err(listing_fault(self.session.blame(why))),
+        }
+    }
+
+    // Fetches the deletions of an application, those of the arrivals that are noted.
+    fn find_gone(&mut self, alloc: Global, app: &App) -> Result<Vec<Deletion>, StoreFault>
+        ensures reads { ReadsBy ⟦<TableStore<S> as PlanStore>⟧ self.old self.new result
+            (λ found. IfSome self.old.gone (λ _. AreDeletionsOf app.now
+            (kept_by self.old).sets.deletions found.items)) }
+        ensures whole { OnOk result (IsWhole self.new.session) }
+    {
+        self.session.check()?;
+        let arrivals = noted_of(&self.gone, app);
+        match deletions_kept(alloc, &mut self.session.conn, arrivals) {
+            Ok(found) => Ok(found),
+            Err(why) => Err(self.session.blame(why)),
+        }
+    }
+
+    // Whether arrivals are noted, and so few of the application that looking its deletions up one by one takes less time
+    // than reading the table.
+    fn knows_few(&self, app: &App) -> bool
+        ensures { IsTrue result → IsSome self.now.gone }
+    {
+        match &self.gone {
+            Some(noted) => noted.of_app(app).len() <= self.gone_count / ROWS_A_LOOK_UP,
+            None => false,
+        }
+    }
+
+    // Passes the sink the deletions of an application, if nothing failed.
+    fn list_gone<K: ItemSink>(
+        &mut self,
+        alloc: Global,
+        app: &App,
+        sink: &mut K,
+    ) -> Result<usize, ListFault>
+        requires { self.old.session.failures ≡ 0 }
+        ensures { ListsBy ⟦<TableStore<S> as PlanStore>⟧ self.old self.new K.accepts K.refuses
+            sink.old sink.new Showable.Deletions (Some app.now) result }
+    {
+        self.lists.has_listings_with();
+        if !self.knows_few(app) {
+            return self.list_asked(alloc, ListedTable::Deletions, Some(app), sink);
+        }
+        match self.find_gone(alloc, app) {
+            Ok(found) => deletions_to(alloc, found.as_slice(), sink),
+            Err(fault) => Err(listing_fault(fault)),
+        }
+    }
+
+    // Passes the sink the deletions of one application or of all, if nothing failed.
+    fn list_deletions<K: ItemSink>(
+        &mut self,
+        alloc: Global,
+        app: Option<&App>,
+        sink: &mut K,
+    ) -> Result<usize, ListFault>
+        requires { self.old.session.failures ≡ 0 }
+        ensures { ListsBy ⟦<TableStore<S> as PlanStore>⟧ self.old self.new K.accepts K.refuses
+            sink.old sink.new Showable.Deletions (option_copied app.entry) result }
+    {
+        match app {
+            Some(app) => self.list_gone(alloc, app, sink),
+            None => self.list_asked(alloc, ListedTable::Deletions, None, sink),
         }
     }
 
@@ -262,6 +345,8 @@ impl<S: Alter + Drop> TableStore<S> {
         fitting_changes_are_accepted();
         change_is_representable(&change);
         added_rise(&change);
+        note_gone(alloc, &mut self.gone, &change.deletions.put);
+        self.gone_count = self.gone_count.saturating_add(change.deletions.put.len());
         match change_both(
             &mut self.session.conn,
             &mut self.lists,
@@ -375,7 +460,7 @@ impl<S: Alter + Drop> PlanStore for TableStore<S> {
             What::Cp => self.lists.cp_to(alloc, app, sink),
             What::Links => self.lists.links_to(app, sink),
             What::History => self.list_asked(alloc, ListedTable::History, app, sink),
-            What::Deletions => self.list_asked(alloc, ListedTable::Deletions, app, sink),
+            What::Deletions => self.list_deletions(alloc, app, sink),
             What::Dependencies => self.list_asked(alloc, ListedTable::Pairs, app, sink),
         }
     }

@@ -6,6 +6,7 @@ use Rattle.plan_store_lists.proofs.link_blocks.LinkBlocks.naming.Goals as goal
 
 pub returns : goal.returns
 returns c = record {
+  keyed = c.of_group.ensures.keyed;
   all = λ naming.
       let is = c.of_group.ensures.all naming in
       let same = c.self.invariant.same naming in

@@ -13,6 +13,7 @@ use Rattle.plan_tables_windows.specs.Fetching.{told_rest}
 use Rattle.plan_tables.specs.Kept.{kept_in}
 use Rattle.plan_tables.specs.Listing.{fault_so, listing_fault, what_of}
 use Rattle.plan_tables.specs.Session.{doubt_after, failures_after, fault_of}
+use Rattle.plan_tables.proofs.GoneLemmas.{noted_on}
 use Rattle.plan_tables.proofs.ListLemmas.{emits_none, mild_listed, no_device, no_memory, store_device, store_memory}
 use Rattle.plan_tables.proofs.LookLemmas.{looks_still}
 use Rattle.plan_tables.proofs.SessionLemmas.{asks_blamed, counts_device, counts_none, device_is, failed_asked, keeps_asked, keeps_unchecked, kept_checked}
@@ -31,6 +32,8 @@ invariant_of-self g c =
       jobless = old.jobless;
       stored = keeps_unchecked old.session c.check.new.self lists old.stored c.in-Err.fault c.in-Err.ensures;
       told = told_checked old.session c.check.new.self lists old.stored c.check.ensures old.told;
+      noted = noted_on (state g.S.Store old.session.conn) (state g.S.Store c.check.new.self.conn) lists lists old.gone
+          (looks_unchecked old.session c.check.new.self lists old.stored c.in-Err.fault c.in-Err.ensures) old.noted;
     }
 
 pub returns-in-Err : goal.returns-in-Err
@@ -81,6 +84,11 @@ invariant_of-self-in-Ok-list_kept g c =
           (state g.S.Store c.list_kept.new.conn) lists);
       told = told_asked g.S.Store mid.conn c.list_kept.new.conn lists None asks kept
           (told_checked old.session mid lists old.stored checks old.told);
+      noted = noted_on (state g.S.Store old.session.conn) (state g.S.Store c.list_kept.new.conn) lists lists old.gone
+          (looks_then (state g.S.Store old.session.conn) (state g.S.Store mid.conn) (state g.S.Store c.list_kept.new.conn) lists lists
+          lists (looks_checked old.session mid lists old.stored checks checks.whole.0)
+          (looks_still (state g.S.Store mid.conn) (state g.S.Store c.list_kept.new.conn) asks.survives lists kept asks.stays))
+          old.noted;
     }
 
 pub invariant_of-self-in-Err-Sink : goal.invariant_of-self-in-Err-Sink
@@ -98,6 +106,11 @@ invariant_of-self-in-Err-Sink g c =
           (state g.S.Store c.list_kept.new.conn) lists);
       told = told_asked g.S.Store mid.conn c.list_kept.new.conn lists None asks kept
           (told_checked old.session mid lists old.stored checks old.told);
+      noted = noted_on (state g.S.Store old.session.conn) (state g.S.Store c.list_kept.new.conn) lists lists old.gone
+          (looks_then (state g.S.Store old.session.conn) (state g.S.Store mid.conn) (state g.S.Store c.list_kept.new.conn) lists lists
+          lists (looks_checked old.session mid lists old.stored checks checks.whole.0)
+          (looks_still (state g.S.Store mid.conn) (state g.S.Store c.list_kept.new.conn) asks.survives lists kept asks.stays))
+          old.noted;
     }
 
 pub invariant_of-self-in-Err-Fault : goal.invariant_of-self-in-Err-Fault
@@ -118,6 +131,11 @@ invariant_of-self-in-Err-Fault g c =
           (λ clean. keeps_still (state g.S.Store mid.conn) (state g.S.Store now.conn) lists);
       told = told_asked g.S.Store mid.conn now.conn lists (Some why) asks kept
           (told_checked old.session mid lists old.stored checks old.told);
+      noted = noted_on (state g.S.Store old.session.conn) (state g.S.Store now.conn) lists lists old.gone
+          (looks_then (state g.S.Store old.session.conn) (state g.S.Store mid.conn) (state g.S.Store now.conn) lists lists
+          lists (looks_checked old.session mid lists old.stored checks checks.whole.0)
+          (looks_still (state g.S.Store mid.conn) (state g.S.Store now.conn) asks.survives lists kept asks.stays))
+          old.noted;
     }
 
 pub returns-in-Ok-list_kept : goal.returns-in-Ok-list_kept

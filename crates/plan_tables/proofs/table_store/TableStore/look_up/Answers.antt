@@ -6,8 +6,9 @@ use Rattle.sqlite.specs.State.{HasCleanDisk}
 use Rattle.planner_machine.specs.Content.{Content, nothing_known}
 use Rattle.plan_store.specs.Contents.{content_of}
 use Rattle.plan_tables.specs.Session.{doubt_after, failures_after}
+use Rattle.plan_tables.proofs.GoneLemmas.{noted_on}
 use Rattle.plan_tables.proofs.LookLemmas.{looks_still}
-use Rattle.plan_tables.proofs.SessionLemmas.{asked, asks_blamed, keeps_asked, keeps_unchecked, kept_checked, looks_checked, looks_unchecked, reads_err, reads_ok, reads_unchecked, told_asked, told_checked}
+use Rattle.plan_tables.proofs.SessionLemmas.{asked, asks_blamed, keeps_asked, keeps_unchecked, kept_checked, looks_checked, looks_then, looks_unchecked, reads_err, reads_ok, reads_unchecked, told_asked, told_checked}
 use Rattle.plan_tables.proofs.SetLemmas.{found_set}
 use Rattle.plan_tables.proofs.StoredLemmas.{keeps_still}
 use Rattle.plan_tables.proofs.table_store.TableStore.look_up.Goals as goal
@@ -20,6 +21,8 @@ invariant_of-self g c =
       jobless = old.jobless;
       stored = keeps_unchecked old.session c.check.new.self lists old.stored c.in_err-check.field-0.0 c.in_err-check.ensures;
       told = told_checked old.session c.check.new.self lists old.stored c.check.ensures old.told;
+      noted = noted_on (state g.S.Store old.session.conn) (state g.S.Store c.check.new.self.conn) lists lists old.gone
+          (looks_unchecked old.session c.check.new.self lists old.stored c.in_err-check.field-0.0 c.in_err-check.ensures) old.noted;
     }
 
 -- the connection is in no transaction where the session is blamed
@@ -41,6 +44,11 @@ invariant_of-self-in-Ok g c =
           (state g.S.Store c.job_kept.new.conn) lists);
       told = told_asked g.S.Store mid.conn c.job_kept.new.conn lists None asks kept
           (told_checked old.session mid lists old.stored checks old.told);
+      noted = noted_on (state g.S.Store old.session.conn) (state g.S.Store c.job_kept.new.conn) lists lists old.gone
+          (looks_then (state g.S.Store old.session.conn) (state g.S.Store mid.conn) (state g.S.Store c.job_kept.new.conn) lists lists
+          lists (looks_checked old.session mid lists old.stored checks checks.whole.0)
+          (looks_still (state g.S.Store mid.conn) (state g.S.Store c.job_kept.new.conn) asks.survives lists kept asks.stays))
+          old.noted;
     }
 
 pub invariant_of-self-in-Err : goal.invariant_of-self-in-Err
@@ -60,6 +68,11 @@ invariant_of-self-in-Err g c =
           (λ clean. keeps_still (state g.S.Store mid.conn) (state g.S.Store now.conn) lists);
       told = told_asked g.S.Store mid.conn now.conn lists (Some c.in-Err.why) asks kept
           (told_checked old.session mid lists old.stored checks old.told);
+      noted = noted_on (state g.S.Store old.session.conn) (state g.S.Store now.conn) lists lists old.gone
+          (looks_then (state g.S.Store old.session.conn) (state g.S.Store mid.conn) (state g.S.Store now.conn) lists lists
+          lists (looks_checked old.session mid lists old.stored checks checks.whole.0)
+          (looks_still (state g.S.Store mid.conn) (state g.S.Store now.conn) asks.survives lists kept asks.stays))
+          old.noted;
     }
 
 pub returns-in_err-check : goal.returns-in_err-check

@@ -10,8 +10,9 @@ use Rattle.plan_tables.specs.Session.{doubt_after, failures_after}
 use Rattle.plan_tables.specs.Sought.{IsFoundFor, Seeks}
 use Rattle.plan_tables.proofs.CauseLemmas.{counts_on, counts_then}
 use Rattle.plan_tables.proofs.CutLemmas.{held_cut, looks_cut}
+use Rattle.plan_tables.proofs.GoneLemmas.{noted_on}
 use Rattle.plan_tables.proofs.LookLemmas.{looks_more}
-use Rattle.plan_tables.proofs.SessionLemmas.{asked, keeps_asked, keeps_unchecked, kept_checked, looks_unchecked, opens_asked}
+use Rattle.plan_tables.proofs.SessionLemmas.{asked, keeps_asked, keeps_unchecked, kept_checked, looks_checked, looks_then, looks_unchecked, opens_asked}
 use Rattle.plan_tables.proofs.SessionLemmas.{reads_err, reads_ok, reads_unchecked, seen_asked, seen_unchecked, told_asked, told_checked}
 use Rattle.plan_tables.proofs.StoredLemmas.{keeps_more}
 use Rattle.plan_tables.proofs.table_store.TableStore.make_ready.Goals as goal
@@ -24,6 +25,8 @@ invariant_of-self g c =
       jobless = old.jobless;
       stored = keeps_unchecked old.session c.check.new.self lists old.stored c.in_err-check.field-0.0 c.in_err-check.ensures;
       told = told_checked old.session c.check.new.self lists old.stored c.check.ensures old.told;
+      noted = noted_on (state g.S.Store old.session.conn) (state g.S.Store c.check.new.self.conn) lists lists old.gone
+          (looks_unchecked old.session c.check.new.self lists old.stored c.in_err-check.field-0.0 c.in_err-check.ensures) old.noted;
     }
 
 pub invariant_of-self-in-Ok : goal.invariant_of-self-in-Ok
@@ -46,6 +49,11 @@ invariant_of-self-in-Ok g c =
           keeps_more s1 s2 was now h opens db committed did.grows (did.part clean h));
       told = told_asked g.S.Store mid.conn c.seek.new.conn was None did.asks kept
           (told_checked old.session mid first old.stored checks old.told);
+      noted = noted_on (state g.S.Store old.session.conn) (state g.S.Store c.seek.new.conn) first now old.gone
+          (looks_then (state g.S.Store old.session.conn) s1 (state g.S.Store c.seek.new.conn) first first now
+          (looks_checked old.session mid first old.stored checks checks.whole.0)
+          (looks_cut s1 first was c.cut_lists.ensures.same (state g.S.Store c.seek.new.conn) now
+          (looks_more s1 (state g.S.Store c.seek.new.conn) did.asks.survives was kept now did.asks.stays did.grows))) old.noted;
     }
 
 pub invariant_of-self-in-Err : goal.invariant_of-self-in-Err
@@ -73,6 +81,11 @@ invariant_of-self-in-Err g c =
           keeps_more s1 s2 was now h opens db committed did.grows (did.part clean h));
       told = told_asked g.S.Store mid.conn last.conn was (Some why) did.asks kept
           (told_checked old.session mid first old.stored checks old.told);
+      noted = noted_on (state g.S.Store old.session.conn) (state g.S.Store last.conn) first now old.gone
+          (looks_then (state g.S.Store old.session.conn) s1 (state g.S.Store last.conn) first first now
+          (looks_checked old.session mid first old.stored checks checks.whole.0)
+          (looks_cut s1 first was c.cut_lists.ensures.same (state g.S.Store last.conn) now
+          (looks_more s1 (state g.S.Store last.conn) did.asks.survives was kept now did.asks.stays did.grows))) old.noted;
     }
 
 pub returns-in_err-check : goal.returns-in_err-check

@@ -1,10 +1,14 @@
 use Rattle.std.proofs.Common.{subst, sym}
 use Rattle.std.proofs.lemmas.Grind.{merely}
 use Rattle.sqlite.specs.Held.{state}
+use Rattle.occurrences.specs.declared.place.Deletion.{Deletion}
 use Rattle.planner_machine.specs.Sound.{IsSound}
+use Rattle.plan_store_lists.proofs.LookLemmas.{look_some}
 use Rattle.plan_store.specs.Contents.{content_of}
 use Rattle.plan_store.specs.Parts.{IsPartOf, Rest}
 use Rattle.plan_tables_opening.specs.Opened.{IsStored}
+use Rattle.plan_tables.specs.Gone.{NotesAll}
+use Rattle.plan_tables.proofs.GoneLemmas.{noted_all}
 use Rattle.plan_tables.proofs.StoredLemmas.{kept_part, stored_sound, told_kept}
 use Rattle.plan_tables.proofs.table_store.TableStore.over.Goals as goal
 
@@ -26,6 +30,13 @@ invariant_of-result-2 g c =
           });
       told = merely (λ clean. stored_sound g.S.Store g.met.S.Store.settled c.args.conn made
           (c.requires.opened clean) c.requires.sound c.schema.ensures.live);
+      noted = merely (λ can.
+          let stored = c.requires.opened can.0 in
+          subst (λ (rest : Rest). NotesAll rest.deletions c.arrivals_of-gone.result)
+          (sym (told_kept c.tables_represent_sets.ensures s made stored))
+          (noted_all c.arrivals_of-gone.result c.args.lists.deletions.items made.sets.deletions
+          (λ serial d is. (look_some (λ (x : Deletion). x.row.serial) c.args.lists.deletions.items serial d is).0)
+          c.arrivals_of-gone.ensures));
     }
 
 pub returns-clause-kept : goal.returns-clause-kept

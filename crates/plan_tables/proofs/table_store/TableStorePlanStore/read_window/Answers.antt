@@ -20,6 +20,7 @@ invariant_of-self g c =
           subst (λ (k : Content). IsKept (state g.S.Store old.session.conn) k) (sym c.fill_window.ensures.same)
           (h whole clean opens));
       told = old.told;
+      noted = old.noted;
     }
 
 pub returns : goal.returns
