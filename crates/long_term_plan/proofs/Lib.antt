@@ -13,6 +13,7 @@ mod ChangedLemmas
 mod TurnedLemmas
 mod ReachingLemmas
 mod HeldLemmas
+mod LaterLemmas
 mod LookedLemmas
 mod ModifyPlanLemmas
 mod ModifyAllLemmas

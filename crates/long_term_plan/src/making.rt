@@ -13,12 +13,13 @@ ghost use Rattle.occurrences.specs.declared.key.Key.{Key as KeyValue};
 ghost use Rattle.long_term_plan.specs.Making.{AddsDays, AreDaysAdded, KeepsRowsSound, MakesDrafts, numbered};
 ghost use Rattle.long_term_plan.specs.Making.{planned_sets};
 
+use crate::creation::midnight;
 use crate::drafts::{named_drafts, new_drafts};
 use external_dependencies::Links;
 use occurrences::{GREATEST_SERIAL, Refusal, Reply, Row, Serial};
 use plan_store::{Change, DefinitionChange, Moves, Need, NewLists, Verdict, View};
 use plan_store_lists::LinkBlocks;
-use plan_store_pairs::{live_rows_with, pair_change, pairs_of_plans, touch_of};
+use plan_store_pairs::{live_rows_with, pair_change, pairs_of_rows, planned_for, touch_of};
 use planner_machine::{Bounds, Draft, MOST_PLANNED_ROWS};
 use std::alloc::{AllocError, Global};
 use work_calendars::Moment;
@@ -80,10 +81,10 @@ fn make_drafts(
     drop(new);
     let lists = LinkBlocks::from_links(alloc, &links)?;
     let touch = touch_of(alloc, &[], &rows, view.in_force(), &lists)?;
-    let planned = view.ltp().to_vec(alloc)?;
+    let planned = planned_for(alloc, view.ltp(), &touch, midnight(bounds.last_day))?;
     let live = live_rows_with(alloc, &planned, &rows, view.cp(), view.lasts())?;
+    let before = pairs_of_rows(alloc, view, &planned)?;
     drop(planned);
-    let before = pairs_of_plans(alloc, view)?;
     let pairs = pair_change(alloc, &before, &live, &links, &touch)?;
     let change = Change {
         definitions: DefinitionChange::AsBefore,

@@ -11,6 +11,7 @@ mod GoesLemmas
 pub mod GatheredLemmas
 pub mod ListLemmas
 pub mod PartLemmas
+pub mod LaterLemmas
 mod LiveLemmas
 pub mod PlannedLemmas
 pub mod RowLemmas

@@ -10,7 +10,7 @@ use Rattle.external_dependencies.specs.declared.pairs.Pair.{Pair}
 use Rattle.plan_store_lists.specs.Rows.{of_current, of_row}
 use Rattle.planner_machine.specs.Content.{Sets}
 use Rattle.plan_store.specs.Views.{IsAny, ListsSet}
-use Rattle.plan_store_pairs.specs.Planned.{AddsPairsOf, HasWaiting, IsOpenAt, IsOpenOf, IsOpenOfOne}
+use Rattle.plan_store_pairs.specs.Planned.{AddsPairsOf, HasWaiting, IsOpenAt, IsOpenOf, IsOpenOfOne, IsWaitingAt}
 use Rattle.external_dependencies.specs.Touch.{HasRowOf}
 use Rattle.plan_store_pairs.proofs.ListLemmas.{none}
 
@@ -169,6 +169,20 @@ module _ (s : Sets) where
     λ has. elim has [
       | inl (row, there, same) ↦ (row, inl ((ltp_is.exactly row).0 there).0, same)
       | inr (row, there, same) ↦ (row, inr ((cp_is.exactly (waiting_at row)).0 there).0, same)
+    ],
+  )
+
+  -- of these rows, and of what waits in the current plan
+  pub waiting_in : (rows : List Row) (cp : List CurrentRow) → ListsSet of_current s.cp IsAny cp → (n : ℕ)
+      → (HasRowOf rows n ⊎ IsWaitingAt s n) ↔ (HasRowOf rows n ⊎ HasWaiting cp n)
+  waiting_in rows cp cp_is n = (
+    (λ has. elim has [
+      | inl own ↦ inl own
+      | inr (row, at, same) ↦ inr (row, (cp_is.exactly (waiting_at row)).1 (at, tt), same)
+    ]),
+    λ has. elim has [
+      | inl own ↦ inl own
+      | inr (row, there, same) ↦ inr (row, ((cp_is.exactly (waiting_at row)).0 there).0, same)
     ],
   )
 

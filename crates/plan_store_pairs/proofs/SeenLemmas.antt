@@ -330,7 +330,7 @@ module _ (only : Option (List ℕ)) (h : Hidden) (view : View) (sound : IsSound 
       → Passes q.row.key.app × ((app : List ℕ) → Lists links q.row.key.app app → Passes app))
       (within : (q : PlacedRow) → Contains now q → IsOpen q.place → MayReach touch links q.row
       → ReachesApp only c.in_force q.row.key.app) where
-    rows_part : (q : PlacedRow) → Contains rows q → Contains now q
+    pub rows_part : (q : PlacedRow) → Contains rows q → Contains now q
     rows_part q there = elim ((are q).0 there).0 [
       | inl first ↦ (listed q).1 (inl first)
       | inr (inl now) ↦ (listed q).1 (inr (inl now))
@@ -341,7 +341,7 @@ module _ (only : Option (List ℕ)) (h : Hidden) (view : View) (sound : IsSound 
       )))
     ]
 
-    open_in : (q : PlacedRow) → Contains now q → IsOpen q.place → Passes q.row.key.app → Contains rows q
+    pub open_in : (q : PlacedRow) → Contains now q → IsOpen q.place → Passes q.row.key.app → Contains rows q
     open_in q there is_open passes = elim ((listed q).0 there) [
       | inl first ↦ (are q).1 (inl first, passes)
       | inr (inl now) ↦ (are q).1 (inr (inl now), passes)
@@ -394,7 +394,7 @@ module _ (only : Option (List ℕ)) (h : Hidden) (view : View) (sound : IsSound 
               )
         ]
 
-    has_behind : (q : PlacedRow) → ReachesApp only c.in_force q.row.key.app → Contains now q → IsOpen q.place → (app : List ℕ) → Lists links q.row.key.app app
+    pub has_behind : (q : PlacedRow) → ReachesApp only c.in_force q.row.key.app → Contains now q → IsOpen q.place → (app : List ℕ) → Lists links q.row.key.app app
         → Passes app → HasBehind now rows q.row.key app
     has_behind q reaches there is_open app names passes a (p, there', is_live, arrives) candidate =
         subst (λ (x : Arrival). (b : Arrival) × IsBehind rows q.row.key app x b) arrives

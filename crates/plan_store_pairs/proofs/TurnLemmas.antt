@@ -117,6 +117,15 @@ live_list s planned current completed has =
       listed = are_listed planned current completed r1 r2 r3 a1 a2 a3;
     }
 
+-- of any lists
+pub list_of : (planned : List Row) (current : List CurrentRow) (completed : List Row)
+    → (rows : List PlacedRow) × AreListed planned current completed rows
+list_of planned current completed =
+    let (r1, a1) = rows_added planned LongTerm [] in
+    let (r2, a2) = current_added current r1 in
+    let (r3, a3) = rows_added completed History r2 in
+    (r3, are_listed planned current completed r1 r2 r3 a1 a2 a3)
+
 -- what stands beside the long-term plan does not stand in it
 beside_only : (current : List CurrentRow) (completed : List Row) (p : PlacedRow) → IsBeside current completed p
     → p.place ≡ LongTerm → ⊥

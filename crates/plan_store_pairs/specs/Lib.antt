@@ -1,6 +1,7 @@
 pub mod Additions
 pub mod ByApplications
 pub mod Gathering
+pub mod Later
 pub mod LiveRows
 pub mod Planned
 pub mod RowPairs

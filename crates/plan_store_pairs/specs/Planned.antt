@@ -23,7 +23,11 @@ IsOpenRow s row = (s.ltp row.serial ≡ Some row) ⊎ (s.cp row.serial ≡ Some 
 abbrev pub IsOpenAt : Sets → ℕ → Type 0
 IsOpenAt s serial = (row : Row) × IsOpenRow s row × (row.serial ≡ serial)
 
--- the same of one application
+-- a row of the current plan waits under the serial
+abbrev pub IsWaitingAt : Sets → ℕ → Type 0
+IsWaitingAt s serial = (row : Row) × (s.cp row.serial ≡ Some (record { row = row; status = W })) × (row.serial ≡ serial)
+
+-- an open row of one application has the serial
 abbrev pub IsOpenOf : Sets → List ℕ → ℕ → Type 0
 IsOpenOf s app serial = (row : Row) × IsOpenRow s row × (row.key.app ≡ app) × (row.serial ≡ serial)
 

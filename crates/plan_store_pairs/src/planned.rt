@@ -1,9 +1,9 @@
-ghost use Rattle.std.specs.Prelude.{◌≡◌, ◌↔◌, Contains, IfOk, OnOk, Some};
+ghost use Rattle.std.specs.Prelude.{◌≡◌, ◌⊎◌, ◌↔◌, Contains, IfOk, OnOk, Some};
 ghost use Rattle.occurrences.specs.declared.place.CurrentRow.{CurrentRow as CurrentValue};
 ghost use Rattle.occurrences.specs.declared.row.Row.{Row as RowValue};
 ghost use Rattle.external_dependencies.specs.declared.pairs.Pair.{Pair as PairValue};
 ghost use Rattle.plan_store.specs.Views.{shown};
-ghost use Rattle.plan_store_pairs.specs.Planned.{AddsPairsOf, HasWaiting, IsOpenAt, IsOpenOfOne};
+ghost use Rattle.plan_store_pairs.specs.Planned.{AddsPairsOf, HasWaiting, IsOpenAt, IsOpenOfOne, IsWaitingAt};
 ghost use Rattle.external_dependencies.specs.Touch.{HasRowOf};
 
 use external_dependencies::{Pair, Pairs};
@@ -36,6 +36,21 @@ pub fn pairs_of_apps(alloc: Global, view: &View<'_>, apps: &[App]) -> Result<Pai
         push_planned(view, view.ltp_of(app), &mut pairs)?;
         push_waiting(view, view.cp_of(app), &mut pairs)?;
     }
+    Ok(Pairs::from_vec(pairs))
+}
+
+/// The pairs of these rows of the long-term plan, and of the rows of the current plan that wait.
+pub fn pairs_of_rows(alloc: Global, view: &View<'_>, planned: &[Row]) -> Result<Pairs, AllocError>
+    requires { (row : RowValue) → Contains planned.now row
+        → (shown view.now).sets.ltp row.serial ≡ Some row }
+    ensures { IfOk result (λ pairs. (pair : PairValue) → Contains pairs pair
+        ↔ (Contains (shown view.now).pairs pair
+        × (HasRowOf planned.now pair.successor
+        ⊎ IsWaitingAt (shown view.now).sets pair.successor))) }
+{
+    let mut pairs = Vec::new(alloc);
+    push_planned(view, planned, &mut pairs)?;
+    push_all_waiting(view, view.cp(), &mut pairs)?;
     Ok(Pairs::from_vec(pairs))
 }
 

@@ -1,18 +1,27 @@
-use Rattle.std.proofs.Common.{◌≡◌, ◌↔◌, ◌+◌, ◌++◌, ◌∙◌, [], List, None, Some, ap, length, refl, subst}
+use Rattle.std.proofs.Common.{◌≡◌, ◌⊎◌, ◌↔◌, ◌+◌, ◌++◌, ◌∙◌, [], List, None, Some, ap, length, refl, subst}
 use Rattle.std.specs.List.{Contains}
 use Rattle.external_dependencies.specs.declared.links.Link.{Link}
+use Rattle.external_dependencies.specs.Touch.{HasRowOf}
+use Rattle.external_dependencies.specs.declared.pairs.Pair.{Pair}
 use Rattle.external_dependencies.specs.declared.rows.PlacedRow.{PlacedRow}
 use Rattle.occurrences.specs.declared.reply.Reply.TheVariants.{Made}
 use Rattle.occurrences.specs.declared.row.Row.{Row}
 use Rattle.planner_machine.proofs.SoundLemmas.{rows_sound}
-use Rattle.plan_store.specs.Views.{with_hidden}
+use Rattle.plan_store.specs.Views.{shown, with_hidden}
+use Rattle.plan_store_pairs.specs.Planned.{IsWaitingAt}
 use Rattle.plan_store_pairs.specs.Turns.{IsInLists, IsTouchOf}
 use Rattle.long_term_plan.specs.Making.{numbered, planned_sets}
 use Rattle.long_term_plan.specs.Modifying.{HavePlanned}
-use Rattle.long_term_plan.proofs.HeldLemmas.{held, turn_seen}
+use Rattle.long_term_plan.proofs.HeldLemmas.{turn_seen}
+use Rattle.long_term_plan.proofs.LaterLemmas.{later_held}
 use Rattle.long_term_plan.proofs.MakingLemmas.{lists_then, making_is}
 use Rattle.long_term_plan.proofs.TurnedLemmas.{rows_made}
 use Rattle.long_term_plan.proofs.making.make_drafts.Goals as goal
+
+pub pairs_of_rows-requires : goal.pairs_of_rows-requires
+pairs_of_rows-requires c row there =
+    ((c.ltp.ensures.rows.exactly row).0 (c.in_ok-planned.ensures.2.stand row
+    (subst (λ (l : List Row). Contains l row) c.deref-4.ensures.value there))).0
 
 pub returns : goal.returns
 returns c h sound sees known keeps =
@@ -40,19 +49,23 @@ returns c h sound sees known keeps =
     let plan = rows_made content sound rows c.ltp.ensures.rows new in
     let to = turn_seen None h view sound sees links known rows c.ltp.ensures.rows c.cp.result.now.items c.cp.ensures.rows
     c.lasts.result.now c.lasts.ensures s rows [] made have plan touch touches in
+    let enough = c.in_ok-planned.ensures in
+    let later = c.in_ok-planned.planned.items in
     let listed : (p : PlacedRow) → Contains c.in_ok-live.live p
-    ↔ IsInLists (rows ++ made) c.cp.result.now.items c.lasts.result.now p =
+    ↔ IsInLists (later ++ made) c.cp.result.now.items c.lasts.result.now p =
     subst (λ (l : List Row). (p : PlacedRow) → Contains c.in_ok-live.live p
-    ↔ IsInLists (rows ++ l) c.cp.result.now.items c.lasts.result.now p) (c.deref-3.ensures.value ∙ put)
+    ↔ IsInLists (later ++ l) c.cp.result.now.items c.lasts.result.now p) (c.deref-3.ensures.value ∙ put)
     (subst (λ (l : List Row). (p : PlacedRow) → Contains c.in_ok-live.live p
     ↔ IsInLists (l ++ c.deref-3.result.now) c.cp.result.now.items c.lasts.result.now p)
-    (c.deref-2.ensures.value ∙ c.in_ok-planned.ensures) c.in_ok-live.ensures.listed) in
-    let holds = held None h view sound sees links known rows c.ltp.ensures.rows c.cp.result.now.items c.cp.ensures.rows
-    c.lasts.result.now c.lasts.ensures s rows [] made have plan touch touches (λ app. Unit {0}) c.in_ok-live.live
-    (λ p. ((λ there. ((listed p).0 there, tt)), λ both. (listed p).1 both.0))
-    (λ q there is_open reach. (tt, λ app names. tt)) (λ q there is_open reach. tt) (λ app. Unit {0}) c.in_ok-before.before
-    (λ q there is_open reach. tt) (λ row there. tt) (λ pair there. ((c.in_ok-before.ensures pair).0 there).0)
-    (λ pair there row is_open among same. (c.in_ok-before.ensures pair).1 (there, (row, is_open, same))) in
+    c.deref-2.ensures.value c.in_ok-live.ensures.listed) in
+    let before : (pair : Pair) → Contains c.in_ok-before.before pair ↔ (Contains (shown view).pairs pair
+    × (HasRowOf later pair.successor ⊎ IsWaitingAt (shown view).sets pair.successor)) =
+    subst (λ (l : List Row). (pair : Pair) → Contains c.in_ok-before.before pair ↔ (Contains (shown view).pairs pair
+    × (HasRowOf l pair.successor ⊎ IsWaitingAt (shown view).sets pair.successor))) c.deref-4.ensures.value
+    c.in_ok-before.ensures in
+    let holds = later_held None h view sound sees links known rows c.ltp.ensures.rows c.cp.result.now.items
+    c.cp.ensures.rows c.lasts.result.now c.lasts.ensures s made have plan touch touches (λ q there is_open reach. tt)
+    later enough.0 enough.1 enough.2 c.in_ok-live.live listed c.in_ok-before.before before in
     let pairs = c.in_ok-pairs.ensures content.sets s content.in_force links to.now h.pairs (λ q there link same. ((λ here. here), λ here. here)) sound.pairs.settled to.turn holds in (
       making_is content sound b links new _ (record {
         gone = c.new.ensures.items;
