@@ -7,6 +7,7 @@ in crates/test_streams/data come from it. """
 import bisect
 import csv
 import datetime
+import functools
 import io
 import re
 import sys
@@ -264,8 +265,8 @@ def days_of_work_period(cycle, period, work, last):
             count += 1
 
 
-def days_named(cycle, period, work, first, last):
-    """The days from first to last that a run cycle names."""
+def days_of_intervals(cycle, period, work, first, last):
+    """The days that a run cycle names in the intervals of its period, at least those from first to last."""
     days = set()
     if period[0] == "W":
         days.update(days_of_work_period(cycle, period, work, last))
@@ -277,8 +278,41 @@ def days_named(cycle, period, work, first, last):
             else:
                 days.update(shifted(cycle["rule"], raw, work) for raw in raw_days(cycle, begin, end))
     days.discard(None)
+    return days
+
+
+def days_named(cycle, period, work, first, last):
+    """The days from first to last that a run cycle names. Those of all intervals are worked out once for each calendar,
+    period, rule and offsets."""
+    if cycle["rule"] == "E" or period[0] == "W":
+        days = days_of_intervals(cycle, period, work, first, last)
+    else:
+        key = cycle["rule"], tuple(cycle["offsets"]), repr(period)
+        if key not in work.named:
+            work.named[key] = sorted(days_of_intervals(cycle, period, work, FIRST_DAY, LAST_DAY))
+        found = work.named[key]
+        days = found[bisect.bisect_left(found, first) : bisect.bisect_right(found, last)]
     return {day for day in days if first <= day <= last and cycle["first"] <= day
             and (cycle["end"] is None or day < cycle["end"])}
+
+
+class WorkDays:
+    """Whether a day is a work day of a calendar, and the days that run cycles name by it."""
+
+    def __init__(self, key):
+        calendar = dict(key)
+        self.days = [calendar.get(("date", day), calendar.get(("weekday", (day + 3) % 7), True))
+                     for day in range(FIRST_DAY, LAST_DAY + 1)]
+        self.named = {}
+
+    def __call__(self, day):
+        return self.days[day - FIRST_DAY]
+
+
+@functools.lru_cache(50)
+def work_days_of(key):
+    """The WorkDays of a calendar, by its sorted items: planners that define the same share them."""
+    return WorkDays(key)
 
 
 class Planner:
@@ -313,10 +347,8 @@ class Planner:
         calendar = self.defined["calendars"].get(name, {})
         key = tuple(sorted(calendar.items()))
         if key not in self.calendars:
-            self.calendars[key] = [calendar.get(("date", day), calendar.get(("weekday", (day + 3) % 7), True))
-                                   for day in range(FIRST_DAY, LAST_DAY + 1)]
-        days = self.calendars[key]
-        return lambda day: days[day - FIRST_DAY]
+            self.calendars[key] = work_days_of(key)
+        return self.calendars[key]
 
     def ask_definitions(self, apps):
         for app in apps:

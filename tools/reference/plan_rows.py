@@ -42,7 +42,7 @@ COLUMNS = {
 def ended(text, file=None, words=(), **how):
     """A run of the program over a stream, with more words: .stdout, .stderr and .returncode."""
     words = [PROGRAM, *(["--db", str(file)] if file else []), *words]
-    return subprocess.run(words, input=text, capture_output=True, check=False, timeout=120, **how)
+    return subprocess.run(words, input=text, capture_output=True, check=False, timeout=600, **how)
 
 
 def run(text, file=None, **how):

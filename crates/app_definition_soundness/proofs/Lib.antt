@@ -2,9 +2,13 @@ pub mod CalendarRecords
 pub mod CycleRecords
 pub mod DateLemmas
 pub mod DefinedLemmas
+pub mod DefinitionsAgain
 pub mod GivenLemmas
 pub mod NumberLemmas
+pub mod PairsAgain
 pub mod PeriodRecords
 pub mod RecordLemmas
+pub mod Searches
 pub mod SimpleLemmas
+pub mod SoundAgain
 pub mod TextLemmas

@@ -17,8 +17,8 @@ use Rattle.app_definition_records.specs.Predecessors.{FitsPredecessors, ArePrede
 use Rattle.app_definitions.specs.Definitions.{names_given}
 use Rattle.app_definition_records.specs.Fields.{field}
 use Rattle.app_definition_records.specs.Records.{block_records}
-use Rattle.app_definitions.specs.declared.kinds.DefinitionBlock.{DefinitionBlock}
-use Rattle.app_definitions.specs.declared.kinds.DefinitionBlock.TheVariants as block
+use Rattle.app_definitions.specs.declared.kinds.Block.{Block}
+use Rattle.app_definitions.specs.declared.kinds.Block.TheVariants as block
 use Rattle.app_definitions.specs.declared.kinds.Kind.{Kind}
 use Rattle.app_definitions.specs.declared.kinds.Kind.TheVariants as kind
 use Rattle.app_definition_records.specs.FieldCounts.{HasApplicationFields, HasCalendarFields, HasCycleFields}
@@ -97,8 +97,8 @@ given_few : {D : Type 0} (IsMadeOf : D → List (List (List ℕ)) → Type 0) (m
 given_few IsMadeOf m rows given =
     few_names rows m (λ name. given_absent IsMadeOf (finite.get m name) (records_of name rows) (given name))
 
-gives_few : {D : Type 0} (of : ByName D → DefinitionBlock) (HasFields : ℕ → Type 0) (FitsName : List (List (List ℕ)) → List (List ℕ) → Type 0)
-    (IsMadeOf : D → List (List (List ℕ)) → Type 0) (text : List ℕ) (b : DefinitionBlock)
+gives_few : {D : Type 0} (of : ByName D → Block) (HasFields : ℕ → Type 0) (FitsName : List (List (List ℕ)) → List (List ℕ) → Type 0)
+    (IsMadeOf : D → List (List (List ℕ)) → Type 0) (text : List ℕ) (b : Block)
     → ((m : ByName D) → names_given (of m) ≡ finite.len m)
     → Gives of HasFields FitsName IsMadeOf (block_records text) b → names_given b ≤ length text + 1
 gives_few of HasFields FitsName IsMadeOf text b counts gives =
@@ -109,7 +109,7 @@ gives_few of HasFields FitsName IsMadeOf text b counts gives =
     omega (arith, names, few, records)
 
 -- a block has no more names than its text has bytes, and one
-pub names_few : (k : Kind) (text : List ℕ) (b : DefinitionBlock) → ReadsAs k text b → names_given b ≤ length text + 1
+pub names_few : (k : Kind) (text : List ℕ) (b : Block) → ReadsAs k text b → names_given b ≤ length text + 1
 names_few kind.Applications text b h =
     gives_few block.Applications HasApplicationFields FitsApplication IsApplicationOf text b (λ m. refl) h
 names_few kind.Calendars text b h =

@@ -41,8 +41,8 @@ use Rattle.app_definition_records.specs.declared.predecessors.Predecessor.{Prede
 use Rattle.app_definition_records.specs.Predecessors.{FitsPredecessors, ArePredecessorsOf}
 use Rattle.app_definition_records.specs.Records.{Record, Records, AllGood, FirstFaulty, block_records}
 use Rattle.app_definition_records.specs.declared.applications.Application.{Application}
-use Rattle.app_definitions.specs.declared.kinds.DefinitionBlock.{DefinitionBlock}
-use Rattle.app_definitions.specs.declared.kinds.DefinitionBlock.TheVariants as block
+use Rattle.app_definitions.specs.declared.kinds.Block.{Block}
+use Rattle.app_definitions.specs.declared.kinds.Block.TheVariants as block
 use Rattle.app_definitions.specs.declared.kinds.Kind.{Kind}
 use Rattle.app_definitions.specs.declared.kinds.Kind.TheVariants as kind
 use Rattle.app_definitions.specs.declared.options.Options.{Options}
@@ -84,7 +84,7 @@ one_fault kind.Options text m n p q = p.first ∙ sym q.first
 all_good : (Fits : Records → Record → Type 0) (rows : Records) (n : ℕ) → AllGood Fits rows → FirstFaulty Fits rows n → ⊥
 all_good Fits rows n good first = first.faulty (good (n - 1) (omega (arith, first.counted, first.there)))
 
-pub never_both : (k : Kind) (text : List ℕ) (b : DefinitionBlock) (n : ℕ) → ReadsAs k text b → IsFaultyAt k text n → ⊥
+pub never_both : (k : Kind) (text : List ℕ) (b : Block) (n : ℕ) → ReadsAs k text b → IsFaultyAt k text n → ⊥
 never_both kind.Applications text b n reads faulty = all_good _ _ n reads.good faulty
 never_both kind.Calendars text b n reads faulty = all_good _ _ n reads.good faulty
 never_both kind.Periods text b n reads faulty = all_good _ _ n reads.good faulty
@@ -416,15 +416,15 @@ one_given : {D : Type 0} (IsMadeOf : D → Records → Type 0) (rows : Records) 
 one_given IsMadeOf rows m n one a b = same_by_name m n
     (λ name. one_defined IsMadeOf (records_of name rows) (map.get m name) (map.get n name) (one name) (a name) (b name))
 
-one_gives : {D : Type 0} (of : Definitions D → DefinitionBlock) (HasFields : ℕ → Type 0) (FitsName : Records → Record → Type 0)
-    (IsMadeOf : D → Records → Type 0) (rows : Records) (a b : DefinitionBlock)
+one_gives : {D : Type 0} (of : Definitions D → Block) (HasFields : ℕ → Type 0) (FitsName : Records → Record → Type 0)
+    (IsMadeOf : D → Records → Type 0) (rows : Records) (a b : Block)
     → (AllGood (FitsKind HasFields FitsName) rows → (name : List ℕ) (d e : D) → IsMadeOf d (records_of name rows)
     → IsMadeOf e (records_of name rows) → d ≡ e)
     → Gives of HasFields FitsName IsMadeOf rows a → Gives of HasFields FitsName IsMadeOf rows b → a ≡ b
 one_gives of HasFields FitsName IsMadeOf rows a b one p q =
     p.is ∙ ap of (one_given IsMadeOf rows p.definitions q.definitions (one p.good) p.given q.given) ∙ sym q.is
 
-pub one_block : (k : Kind) (text : List ℕ) (a b : DefinitionBlock) → ReadsAs k text a → ReadsAs k text b → a ≡ b
+pub one_block : (k : Kind) (text : List ℕ) (a b : Block) → ReadsAs k text a → ReadsAs k text b → a ≡ b
 one_block kind.Applications text a b p q =
     let rows = block_records text in
     one_gives block.Applications HasApplicationFields FitsApplication IsApplicationOf rows a b

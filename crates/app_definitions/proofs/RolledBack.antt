@@ -2,7 +2,7 @@
 use Rattle.std.proofs.Common.{refl}
 use Rattle.app_definition_records.proofs.ReplacedLemmas.{all_stand, taken_back}
 use Rattle.app_definitions.specs.Laws.{MergeIsRolledBack}
-use Rattle.app_definitions.specs.declared.kinds.DefinitionBlock.TheVariants as block
+use Rattle.app_definitions.specs.declared.kinds.Block.TheVariants as block
 
 pub merge_taken_back : MergeIsRolledBack
 merge_taken_back all (block.Applications more) = (

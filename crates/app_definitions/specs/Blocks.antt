@@ -11,8 +11,8 @@ use Rattle.app_definitions.specs.Options.{AreOptionsOf, IsFaultyOptions}
 use Rattle.app_definition_records.specs.Periods.{FitsPeriod, IsPeriodOf}
 use Rattle.app_definition_records.specs.Predecessors.{FitsPredecessors, ArePredecessorsOf}
 use Rattle.app_definition_records.specs.Records.{Record, Records, block_records, AllGood, FirstFaulty}
-use Rattle.app_definitions.specs.declared.kinds.DefinitionBlock.{DefinitionBlock}
-use Rattle.app_definitions.specs.declared.kinds.DefinitionBlock.TheVariants as block
+use Rattle.app_definitions.specs.declared.kinds.Block.{Block}
+use Rattle.app_definitions.specs.declared.kinds.Block.TheVariants as block
 use Rattle.app_definitions.specs.declared.kinds.Kind.{Kind}
 use Rattle.app_definitions.specs.declared.kinds.Kind.TheVariants as kind
 use Rattle.app_definitions.specs.declared.options.Options.{Options}
@@ -22,15 +22,15 @@ use Rattle.app_definition_records.specs.FieldCounts.{HasApplicationFields, HasCa
 use Rattle.app_definition_records.specs.FieldCounts.{HasPeriodFields, HasPredecessorFields}
 
 -- every record is good after those before it, and the block has the definitions that they give
-pub record Gives {D : Type 0} (of : map.FinMap (slice_cmp nat_cmp) D → DefinitionBlock) (HasFields : ℕ → Type 0)
-    (FitsName : Records → Record → Type 0) (IsMadeOf : D → Records → Type 0) (rows : Records) (b : DefinitionBlock) : Type 0 where
+pub record Gives {D : Type 0} (of : map.FinMap (slice_cmp nat_cmp) D → Block) (HasFields : ℕ → Type 0)
+    (FitsName : Records → Record → Type 0) (IsMadeOf : D → Records → Type 0) (rows : Records) (b : Block) : Type 0 where
   pub good : AllGood (FitsKind HasFields FitsName) rows
   pub definitions : map.FinMap (slice_cmp nat_cmp) D
   pub is : b ≡ of definitions
   pub given : AreGivenBy IsMadeOf definitions rows
 
 -- a text of that kind reads as the block
-abbrev pub ReadsAs : Kind → List ℕ → DefinitionBlock → Type 0
+abbrev pub ReadsAs : Kind → List ℕ → Block → Type 0
 ReadsAs kind.Applications text b = Gives block.Applications HasApplicationFields FitsApplication IsApplicationOf
     (block_records text) b
 ReadsAs kind.Calendars text b = Gives block.Calendars HasCalendarFields FitsCalendar IsCalendarOf (block_records text) b

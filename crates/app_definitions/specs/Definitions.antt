@@ -3,8 +3,8 @@ use Rattle.std.specs.Prelude.{ℕ, List, IsSome}
 use Rattle.std.specs.FinMap as map
 use Rattle.app_definition_records.specs.ByName.{overlaid}
 use Rattle.app_definitions.specs.Options.{default_options}
-use Rattle.app_definitions.specs.declared.kinds.DefinitionBlock.{DefinitionBlock}
-use Rattle.app_definitions.specs.declared.kinds.DefinitionBlock.TheVariants as block
+use Rattle.app_definitions.specs.declared.kinds.Block.{Block}
+use Rattle.app_definitions.specs.declared.kinds.Block.TheVariants as block
 use Rattle.app_definitions.specs.declared.kinds.Kind.{Kind}
 use Rattle.app_definitions.specs.declared.kinds.Kind.TheVariants as kind
 use Rattle.app_definitions.specs.declared.definitions.Definitions.{Definitions}
@@ -22,7 +22,7 @@ no_definitions = record {
 
 -- the definitions of the block in place of those of the same kind and names, options in place of options, and all
 -- others as they were
-abbrev pub merged : Definitions → DefinitionBlock → Definitions
+abbrev pub merged : Definitions → Block → Definitions
 merged old (block.Applications more) = record old { applications = overlaid old.applications more }
 merged old (block.Calendars more) = record old { calendars = overlaid old.calendars more }
 merged old (block.Periods more) = record old { periods = overlaid old.periods more }
@@ -31,7 +31,7 @@ merged old (block.RunCycles more) = record old { run_cycles = overlaid old.run_c
 merged old (block.Options given) = record old { options = given }
 
 -- how many names a block gives, and 1 for options
-abbrev pub names_given : DefinitionBlock → ℕ
+abbrev pub names_given : Block → ℕ
 names_given (block.Applications more) = map.len more
 names_given (block.Calendars more) = map.len more
 names_given (block.Periods more) = map.len more

@@ -2,13 +2,13 @@
 use Rattle.std.specs.Prelude.{⊤}
 use Rattle.app_definition_records.specs.ByName.{AllStand, replaced, restored}
 use Rattle.app_definitions.specs.declared.definitions.Definitions.{Definitions}
-use Rattle.app_definitions.specs.declared.kinds.DefinitionBlock.{DefinitionBlock}
-use Rattle.app_definitions.specs.declared.kinds.DefinitionBlock.TheVariants as block
+use Rattle.app_definitions.specs.declared.kinds.Block.{Block}
+use Rattle.app_definitions.specs.declared.kinds.Block.TheVariants as block
 use Rattle.app_definitions.specs.declared.replacing.Replaced.{Replaced}
 use Rattle.app_definitions.specs.declared.replacing.Replaced.TheVariants as was
 
 -- what each name of the block has of its kind, a definition or none; the options under options
-abbrev pub replaced_by : Definitions → DefinitionBlock → Replaced
+abbrev pub replaced_by : Definitions → Block → Replaced
 replaced_by all (block.Applications more) = was.Applications (replaced all.applications more)
 replaced_by all (block.Calendars more) = was.Calendars (replaced all.calendars more)
 replaced_by all (block.Periods more) = was.Periods (replaced all.periods more)

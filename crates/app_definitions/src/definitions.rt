@@ -3,7 +3,7 @@
 ghost use Rattle.std.specs.Prelude.{◌≡◌, ◌↔◌, IsTrue, IfOk, OnOk, OnErr};
 ghost use Rattle.app_definitions.specs.Definitions.{merged, names_given, without, IsDefined, no_definitions};
 
-use crate::kinds::{DefinitionBlock, Kind};
+use crate::kinds::{Block, Kind};
 use crate::options::Options;
 use app_definition_records::{Application, ByName, DefinedPeriod, Predecessors, RunCycles};
 use std::alloc::{AllocError, Global};
@@ -76,18 +76,18 @@ impl Definitions {
 
     /// Merges a block: each of its definitions replaces the one of its name. Returns how many names the block gave. If
     /// memory is refused, nothing changes.
-    pub fn merge(&mut self, block: DefinitionBlock) -> Result<usize, AllocError>
+    pub fn merge(&mut self, block: Block) -> Result<usize, AllocError>
         ensures ok { OnOk result (self.new ≡ merged self.old block) }
         ensures counted { IfOk result (λ n. n ≡ names_given block) }
         ensures err { OnErr result (self.new ≡ self.old) }
     {
         match block {
-            DefinitionBlock::Applications(applications) => self.applications.append(applications),
-            DefinitionBlock::Calendars(calendars) => self.calendars.append(calendars),
-            DefinitionBlock::Periods(periods) => self.periods.append(periods),
-            DefinitionBlock::Predecessors(predecessors) => self.predecessors.append(predecessors),
-            DefinitionBlock::RunCycles(run_cycles) => self.run_cycles.append(run_cycles),
-            DefinitionBlock::Options(options) => {
+            Block::Applications(applications) => self.applications.append(applications),
+            Block::Calendars(calendars) => self.calendars.append(calendars),
+            Block::Periods(periods) => self.periods.append(periods),
+            Block::Predecessors(predecessors) => self.predecessors.append(predecessors),
+            Block::RunCycles(run_cycles) => self.run_cycles.append(run_cycles),
+            Block::Options(options) => {
                 self.options = options;
                 Ok(1)
             }

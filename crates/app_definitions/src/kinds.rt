@@ -23,7 +23,7 @@ pub enum Kind {
 
 /// The definitions that a data block gives, all of one kind.
 #[derive(Drop)]
-pub enum DefinitionBlock {
+pub enum Block {
     /// Applications by name.
     Applications(ByName<Application>),
     /// Calendars by name.

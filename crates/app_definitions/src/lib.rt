@@ -29,7 +29,7 @@ pub use blocks::{
     read_applications, read_block, read_calendars, read_periods, read_predecessors, read_run_cycles,
 };
 pub use definitions::Definitions;
-pub use kinds::{DefinitionBlock, Kind};
+pub use kinds::{Block, Kind};
 pub use laws::{is_faulty_once, merge_is_rolled_back, reads_as_one, reads_or_is_faulty};
 pub use option_blocks::read_options;
 pub use options::{MAX_EXTENSION_HOURS, Options};

@@ -8,7 +8,7 @@ ghost use Rattle.app_definitions.specs.Options.{GivesCalendar, GivesHours, HasOn
 ghost use Rattle.app_definitions.specs.Options.{AreOptionsOf, IsOptionsFault};
 ghost use Rattle.app_definitions.specs.declared.options.Options.{Options};
 
-use crate::kinds::{DefinitionBlock, Kind};
+use crate::kinds::{Block, Kind};
 use crate::options::{MAX_EXTENSION_HOURS, Options};
 use app_definition_records::BlockFault;
 use std::alloc::Global;
@@ -111,9 +111,9 @@ fn options_of(alloc: Global, text: &[u8]) -> Result<Options, BlockFault>
 
 /// Reads a block of options, one TOML document: an empty one gives the options where none are given. A document that
 /// gives none is faulty at record 1.
-pub fn read_options(alloc: Global, text: &[u8]) -> Result<DefinitionBlock, BlockFault>
+pub fn read_options(alloc: Global, text: &[u8]) -> Result<Block, BlockFault>
     ensures reads { IfOk result (ReadsAs Kind.Options text.now) }
     ensures faulty { IfErr result (IsFaultOf Kind.Options text.now) }
 {
-    Ok(DefinitionBlock::Options(options_of(alloc, text)?))
+    Ok(Block::Options(options_of(alloc, text)?))
 }

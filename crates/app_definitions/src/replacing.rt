@@ -4,7 +4,7 @@ ghost use Rattle.std.specs.Prelude.{◌≡◌, IfOk};
 ghost use Rattle.app_definitions.specs.Replacing.{CanPutBack, put_back, replaced_by};
 
 use crate::definitions::Definitions;
-use crate::kinds::DefinitionBlock;
+use crate::kinds::Block;
 use crate::options::Options;
 use app_definition_records::{Application, ByName, DefinedPeriod, Predecessors, RunCycles};
 use std::alloc::AllocError;
@@ -29,26 +29,20 @@ pub enum Replaced {
 
 impl Definitions {
     /// A copy of what the names of the block have now.
-    pub fn replaced_by(&self, block: &DefinitionBlock) -> Result<Replaced, AllocError>
+    pub fn replaced_by(&self, block: &Block) -> Result<Replaced, AllocError>
         ensures { IfOk result (λ was. was ≡ replaced_by self.now block.now) }
     {
         match block {
-            DefinitionBlock::Applications(more) => Ok(Replaced::Applications(
+            Block::Applications(more) => Ok(Replaced::Applications(
                 self.applications.replaced_by(more)?,
             )),
-            DefinitionBlock::Calendars(more) => Ok(Replaced::Calendars(
-                self.calendars.replaced_by(more)?,
-            )),
-            DefinitionBlock::Periods(more) => Ok(Replaced::Periods(
-                self.periods.replaced_by(more)?,
-            )),
-            DefinitionBlock::Predecessors(more) => Ok(Replaced::Predecessors(
+            Block::Calendars(more) => Ok(Replaced::Calendars(self.calendars.replaced_by(more)?)),
+            Block::Periods(more) => Ok(Replaced::Periods(self.periods.replaced_by(more)?)),
+            Block::Predecessors(more) => Ok(Replaced::Predecessors(
                 self.predecessors.replaced_by(more)?,
             )),
-            DefinitionBlock::RunCycles(more) => Ok(Replaced::RunCycles(
-                self.run_cycles.replaced_by(more)?,
-            )),
-            DefinitionBlock::Options(_) => Ok(Replaced::Options(self.options)),
+            Block::RunCycles(more) => Ok(Replaced::RunCycles(self.run_cycles.replaced_by(more)?)),
+            Block::Options(_) => Ok(Replaced::Options(self.options)),
         }
     }
 

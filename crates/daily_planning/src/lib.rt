@@ -4,7 +4,7 @@
 //!
 //! ```text
 //! // the two rows of the first day move from the long-term plan to the current plan
-//! let view = store.read_window(Need::Daily(to))?;
+//! let view = store.read_window(alloc, Need::Daily(to))?;
 //! let Verdict::Done(change, reply) = extend(alloc, &view, to)? else {
 //!     return Err(Fail::new("refused"));
 //! };

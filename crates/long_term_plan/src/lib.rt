@@ -2,7 +2,7 @@
 //!
 //! ```text
 //! // two applications are named on each of two days
-//! let view = store.read_window(Need::LongTerm(None))?;
+//! let view = store.read_window(alloc, Need::LongTerm(None))?;
 //! let Verdict::Done(change, reply) = create(alloc, &view, first, last)? else {
 //!     return Err(Fail::new("refused"));
 //! };

@@ -33,7 +33,7 @@ impl Opening for Greeting<'_> {
                 "the file held no plan, so a new one was made in it. If it should have had one, check the name",
             ),
             StartingPlan::Migrated => Some(
-                "the plan was migrated from schema 1 to schema 2. An index that you had made on predecessor or link_in_force is gone",
+                "the plan was migrated from schema 1 to schema 2. If you had made an index on predecessor or link_in_force, it is gone: make it again",
             ),
         };
         if let Some(message) = message {

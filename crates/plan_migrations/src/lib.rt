@@ -3,7 +3,7 @@
 //!
 //! ```text
 //! // a plan of the current schema stays as it is
-//! assert_eq!(rt; version(&mut conn)?, Some(2));
+//! assert_eq!(rt; version(alloc, &mut conn)?, Some(2));
 //! assert_eq!(rt; migrate(alloc, &mut conn)?, (2, 2));
 //! ```
 #![tactic(auto)]

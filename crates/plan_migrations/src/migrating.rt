@@ -36,7 +36,7 @@ pub fn migrate<S: Alter>(
 {
     // its clause says that an open connection has a database
     let _ = conn.schema();
-    match version(conn)? {
+    match version(alloc, conn)? {
         Some(found) => if found == SCHEMA_VERSION {
             check_tables(conn, &TABLES)?;
             Ok((found, found))

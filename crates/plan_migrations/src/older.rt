@@ -50,7 +50,7 @@ pub fn migrate_older<S: Alter>(
     ensures crash { Survives (state S.Store conn.old) (state S.Store conn.new)
         (MayRenew (state S.Store conn.old)) }
 {
-    match version(conn)? {
+    match version(alloc, conn)? {
         Some(found) => if found == FIRST_VERSION {
             let (earlier, _) = migrate(alloc, conn)?;
             Ok(version_of(earlier))

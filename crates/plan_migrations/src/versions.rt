@@ -17,6 +17,7 @@ use plan_tables_opening::{is_known, version_text};
 use plan_tables_schema::SCHEMA_VERSION;
 use sqlite::types::ValueRef;
 use sqlite::{Alter, Connection, Row as Cells};
+use std::alloc::Global;
 
 /// The version before the current one, whose lists of predecessors have no limits.
 pub const FIRST_VERSION: u32 = 1;
@@ -60,7 +61,10 @@ fn shown_version<S: Alter>(conn: &mut Connection<S>) -> Result<Option<u32>, Migr
 /// a version for another reason than memory or the device. Nothing changes. It reads the version alone, so it returns
 /// a known one whatever else is wrong with the tables; and it returns that of a sound plan unless one of the four
 /// general errors or a limit on steps prevents it.
-pub fn version<S: Alter>(conn: &mut Connection<S>) -> Result<Option<u32>, MigrateFault>
+pub fn version<S: Alter>(
+    _alloc: Global,
+    conn: &mut Connection<S>,
+) -> Result<Option<u32>, MigrateFault>
     requires { conn.old.in_transaction ≡ false }
     ensures tells { HasCleanDisk (state S.Store conn.new)
         → TellsVersion (state S.Store conn.old) (state S.Store conn.new) result }

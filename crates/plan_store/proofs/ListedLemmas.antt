@@ -21,7 +21,7 @@ use Rattle.plan_store_lists.proofs.KeyLemmas.{contains_cases, contains_first, co
 use Rattle.plan_store_lists.proofs.RunLemmas.{items_more}
 use Rattle.plan_store.specs.Listed.{SortsRows}
 use Rattle.plan_store.specs.Listings.{Shown, AcceptsAll}
-use Rattle.plan_store.specs.declared.listings.ItemRefused.{ItemRefused}
+use Rattle.plan_store.specs.declared.listings.SinkFault.{SinkFault}
 use Rattle.plan_store.specs.declared.listings.ListFault.TheVariants.{Device, Sink}
 use Rattle.plan_store.proofs.ViewLemmas.{once_from_rows}
 
@@ -129,7 +129,7 @@ block_more_given f first blocks index block old new part lt at is_part is_old is
     ∙ ap (map f) (sym (items_more blocks index block lt at)))
 
 -- a sink that refuses is no device that fails
-pub refused_apart : (fault : ItemRefused) → Sink fault ≢ Device
+pub refused_apart : (fault : SinkFault) → Sink fault ≢ Device
 refused_apart fault is = cc
 
 -- one more item for a sink

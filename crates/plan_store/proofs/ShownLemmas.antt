@@ -38,7 +38,7 @@ use Rattle.plan_store.specs.Listed.{shown_as, with_link}
 use Rattle.plan_store.specs.Listings.{EmitsAll, EmitsPart, ShowRows, Shown, AcceptsAll, link_shown, row_shown}
 use Rattle.plan_store.specs.declared.listings.ListFault.{ListFault}
 use Rattle.plan_store.specs.declared.listings.ListFault.TheVariants.{Sink}
-use Rattle.plan_store.specs.declared.listings.ItemRefused.{ItemRefused}
+use Rattle.plan_store.specs.declared.listings.SinkFault.{SinkFault}
 use Rattle.plan_store.proofs.ListedLemmas.{from_map, pairs_map, takes_more, to_map}
 use Rattle.plan_store_lists.proofs.LookLemmas.{look_has, look_some}
 use Rattle.plan_store.proofs.PlaceLemmas.{stands_cp, stands_deleted, stands_history, stands_ltp}
@@ -381,7 +381,7 @@ module _ {K : Type 0} (Accepts Refuses : K → Shown → K → Type 0) (s : Sets
   drop_at (suc n) (q ∷ ps) less here = drop_at n ps (omega arith) here
 
   pub ends_at : (l : LinkedRows) → Some l ≡ link_at s app p → (new : K) → Refuses last (link_shown l) new
-      → (fault : ItemRefused) → EndsWithin Accepts Refuses old (map link_shown (links_at s app pairs)) new (Sink fault)
+      → (fault : SinkFault) → EndsWithin Accepts Refuses old (map link_shown (links_at s app pairs)) new (Sink fault)
   ends_at l is new refused fault = record {
     done = map link_shown (links_at s app (take i pairs));
     rest = map link_shown (links_at s app (drop i pairs));

@@ -14,7 +14,7 @@ use Rattle.planner_machine.specs.declared.job.Job.{Job}
 use Rattle.planner_machine.specs.Content.{Content, Seat as Places, Sets}
 use Rattle.planner_machine.specs.DailyPlan.{arrives_before, moved}
 use Rattle.planner_machine.specs.Moves.{keep}
-use Rattle.planner_machine.specs.Sound.{AreNumbered, HaveOwnKeys, IsUnplanned}
+use Rattle.planner_machine.specs.Sound.{AreNumbered, HaveOwnKeys, IsSound, IsUnplanned}
 use Rattle.planner_machine.specs.declared.content.Bounds.{Bounds}
 use Rattle.plan_store_lists.specs.Rows.{AreRows, look_up, of_current, of_deletion, of_row}
 use Rattle.plan_store_lists.specs.Seats.{HasSeats}
@@ -24,7 +24,7 @@ use Rattle.plan_store_lists.proofs.LookLemmas.{look_has, look_some}
 use Rattle.plan_store.specs.Contents.{content_of}
 use Rattle.plan_store.specs.HistoryReads.{ReadsKey, ReadsPlan, HasLasts}
 use Rattle.plan_store.specs.Parts.{Rest, rest_of, with_rest}
-use Rattle.plan_store.specs.Views.{Asks, IsPrepared, HasPredecessors, Hidden, IsDeletedKey, ListsSet, Sees, Shows}
+use Rattle.plan_store.specs.Views.{Asks, IsPrepared, HasPredecessors, Hidden, IsDeletedKey, ListsSet, Sees, Shows, ShowsListed}
 use Rattle.plan_store.specs.Views.{ShowsDeleted, ShowsLive, ShowsPart, TellsSizes, needed_pairs, bars, bars_from, deletion_serial}
 use Rattle.plan_store.specs.Views.{hidden_of, is_by_operator, is_from_plan_end, key_of, named, row_serial, shown}
 use Rattle.plan_store.specs.Views.{with_hidden, with_part, with_plans_alone, with_these}
@@ -78,7 +78,7 @@ tells_sizes rest view kept whole numbered =
 shows_none : (need : Need) (view : View) (kept : Kept) → view.content.now ≡ kept → key_of need ≡ None
     → ((app : List ℕ) (minute : ℕ) → Asks need (content_of kept) app minute → ⊥)
     → (shown view).sets.history ≡ (λ _. None) → (shown view).pairs ≡ []
-    → shown view ≡ named need (shown view).sets.history (content_of kept) → Shows need view (content_of kept)
+    → shown view ≡ named need (shown view).sets.history (content_of kept) → ShowsListed need view (content_of kept)
 shows_none need view kept whole no_key asks none no_pairs is = record {
   is = is;
   lasts = record {
@@ -95,7 +95,7 @@ shows_none need view kept whole no_key asks none no_pairs is = record {
 
 pub shows_definitions : (view : View) (kept : Kept) → view.content.now ≡ kept
     → shown view ≡ with_plans_alone (λ _. None) (λ _. None) (content_of kept)
-    → Shows Definitions view (content_of kept)
+    → ShowsListed Definitions view (content_of kept)
 shows_definitions view kept whole is = shows_none Definitions view kept whole refl (λ _ _ asked. asked)
     (ap (λ (x : Content). x.sets.history) is) (ap (λ (x : Content). x.pairs) is) is
 
@@ -121,7 +121,7 @@ module _ (t : ℕ) (kept : Kept) (early : List Row) (is : early ≡ filter (arri
 
   pub shows_early : (view : View) → view.content.now ≡ kept
       → shown view ≡ with_plans_alone (look_up row_serial early) (content_of kept).sets.cp (content_of kept)
-      → Shows (Daily t) view (content_of kept)
+      → ShowsListed (Daily t) view (content_of kept)
   shows_early view whole is' = shows_none (Daily t) view kept whole refl (λ _ _ asked. asked)
       (ap (λ (x : Content). x.sets.history) is') (ap (λ (x : Content). x.pairs) is')
       (is' ∙ early_named (shown view).sets.history)
@@ -158,7 +158,7 @@ module _ (need : Need) (view : View) (kept : Kept) (lasts : List Row) (whole : v
   shows_lasts : shown view ≡ named need (look_up row_serial lasts) (content_of kept)
       → (shown view).sets.history ≡ look_up row_serial lasts
       → (AreNumbered (content_of kept).sets → HaveOwnKeys (content_of kept).sets
-      → ShowsLive (key_of need) (content_of kept).sets.history view) → Shows need view (content_of kept)
+      → ShowsLive (key_of need) (content_of kept).sets.history view) → ShowsListed need view (content_of kept)
   shows_lasts is lasts_are live = record {
     is = subst (λ h. shown view ≡ named need h (content_of kept)) (sym lasts_are) is;
     lasts = subst (HasLasts (Asks need (content_of kept)) (content_of kept).sets.history) (sym lasts_are) asked.lasts;
@@ -170,7 +170,7 @@ module _ (need : Need) (view : View) (kept : Kept) (lasts : List Row) (whole : v
 pub shows_key : (key : KeyValue) (view : View) (kept : Kept) (lasts : List Row) → view.content.now ≡ kept
     → IsPrepared (Key key) lasts kept → view.history.now.items ≡ kept.history.items
     → shown view ≡ with_part kept.buffer.key (look_up row_serial lasts) (λ _. None) (content_of kept)
-    → Shows (Key key) view (content_of kept)
+    → ShowsListed (Key key) view (content_of kept)
 shows_key key view kept lasts whole asked history is =
     let c = content_of kept in
     let lasts_are : (shown view).sets.history ≡ look_up row_serial lasts = ap (λ (x : Content). x.sets.history) is in
@@ -185,7 +185,7 @@ pub shows_plan : (only : Option (List ℕ)) (view : View) (kept : Kept) (lasts :
     → IsPrepared (LongTerm only) lasts kept → view.history.now.items ≡ kept.history.items
     → shown view ≡ with_part kept.buffer.key (look_up row_serial lasts)
     (λ serial. keep (bars kept.bounds) (look_up deletion_serial kept.deletions.items serial)) (content_of kept)
-    → Shows (LongTerm only) view (content_of kept)
+    → ShowsListed (LongTerm only) view (content_of kept)
 shows_plan only view kept lasts whole asked history is = shows_lasts (LongTerm only) view kept lasts whole asked history
     (is ∙ ap (λ (k : Option KeyValue). with_part k (look_up row_serial lasts)
     (λ serial. keep (bars kept.bounds) (look_up deletion_serial kept.deletions.items serial)) (content_of kept)) asked.key)
@@ -276,6 +276,16 @@ module _ {history : ℕ → Option Row} {deletions : ℕ → Option Deletion} (n
         (sym (seen_is view c is)) lasts;
     predecessors = predecessors;
   }
+
+-- over sound content a window of lists has the live row and the sizes
+pub shows_sound : (need : Need) (view : View) (c : Content) → IsSound c → ShowsListed need view c → Shows need view c
+shows_sound need view c sound shows = record {
+  is = shows.is;
+  lasts = shows.lasts;
+  predecessors = shows.predecessors;
+  live = shows.live sound.serials sound.keys;
+  sizes = shows.sizes sound.serials;
+}
 
 pub sees_key : (key : KeyValue) (view : View) (c : Content) → Shows (Key key) view c
     → Sees (Some key) (ReadsKey (with_hidden (hidden_of c) view) key) (hidden_of c) view

@@ -217,6 +217,14 @@ pub record Shows (need : Need) (view : View) (c : Content) : Type 0 where
   pub is : shown view ≡ named need (shown view).sets.history c
   pub lasts : HasLasts (Asks need c) c.sets.history (shown view).sets.history
   pub predecessors : HasPredecessors c.sets.history view
+  pub live : ShowsLive (key_of need) c.sets.history view
+  pub sizes : TellsSizes c.sets view
+
+-- so does a window of lists, which may have a part of a content: the live row and the sizes are those of sound sets
+pub record ShowsListed (need : Need) (view : View) (c : Content) : Type 0 where
+  pub is : shown view ≡ named need (shown view).sets.history c
+  pub lasts : HasLasts (Asks need c) c.sets.history (shown view).sets.history
+  pub predecessors : HasPredecessors c.sets.history view
   pub live : AreNumbered c.sets → HaveOwnKeys c.sets → ShowsLive (key_of need) c.sets.history view
   pub sizes : AreNumbered c.sets → TellsSizes c.sets view
 

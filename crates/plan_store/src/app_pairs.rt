@@ -13,7 +13,7 @@ ghost use Rattle.plan_store.specs.Views.{row_serial};
 ghost use Rattle.plan_store.specs.declared.listings.What.{What as Showable};
 
 use crate::contents::Content;
-use crate::listings::{Item, ItemSink, ListFault};
+use crate::listings::{Item, ListFault, RowSink};
 use crate::slices::of_serial;
 use external_dependencies::{Pair, Pairs};
 use occurrences::{Deletion, Row, Serial};
@@ -111,7 +111,7 @@ impl Content {
     }
 
     // Hands the sink the rows of these pairs, where their successors are of the application.
-    fn hand_known<K: ItemSink>(
+    fn hand_known<K: RowSink>(
         &self,
         others: &[Row],
         pairs: &[Pair],
@@ -132,7 +132,7 @@ impl Content {
         let mut count = 0;
         for pair in pairs {
             match self.known_link(others, *pair, app) {
-                Some(link) => match sink.accept(Item::Pair(&link.0, &link.1)) {
+                Some(link) => match sink.take(Item::Pair(&link.0, &link.1)) {
                     Ok(()) => count += 1,
                     Err(fault) => return Err(ListFault::Sink(fault)),
                 },
@@ -145,7 +145,7 @@ impl Content {
     /// Hands the sink the pairs of one application, as `rows_to` does, where history and the deletions may stand
     /// elsewhere: these other rows are of history, in the order of their serials, and the lists and they have the
     /// application's rows and the predecessors of those.
-    pub fn app_pairs_to<K: ItemSink>(
+    pub fn app_pairs_to<K: RowSink>(
         &self,
         alloc: Global,
         others: &[Row],
@@ -180,7 +180,7 @@ impl Content {
     }
 
     /// Hands the sink the pairs, as `rows_to` does, where the lists have all of history and all deletions.
-    pub(crate) fn listed_pairs_to<K: ItemSink>(
+    pub(crate) fn listed_pairs_to<K: RowSink>(
         &self,
         alloc: Global,
         app: Option<&App>,

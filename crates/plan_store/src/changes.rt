@@ -1,7 +1,7 @@
 ghost use Rattle.std.specs.Prelude.{◌≡◌, []};
 ghost use Rattle.plan_store.specs.Changes.{ChangesNothing};
 
-use app_definitions::{DefinitionBlock, Kind};
+use app_definitions::{Block, Kind};
 use external_dependencies::{PairChange, Pairs};
 use occurrences::{CurrentRow, Deletion, Refusal, Reply, Row};
 use plan_store_lists::{AppList, LinkBlocks};
@@ -15,7 +15,7 @@ pub enum DefinitionChange {
     /// They stay.
     AsBefore,
     /// A block's definitions are added, each in place of the one of its kind and name.
-    Merged(DefinitionBlock),
+    Merged(Block),
     /// The definition of one kind and name is removed.
     Removed { kind: Kind, name: Name },
 }

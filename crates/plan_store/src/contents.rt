@@ -80,7 +80,7 @@ impl Content {
     ghost use Rattle.plan_store.specs.Contents.{content_of};
     ghost use Rattle.plan_store.specs.Parts.{Rest, with_rest};
     ghost use Rattle.plan_store_lists.specs.Rows.{look_up};
-    ghost use Rattle.plan_store.specs.Views.{IsPrepared, IsFilled, Shows, TellsSizes, bars, current_serial};
+    ghost use Rattle.plan_store.specs.Views.{IsPrepared, IsFilled, ShowsListed, TellsSizes, bars, current_serial};
     ghost use Rattle.plan_store.specs.Views.{deletion_serial, row_serial, shown, with_part, with_plans_alone};
     ghost use Rattle.occurrences.specs.declared.row.Row.{Row as RowValue};
     ghost use Rattle.plan_store.specs.Room.{HasPutSeats, HasRoom, HasRowRoom, HasSame, with_pairs_of};
@@ -112,23 +112,22 @@ impl Content {
     /// Makes ready what a window for the need shows that is no part of a list: for a daily plan the rows of the
     /// long-term plan that arrive before its end, and for a key and for the long-term plan the rows of history that are
     /// asked for. The content stays as it is.
-    pub fn fill_window(&mut self, need: &Need) -> Result<(), AllocError>
+    pub fn fill_window(&mut self, alloc: Global, need: &Need) -> Result<(), AllocError>
         ensures same { content_of self.new ≡ content_of self.old }
         ensures filled { OnOk result (IsFilled need.now self.new) }
     {
         match need {
-            Need::Daily(moment) => self.fill_early(*moment),
-            Need::Key(_) | Need::LongTerm(_) => self.fill_for(need),
+            Need::Daily(moment) => self.fill_early(alloc, *moment),
+            Need::Key(_) | Need::LongTerm(_) => self.fill_for(alloc, need),
             Need::Definitions => Ok(()),
         }
     }
 
     // Fills the buffer with the rows of the long-term plan that arrive before the moment.
-    fn fill_early(&mut self, moment: Moment) -> Result<(), AllocError>
+    fn fill_early(&mut self, alloc: Global, moment: Moment) -> Result<(), AllocError>
         ensures same { content_of self.new ≡ content_of self.old }
         ensures filled { OnOk result (IsFilled (Daily moment) self.new) }
     {
-        let alloc = *self.buffer.lasts.allocator();
         let found = arriving_before(alloc, &self.ltp, moment)?;
         let early = RowBlocks::from_rows(alloc, &found)?;
         self.buffer.early = early;
@@ -136,12 +135,12 @@ impl Content {
     }
 
     // Fills the buffer with the rows of history that a statement with the need reads.
-    fn fill_for(&mut self, need: &Need) -> Result<(), AllocError>
+    fn fill_for(&mut self, alloc: Global, need: &Need) -> Result<(), AllocError>
         ensures same { content_of self.new ≡ content_of self.old }
         ensures filled { OnOk result (IsPrepared need.now self.new.buffer.lasts.items self.new) }
     {
         self.buffer.key = key_of(need);
-        let queries = last_queries_of(*self.buffer.lasts.allocator(), self, need)?;
+        let queries = last_queries_of(alloc, self, need)?;
         fill_lasts(&mut self.buffer.lasts, &self.history, &queries)
     }
 
@@ -149,7 +148,7 @@ impl Content {
     /// if history and the deletions are stored elsewhere.
     pub fn window(&self, need: &Need) -> View<'_>
         requires { IsFilled need.now self.now }
-        ensures shows { Shows need.now result (content_of self.now) }
+        ensures shows { ShowsListed need.now result (content_of self.now) }
         ensures parts { (rest : Rest) → AreNumbered (with_rest rest (content_of self.now)).sets
             → TellsSizes (content_of self.now).sets result }
     {

@@ -3,9 +3,9 @@
 //!
 //! ```text
 //! let mut store = ListStore::new(alloc);
-//! assert!(rt; store.job(7)?.is_none());
+//! assert!(rt; store.job(alloc, 7)?.is_none());
 //! // what a decision on the long-term plan sees, before there is one
-//! let view = store.read_window(Need::LongTerm(None))?;
+//! let view = store.read_window(alloc, Need::LongTerm(None))?;
 //! assert!(rt; view.bounds().is_none() && view.ltp().is_empty());
 //! assert_eq!(rt; view.issued(), 0);
 //! ```
@@ -39,7 +39,7 @@ pub use changes::{Change, DefinitionChange, Moves, NewLists, Verdict};
 pub use contents::Content;
 pub use list_store::ListStore;
 pub use listed::deletions_to;
-pub use listings::{Item, ItemRefused, ItemSink, ListFault, What};
+pub use listings::{Item, ListFault, RowSink, SinkFault, What};
 pub use planner_machine::{Answer, Bounds, Job, JobText};
 pub use queries::{LastQuery, last_queries_of};
 pub use spans::between;

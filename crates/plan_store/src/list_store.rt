@@ -1,6 +1,9 @@
+ghost use Rattle.planner_machine.specs.Sound.{IsSound};
+ghost use Rattle.plan_store.specs.Contents.{content_of};
+
 use crate::changes::Change;
 use crate::contents::Content;
-use crate::listings::{ItemSink, ListFault, What};
+use crate::listings::{ListFault, RowSink, What};
 use crate::stores::{Need, PlanStore, StoreFault};
 use crate::views::View;
 use app_definitions::Definitions;
@@ -13,15 +16,14 @@ use work_calendars::App;
 #[derive(Drop)]
 pub struct ListStore {
     content: Content,
+    ghost sound: { ∥ IsSound (content_of content) ∥₁ },
 }
 
 impl ListStore {
     ghost use Rattle.std.specs.Prelude.{◌≡◌, IfErr, OnOk, option_copied};
-    ghost use Rattle.planner_machine.specs.Sound.{IsSound};
     ghost use Rattle.planner_machine.specs.Content.{nothing_known};
-    ghost use Rattle.plan_store.specs.Contents.{content_of};
     ghost use Rattle.plan_store.specs.Lists.{listed};
-    ghost use Rattle.plan_store.specs.Views.{IsFilled};
+    ghost use Rattle.plan_store.specs.Views.{IsFilled, Shows};
 
     /// A store before its first statement.
     pub fn new(alloc: Global) -> ListStore
@@ -41,13 +43,20 @@ impl ListStore {
         &self.content
     }
 
-    fn fill_window(&mut self, need: &Need) -> Result<(), StoreFault>
+    fn fill_window(&mut self, alloc: Global, need: &Need) -> Result<(), StoreFault>
         ensures same { listed self.new ≡ listed self.old }
         ensures filled { OnOk result (IsFilled need.now self.new.content) }
         ensures memory { IfErr result (λ fault. fault ≡ StoreFault.Memory) }
     {
-        self.content.fill_window(need)?;
+        self.content.fill_window(alloc, need)?;
         Ok(())
+    }
+
+    fn filled_window(&self, need: &Need) -> View<'_>
+        requires { IsFilled need.now self.now.content }
+        ensures { Shows need.now result (listed self.now) }
+    {
+        self.content.window(need)
     }
 
     fn kept_job(&self, number: u64) -> Option<&Job>
@@ -59,6 +68,7 @@ impl ListStore {
 
 impl PlanStore for ListStore {
     ghost use Rattle.std.specs.Prelude.{◌≡◌, ⊤, Ok};
+    ghost use Rattle.app_definition_soundness.proofs.SoundAgain.{sound_again};
     ghost use Rattle.plan_store.specs.Lists.{listed};
 
     ghost content = { listed };
@@ -78,7 +88,9 @@ impl PlanStore for ListStore {
 
     ghost left_is_clean = { λ _ _ _. tt };
 
-    fn definitions(&mut self) -> Result<Definitions, StoreFault> {
+    ghost honest_is_sound = { λ store _. sound_again (content_of store.content) store.sound };
+
+    fn definitions(&mut self, _alloc: Global) -> Result<Definitions, StoreFault> {
         Ok(self.content.definitions.clone()?)
     }
 
@@ -90,21 +102,20 @@ impl PlanStore for ListStore {
         Ok(self.content.bounds)
     }
 
-    fn links(&mut self) -> Result<Links, StoreFault> {
-        let alloc = *self.content.buffer.lasts.allocator();
+    fn links(&mut self, alloc: Global) -> Result<Links, StoreFault> {
         Ok(self.content.in_force.to_links(alloc)?)
     }
 
-    fn read_window<'a>(&'a mut self, need: Need) -> Result<View<'a>, StoreFault> {
-        self.fill_window(&need)?;
-        Ok(self.content.window(&need))
+    fn read_window<'a>(&'a mut self, alloc: Global, need: Need) -> Result<View<'a>, StoreFault> {
+        self.fill_window(alloc, &need)?;
+        Ok(self.filled_window(&need))
     }
 
-    fn job<'a>(&'a mut self, number: u64) -> Result<Option<&'a Job>, StoreFault> {
+    fn job<'a>(&'a mut self, _alloc: Global, number: u64) -> Result<Option<&'a Job>, StoreFault> {
         Ok(self.kept_job(number))
     }
 
-    fn rows_to<K: ItemSink>(
+    fn rows_to<K: RowSink>(
         &mut self,
         alloc: Global,
         what: What,

@@ -17,7 +17,7 @@ ghost use Rattle.plan_store.specs.Parts.{ListsAll, Rest, with_rest};
 ghost use Rattle.plan_store.specs.declared.listings.What.{What as Showable};
 
 use crate::contents::Content;
-use crate::listings::{Item, ItemRefused, ItemSink, ListFault, What};
+use crate::listings::{Item, ListFault, RowSink, SinkFault, What};
 use external_dependencies::{Link, Pair};
 use occurrences::{CurrentRow, Deletion, Row, Serial, Status};
 use plan_store_lists::{LinkBlocks, PlanRow, RowBlocks};
@@ -127,7 +127,7 @@ fn push_blocks<'a, T: PlanRow>(
 }
 
 // Passes the sink one row, with its letter or without one.
-fn emit<T: Lettered, K: ItemSink>(x: &T, is_plain: bool, sink: &mut K) -> Result<(), ItemRefused>
+fn emit<T: Lettered, K: RowSink>(x: &T, is_plain: bool, sink: &mut K) -> Result<(), SinkFault>
     ensures taken { OnOk result
         (K.accepts sink.old (shown_as T.row_of T.letter_of is_plain x.now) sink.new) }
     ensures refused { OnErr result
@@ -135,14 +135,14 @@ fn emit<T: Lettered, K: ItemSink>(x: &T, is_plain: bool, sink: &mut K) -> Result
 {
     let row = x.row();
     if is_plain {
-        sink.accept(Item::Plan(&row))
+        sink.take(Item::Plan(&row))
     } else {
-        sink.accept(Item::Marked(&row, x.letter()))
+        sink.take(Item::Marked(&row, x.letter()))
     }
 }
 
 // Passes the sink the rows, in their order.
-fn emit_each<T: Lettered, K: ItemSink>(
+fn emit_each<T: Lettered, K: RowSink>(
     rows: &[&T],
     is_plain: bool,
     sink: &mut K,
@@ -163,7 +163,7 @@ fn emit_each<T: Lettered, K: ItemSink>(
 }
 
 // Passes the sink the rows of a set, of one application or all, by input arrival, application and serial.
-fn emit_rows<T: Lettered, K: ItemSink>(
+fn emit_rows<T: Lettered, K: RowSink>(
     alloc: Global,
     list: &RowBlocks<T>,
     app: Option<&App>,
@@ -252,7 +252,7 @@ fn linked(all: &[&Row], pair: Pair, app: Option<&App>) -> Option<(Row, Row)>
 }
 
 // Passes the sink the rows of these pairs, of one application or all.
-fn emit_links<K: ItemSink>(
+fn emit_links<K: RowSink>(
     all: &[&Row],
     pairs: &[Pair],
     app: Option<&App>,
@@ -270,7 +270,7 @@ fn emit_links<K: ItemSink>(
     let mut count = 0;
     for pair in pairs {
         match linked(all, *pair, app) {
-            Some(link) => match sink.accept(Item::Pair(&link.0, &link.1)) {
+            Some(link) => match sink.take(Item::Pair(&link.0, &link.1)) {
                 Ok(()) => count += 1,
                 Err(fault) => return Err(ListFault::Sink(fault)),
             },
@@ -281,7 +281,7 @@ fn emit_links<K: ItemSink>(
 }
 
 // Passes the sink the entries of lists, in their order, each with its limit.
-fn emit_lists<K: ItemSink>(links: &[Link], sink: &mut K) -> Result<usize, ListFault>
+fn emit_lists<K: RowSink>(links: &[Link], sink: &mut K) -> Result<usize, ListFault>
     ensures all { IfOk result (λ count. (count ≡ length links.now)
         × AcceptsAll K.accepts sink.old (map in_force_shown links.now) sink.new) }
     ensures part { IfErr result (λ fault. EndsWithin K.accepts K.refuses sink.old
@@ -289,7 +289,7 @@ fn emit_lists<K: ItemSink>(links: &[Link], sink: &mut K) -> Result<usize, ListFa
     ensures blames { IfErr result (λ fault. fault ≢ ListFault.Device) }
 {
     for link in links {
-        match sink.accept(Item::Link(link)) {
+        match sink.take(Item::Link(link)) {
             Ok(()) => {}
             Err(fault) => return Err(ListFault::Sink(fault)),
         }
@@ -298,7 +298,7 @@ fn emit_lists<K: ItemSink>(links: &[Link], sink: &mut K) -> Result<usize, ListFa
 }
 
 // Passes the sink the entries of all lists, block after block.
-fn emit_all_lists<K: ItemSink>(lists: &LinkBlocks, sink: &mut K) -> Result<usize, ListFault>
+fn emit_all_lists<K: RowSink>(lists: &LinkBlocks, sink: &mut K) -> Result<usize, ListFault>
     ensures all { IfOk result (λ count. (count ≡ length lists.now.items)
         × AcceptsAll K.accepts sink.old (map in_force_shown lists.now.items) sink.new) }
     ensures part { IfErr result (λ fault. EndsWithin K.accepts K.refuses sink.old
@@ -321,7 +321,7 @@ fn emit_all_lists<K: ItemSink>(lists: &LinkBlocks, sink: &mut K) -> Result<usize
 
 /// Passes the sink deletions in their order, wherever they are stored. If they are all of one application, that is its
 /// listing.
-pub fn deletions_to<K: ItemSink>(
+pub fn deletions_to<K: RowSink>(
     alloc: Global,
     deletions: &[Deletion],
     sink: &mut K,
@@ -367,7 +367,7 @@ impl Content {
     }
 
     /// Passes the sink the long-term plan, as `rows_to` does, wherever history and deletions are stored.
-    pub fn ltp_to<K: ItemSink>(
+    pub fn ltp_to<K: RowSink>(
         &self,
         alloc: Global,
         app: Option<&App>,
@@ -386,7 +386,7 @@ impl Content {
     }
 
     /// Passes the sink the current plan, as `rows_to` does, wherever history and deletions are stored.
-    pub fn cp_to<K: ItemSink>(
+    pub fn cp_to<K: RowSink>(
         &self,
         alloc: Global,
         app: Option<&App>,
@@ -406,7 +406,7 @@ impl Content {
 
     /// Passes the sink the pairs, as `rows_to` does, where these rows, in any order, are all of history and all
     /// deletions, wherever those are stored. The occurrences are sorted by serial once.
-    pub fn pairs_to<K: ItemSink>(
+    pub fn pairs_to<K: RowSink>(
         &self,
         alloc: Global,
         history: &[Row],
@@ -439,7 +439,7 @@ impl Content {
     }
 
     /// Passes the sink the lists in force, as `rows_to` does, wherever history and deletions are stored.
-    pub fn links_to<K: ItemSink>(&self, app: Option<&App>, sink: &mut K) -> Result<usize, ListFault>
+    pub fn links_to<K: RowSink>(&self, app: Option<&App>, sink: &mut K) -> Result<usize, ListFault>
         ensures all { (rest : Rest) → AreNumbered (with_rest rest (content_of self.now)).sets
             → IfOk result (EmitsAll K.accepts (IsListing Showable.Links (option_copied app.entry)
             (with_rest rest (content_of self.now))) sink.old sink.new) }
@@ -460,7 +460,7 @@ impl Content {
 
     /// Passes the sink what a listing shows, in its order, of one application or of all, and returns how many items
     /// the sink accepted. A fault leaves the sink with those before it; the device never causes one.
-    pub fn rows_to<K: ItemSink>(
+    pub fn rows_to<K: RowSink>(
         &self,
         alloc: Global,
         what: What,

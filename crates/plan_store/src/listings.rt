@@ -38,10 +38,10 @@ pub enum Item<'a> {
 /// A sink refused an item. The sink knows why.
 #[derive(Clone, Copy, Debug, PartialEq, Eq, Error)]
 #[error("the item was refused")]
-pub struct ItemRefused;
+pub struct SinkFault;
 
 /// What receives the items of a listing, one after another.
-pub trait ItemSink {
+pub trait RowSink {
     // the sink after it has accepted an item
     ghost accepts: { Self → Shown → Self → Type 0 };
 
@@ -49,7 +49,7 @@ pub trait ItemSink {
     ghost refuses: { Self → Shown → Self → Type 0 };
 
     /// Accepts an item.
-    fn accept(&mut self, item: Item<'_>) -> Result<(), ItemRefused>
+    fn take(&mut self, item: Item<'_>) -> Result<(), SinkFault>
         ensures taken { OnOk result (accepts self.old (item_shown item.entry) self.new) }
         ensures refused { OnErr result (refuses self.old (item_shown item.entry) self.new) };
 }
@@ -65,5 +65,5 @@ pub enum ListFault {
     Device,
     /// The sink refused an item. The store can still be used.
     #[error("the item was refused")]
-    Sink(ItemRefused),
+    Sink(SinkFault),
 }

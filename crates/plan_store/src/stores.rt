@@ -2,14 +2,14 @@ ghost use Rattle.std.specs.Prelude.{◌≡◌, ◌⊎◌, ℕ, ◌<◌, ◌≤�
 ghost use Rattle.std.specs.Borrow.{sem};
 ghost use Rattle.planner_machine.specs.Content.{Content as ContentValue};
 ghost use Rattle.plan_store.specs.Changes.{Fits, after};
-ghost use Rattle.planner_machine.specs.Sound.{AreNumbered, IsSound};
+ghost use Rattle.planner_machine.specs.Sound.{IsSound};
 ghost use Rattle.plan_store.specs.Faults.{IsMildListing, MoreFailures};
 ghost use Rattle.plan_store.specs.Listings.{EmitsAll, EmitsPart, IsListing};
 ghost use Rattle.plan_store.specs.Stores.{Applies, LendsRead, ReadsStore};
 ghost use Rattle.plan_store.specs.Views.{Shows};
 
 use crate::changes::Change;
-use crate::listings::{ItemSink, ListFault, What};
+use crate::listings::{ListFault, RowSink, What};
 use crate::views::View;
 use app_definitions::Definitions;
 use external_dependencies::Links;
@@ -90,7 +90,7 @@ pub trait PlanStore {
     ghost has_failed: { Self → Self → Type 0 };
 
     /// An owned copy of the definitions.
-    fn definitions(&mut self) -> Result<Definitions, StoreFault>
+    fn definitions(&mut self, alloc: Global) -> Result<Definitions, StoreFault>
         ensures { ReadsStore is_honest content failures may_leave is_clean is_whole has_failed
             self.old self.new result (λ all. all ≡ (content self.old).definitions) };
 
@@ -100,36 +100,35 @@ pub trait PlanStore {
             self.old self.new result (λ bounds. bounds ≡ (content self.old).sets.bounds) };
 
     /// An owned copy of the lists in force.
-    fn links(&mut self) -> Result<Links, StoreFault>
+    fn links(&mut self, alloc: Global) -> Result<Links, StoreFault>
         ensures { ReadsStore is_honest content failures may_leave is_clean is_whole has_failed
             self.old self.new result (λ links. links ≡ (content self.old).in_force) };
 
     /// Lends a window that shows what the need names.
-    fn read_window<'a>(&'a mut self, need: Need) -> Result<View<'a>, StoreFault>
+    fn read_window<'a>(&'a mut self, alloc: Global, need: Need) -> Result<View<'a>, StoreFault>
         ensures* { sem 𝓛 (LendsRead Self.row is_honest content failures may_leave is_clean is_whole
             has_failed self.old self.entry result
             (λ view. Shows need view (content self.old))) };
 
     /// Lends the job that is kept under the number, if there is any.
-    fn job<'a>(&'a mut self, number: u64) -> Result<Option<&'a Job>, StoreFault>
+    fn job<'a>(&'a mut self, alloc: Global, number: u64) -> Result<Option<&'a Job>, StoreFault>
         ensures* { sem 𝓛 (LendsRead Self.row is_honest content failures may_leave is_clean is_whole
             has_failed self.old self.entry result
             (λ job. option_copied job ≡ (content self.old).jobs number)) };
 
     /// Passes the sink what a listing shows, in its order, of one application or of all, and returns how many items
     /// the sink accepted. A fault leaves the sink with those before it.
-    fn rows_to<K: ItemSink>(
+    fn rows_to<K: RowSink>(
         &mut self,
         alloc: Global,
         what: What,
         app: Option<&App>,
         sink: &mut K,
     ) -> Result<usize, ListFault>
-        ensures all { is_honest self.new → AreNumbered (content self.old).sets
+        ensures all { is_honest self.new
             → IfOk result (EmitsAll K.accepts (IsListing what (option_copied app.entry)
             (content self.old)) sink.old sink.new) }
         ensures part { is_honest self.old → is_honest self.new ⊎ is_clean self.new
-            → AreNumbered (content self.old).sets
             → IfErr result (EmitsPart K.accepts K.refuses (IsListing what (option_copied app.entry)
             (content self.old)) sink.old sink.new) }
         ensures same { is_honest self.new → content self.new ≡ content self.old }
@@ -158,4 +157,7 @@ pub trait PlanStore {
 
     // nothing is said of what a crash may leave once the device gave a wrong answer
     ghost left_is_clean: { (store : Self) (c : ContentValue) → may_leave store c → is_clean store };
+
+    // what an honest store keeps is sound, so no call requires it of a caller
+    ghost honest_is_sound: { (store : Self) → is_honest store → IsSound (content store) };
 }

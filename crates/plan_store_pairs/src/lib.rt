@@ -4,7 +4,7 @@
 //!
 //! ```text
 //! // B is added at 12.00 of the second day, and follows A of 08.00, which is the third row
-//! let view = store.read_window(Need::Key(key))?;
+//! let view = store.read_window(alloc, Need::Key(key))?;
 //! let Verdict::Done(change, _reply) = add(alloc, &view, Plan::LongTerm, &key)? else {
 //!     return Err(Fail::new("refused"));
 //! };

@@ -34,7 +34,7 @@ use Rattle.plan_tables_writing.specs.declared.redefining.DefinitionMoves.{Defini
 use Rattle.plan_tables.specs.Causes.{CanAccept, HasFailed}
 use Rattle.plan_tables.specs.Found.{Tells}
 use Rattle.plan_tables.specs.Gone.{NotesAll}
-use Rattle.plan_tables.specs.Kept.{CanRead, IsKept, IsMet, NotesIn}
+use Rattle.plan_tables.specs.Kept.{CanRead, IsKept, IsMet, KeepsSound, NotesIn}
 use Rattle.plan_tables.specs.Representable.{BringMoves}
 use Rattle.plan_tables.specs.Session.{IsWhole, doubt_after, failures_after, fault_of}
 use Rattle.plan_tables.specs.Stored.{LeavesSound}
@@ -131,6 +131,9 @@ module _ {S : Type 0} {g : Ghosts S} (old : TableStore S g) (change : Change) (m
           → ∥ (failures ≡ 0 → HasCleanDisk to → (IsTrue in_doubt → IsTrue to.is_open) → IsKept to now) ∥₁
       keeps_commit failures in_doubt = ∥∥₁_map kept (λ h _ clean _. keeps clean (h (calm clean)))
 
+      pub sound_commit : KeepsSound to now
+      sound_commit = ∥∥₁_map kept (λ h can. (keeps can.0 (h (calm can.0))).sound)
+
       -- arrivals that were noted first, and those of the deletions that are put
       pub noted_commit : (gone : Option (List Arrival))
           → ((all : ℕ → Option Deletion) → NotesAll all old.gone → NotesAll all gone)
@@ -159,6 +162,13 @@ module _ {S : Type 0} {g : Ghosts S} (old : TableStore S g) (change : Change) (m
           (λ leaves. did.memory clean own m (memory_is why leaves)) in
           let same = did.undone clean own m opens in
           subst (IsKept to) (sym did.lists) (keeps_still from to lists k opens same.0 same.1))
+
+      pub sound_undone : KeepsSound to now
+      sound_undone = ∥∥₁_elim kept squash₁ (λ h. ∥∥₁_map old.sound (λ held can.
+          let was = still can.0 in
+          let k = h was in
+          subst IsSound (sym (kept_undone from to lists now did.lists (did.undone can.0 own (met was k) can.1).0))
+          (held (was, k.stored.is_open))))
 
       pub noted_undone : (gone : Option (List Arrival))
           → ((all : ℕ → Option Deletion) → NotesAll all old.gone → NotesAll all gone) → NotesIn to gone

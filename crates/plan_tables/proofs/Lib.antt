@@ -11,6 +11,7 @@ pub mod SessionLemmas
 mod CommitLemmas
 pub mod MetLemmas
 pub mod SetLemmas
+mod SoundLemmas
 pub mod StorableMoves
 pub mod UnopenedLemmas
 mod UnreadLemmas

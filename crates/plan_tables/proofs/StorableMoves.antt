@@ -2,8 +2,8 @@
 use Rattle.std.proofs.Common.{◌≡◌, ℕ, List, [], sym, subst, Option, Some}
 use Rattle.std.specs.List.{Contains}
 use Rattle.sqlite.specs.Order.{Row as Values}
-use Rattle.app_definitions.specs.declared.kinds.DefinitionBlock.{DefinitionBlock}
-use Rattle.app_definitions.specs.declared.kinds.DefinitionBlock.TheVariants as block
+use Rattle.app_definitions.specs.declared.kinds.Block.{Block}
+use Rattle.app_definitions.specs.declared.kinds.Block.TheVariants as block
 use Rattle.app_definitions.specs.declared.kinds.Kind.{Kind}
 use Rattle.app_definitions.specs.declared.kinds.Kind.TheVariants as kind
 use Rattle.plan_store_lists.proofs.KeyLemmas.{nothing}
@@ -27,7 +27,7 @@ rows_for t IsRow all names rows storable are v has = storable v ((are.rows_are v
 none_for : (t : Table) (rows : List Values) → rows ≡ [] → AreRowsFor t rows
 none_for t rows none v has = absurd (nothing v (subst (λ (xs : List Values). Contains xs v) none has))
 
-block_storable : (b : DefinitionBlock) (moves : DefinitionMoves) → BringsRows b moves → CanStore (Some (kind_of b)) moves
+block_storable : (b : Block) (moves : DefinitionMoves) → BringsRows b moves → CanStore (Some (kind_of b)) moves
 block_storable (block.Applications more) moves are = rows_for _ _ more _ _ (applications_storable more) are
 block_storable (block.Calendars more) moves are = rows_for _ _ more _ _ (calendars_storable more) are
 block_storable (block.Periods more) moves are = rows_for _ _ more _ _ (periods_storable more) are

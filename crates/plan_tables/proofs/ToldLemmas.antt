@@ -23,8 +23,8 @@ use Rattle.app_definition_records.specs.FieldCounts.{HasCalendarFields, HasCycle
 use Rattle.app_definition_records.specs.FieldCounts.{HasPredecessorFields}
 use Rattle.app_definitions.specs.Definitions.{merged}
 use Rattle.app_definitions.specs.declared.definitions.Definitions.{Definitions}
-use Rattle.app_definitions.specs.declared.kinds.DefinitionBlock.{DefinitionBlock}
-use Rattle.app_definitions.specs.declared.kinds.DefinitionBlock.TheVariants as block
+use Rattle.app_definitions.specs.declared.kinds.Block.{Block}
+use Rattle.app_definitions.specs.declared.kinds.Block.TheVariants as block
 use Rattle.planner_machine.specs.Content.{Content}
 use Rattle.planner_machine.specs.Sound.{AreDefinitions, IsSound}
 use Rattle.planner_machine.specs.declared.job.Job.{Job}
@@ -76,7 +76,7 @@ has_entry (Listed origins) sound = λ none. let some = sound.0 in absurd (omega 
 
 -- ---- blocks
 
-pub told_block : (all : Definitions) (b : DefinitionBlock) → AreDefinitions (merged all b) → IsRepresentableBlock b
+pub told_block : (all : Definitions) (b : Block) → AreDefinitions (merged all b) → IsRepresentableBlock b
 told_block all (block.Applications more) are = tt
 told_block all (block.Calendars more) are = λ name c at.
     let is = definable_from HasCalendarFields FitsCalendar IsCalendarOf (overlaid all.calendars more) are.calendars name c

@@ -34,6 +34,10 @@ CanRead s = HasCleanDisk s × IsTrue s.is_open
 abbrev pub NotesIn : State → Option (List Arrival) → Type 0
 NotesIn s gone = ∥ (CanRead s → NotesAll (told_rest (tables_of s.now.trees)).deletions gone) ∥₁
 
+-- what it keeps with the lists is sound
+abbrev pub KeepsSound : State → Content → Type 0
+KeepsSound s lists = ∥ (CanRead s → IsSound (kept_in s lists)) ∥₁
+
 -- an open connection was open before, sees what it saw then or what was committed, and has committed nothing
 abbrev pub StaysPut : State → State → Type 0
 StaysPut old new = IsTrue new.is_open → IsTrue old.is_open

@@ -4,7 +4,7 @@ ghost use Rattle.std.specs.Prelude.{◌≡◌, ◌∷◌, [], None, Some, IfOk};
 ghost use Rattle.plan_tables_writing.specs.Redefining.{BringsRows, kind_of};
 ghost use Rattle.plan_tables.specs.Representable.{BringMoves};
 
-use app_definitions::{DefinitionBlock, Kind};
+use app_definitions::{Block, Kind};
 use plan_store::DefinitionChange;
 use plan_tables_definitions::{
     application_rows, calendar_rows, cycle_rows, offset_rows, period_rows, predecessor_rows,
@@ -43,43 +43,43 @@ fn without_name(alloc: Global, kind: Kind, name: Name) -> Result<DefinitionMoves
 }
 
 // The rows of a block are inserted.
-fn rows_of_block(alloc: Global, block: &DefinitionBlock) -> Result<DefinitionMoves, AllocError>
+fn rows_of_block(alloc: Global, block: &Block) -> Result<DefinitionMoves, AllocError>
     ensures kind { IfOk result (λ moves. moves.kind ≡ Some (kind_of block.now)) }
     ensures rows { IfOk result (λ moves. BringsRows block.now moves) }
 {
     let offsets = Vec::new(alloc);
     match block {
-        DefinitionBlock::Applications(more) => Ok(DefinitionMoves {
+        Block::Applications(more) => Ok(DefinitionMoves {
             kind: Some(Kind::Applications),
             names: more.names(alloc)?,
             rows: application_rows(alloc, more)?,
             offsets,
         }),
-        DefinitionBlock::Calendars(more) => Ok(DefinitionMoves {
+        Block::Calendars(more) => Ok(DefinitionMoves {
             kind: Some(Kind::Calendars),
             names: more.names(alloc)?,
             rows: calendar_rows(alloc, more)?,
             offsets,
         }),
-        DefinitionBlock::Periods(more) => Ok(DefinitionMoves {
+        Block::Periods(more) => Ok(DefinitionMoves {
             kind: Some(Kind::Periods),
             names: more.names(alloc)?,
             rows: period_rows(alloc, more)?,
             offsets,
         }),
-        DefinitionBlock::Predecessors(more) => Ok(DefinitionMoves {
+        Block::Predecessors(more) => Ok(DefinitionMoves {
             kind: Some(Kind::Predecessors),
             names: more.names(alloc)?,
             rows: predecessor_rows(alloc, more)?,
             offsets,
         }),
-        DefinitionBlock::RunCycles(more) => Ok(DefinitionMoves {
+        Block::RunCycles(more) => Ok(DefinitionMoves {
             kind: Some(Kind::RunCycles),
             names: more.names(alloc)?,
             rows: cycle_rows(alloc, more)?,
             offsets: offset_rows(alloc, more)?,
         }),
-        DefinitionBlock::Options(_given) => Ok(DefinitionMoves {
+        Block::Options(_given) => Ok(DefinitionMoves {
             kind: Some(Kind::Options),
             names: Vec::new(alloc),
             rows: Vec::new(alloc),

@@ -5,8 +5,8 @@
 //! let Ok(mut store) = TableStore::adopt(alloc, conn) else {
 //!     return Err(Fail::new("not adopted"));
 //! };
-//! assert!(rt; store.bounds()?.is_none() && store.job(7)?.is_none());
-//! let view = store.read_window(Need::LongTerm(None))?;
+//! assert!(rt; store.bounds()?.is_none() && store.job(alloc, 7)?.is_none());
+//! let view = store.read_window(alloc, Need::LongTerm(None))?;
 //! assert_eq!(rt; view.issued(), 0);
 //! ```
 #![tactic(auto)]

@@ -17,7 +17,7 @@ ghost use Rattle.plan_tables.specs.Session.{Asks, why_at};
 use crate::ends::find_ends;
 use crate::keeping::{Unmade, why_of};
 use occurrences::{Deletion, Row};
-use plan_store::{Content, ItemSink, ListFault, StoreFault};
+use plan_store::{Content, ListFault, RowSink, StoreFault};
 use plan_tables_lookups::{Stopped, TableFault};
 use plan_tables_queries::{completed_rows, deleted_rows, list_deletions, list_history};
 use sqlite::{Alter, Connection};
@@ -67,7 +67,7 @@ pub(crate) fn listing_fault(fault: StoreFault) -> ListFault
 }
 
 // Passes the sink all pairs, each with both its rows. All of history and all deletions are read first.
-fn list_all_pairs<S: Alter, K: ItemSink>(
+fn list_all_pairs<S: Alter, K: RowSink>(
     alloc: Global,
     conn: &mut Connection<S>,
     lists: &Content,
@@ -87,7 +87,7 @@ fn list_all_pairs<S: Alter, K: ItemSink>(
 }
 
 // Passes the sink the pairs of one application, each with both its rows, which are looked up by serial.
-fn list_app_pairs<S: Alter, K: ItemSink>(
+fn list_app_pairs<S: Alter, K: RowSink>(
     alloc: Global,
     conn: &mut Connection<S>,
     lists: &Content,
@@ -107,7 +107,7 @@ fn list_app_pairs<S: Alter, K: ItemSink>(
 }
 
 // Passes the sink the pairs of one application or of all, each with both its rows.
-fn list_pairs<S: Alter, K: ItemSink>(
+fn list_pairs<S: Alter, K: RowSink>(
     alloc: Global,
     conn: &mut Connection<S>,
     lists: &Content,
@@ -124,7 +124,7 @@ fn list_pairs<S: Alter, K: ItemSink>(
 }
 
 // Passes the sink a listing, of one application or of all.
-fn list_facts<S: Alter, K: ItemSink>(
+fn list_facts<S: Alter, K: RowSink>(
     alloc: Global,
     conn: &mut Connection<S>,
     lists: &Content,
@@ -143,7 +143,7 @@ fn list_facts<S: Alter, K: ItemSink>(
 }
 
 /// The same; and if it fails, why.
-pub(crate) fn list_kept<S: Alter, K: ItemSink>(
+pub(crate) fn list_kept<S: Alter, K: RowSink>(
     alloc: Global,
     conn: &mut Connection<S>,
     lists: &Content,

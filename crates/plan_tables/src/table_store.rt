@@ -24,7 +24,7 @@ ghost use Rattle.plan_tables_windows.specs.Fetching.{told_rest};
 ghost use Rattle.plan_tables_opening.specs.Opened.{IsStored};
 ghost use Rattle.plan_tables.specs.Applied.{AppliesBy, ListsBy, ReadsBy};
 ghost use Rattle.plan_tables.specs.Causes.{CanAccept, HasFailed};
-ghost use Rattle.plan_tables.specs.Kept.{CanRead, NotesIn};
+ghost use Rattle.plan_tables.specs.Kept.{CanRead, KeepsSound, NotesIn};
 ghost use Rattle.plan_tables.specs.Listing.{what_of};
 ghost use Rattle.plan_tables.specs.Session.{IsWhole, Keeps};
 ghost use Rattle.plan_tables.specs.Stored.{LeavesSound, MayLeave};
@@ -43,7 +43,7 @@ use app_definitions::Definitions;
 use external_dependencies::Links;
 use occurrences::Deletion;
 use plan_store::{
-    Change, Content, ItemRefused, ItemSink, ListFault, Need, PlanStore, StoreFault, View, What,
+    Change, Content, ListFault, Need, PlanStore, RowSink, SinkFault, StoreFault, View, What,
     deletions_to,
 };
 use plan_store_lists::ArrivalBlocks;
@@ -77,12 +77,12 @@ pub struct TableStore<S: Alter> {
     gone_count: usize,
     // the job that was fetched last, which is lent
     found: Option<Job>,
-    alloc: Global,
     ghost jobless: { (content_of lists).jobs ≡ no_jobs },
     ghost stored: { Keeps S.Store session (content_of lists) },
     ghost told: { ∥ (HasCleanDisk (state S.Store session.conn)
         → LeavesSound (state S.Store session.conn)) ∥₁ },
     ghost noted: { NotesIn (state S.Store session.conn) gone },
+    ghost sound: { KeepsSound (state S.Store session.conn) (content_of lists) },
 }
 
 impl<S: Alter + Drop> TableStore<S> {
@@ -142,17 +142,16 @@ impl<S: Alter + Drop> TableStore<S> {
             gone,
             gone_count,
             found: None,
-            alloc,
         }
     }
 
     // Fetches the job that is kept under the number, which can then be lent.
-    fn look_up(&mut self, number: u64) -> Result<(), StoreFault>
+    fn look_up(&mut self, alloc: Global, number: u64) -> Result<(), StoreFault>
         ensures { ReadsBy ⟦<TableStore<S> as PlanStore>⟧ self.old self.new result
             (λ _. self.new.found ≡ (kept_by self.old).jobs number) }
     {
         self.session.check()?;
-        match job_kept(self.alloc, &mut self.session.conn, number) {
+        match job_kept(alloc, &mut self.session.conn, number) {
             Ok(found) => {
                 self.found = found;
                 Ok(())
@@ -162,19 +161,19 @@ impl<S: Alter + Drop> TableStore<S> {
     }
 
     // Fetches what is sought, and loads it into the lists. Lists that loaded much are cut first.
-    fn make_ready(&mut self, sought: Sought<'_>) -> Result<(), StoreFault>
+    fn make_ready(&mut self, alloc: Global, sought: Sought<'_>) -> Result<(), StoreFault>
         ensures { MakesReady ⟦<TableStore<S> as PlanStore>⟧ self.old self.new sought.entry result }
     {
         self.session.check()?;
-        cut_lists(self.alloc, &mut self.lists, &mut self.kept);
-        match seek(self.alloc, &mut self.session.conn, &mut self.lists, sought) {
+        cut_lists(alloc, &mut self.lists, &mut self.kept);
+        match seek(alloc, &mut self.session.conn, &mut self.lists, sought) {
             Ok(()) => Ok(()),
             Err(why) => Err(self.session.blame(why)),
         }
     }
 
     // Passes the sink a listing that queries the tables, if nothing failed.
-    fn list_asked<K: ItemSink>(
+    fn list_asked<K: RowSink>(
         &mut self,
         alloc: Global,
         asked: ListedTable,
@@ -192,7 +191,7 @@ impl<S: Alter + Drop> TableStore<S> {
         }
         match list_kept(alloc, &mut self.session.conn, &self.lists, asked, app, sink) {
             Ok(count) => Ok(count),
-            Err(Stopped::Sink) => Err(ListFault::Sink(ItemRefused)),
+            Err(Stopped::Sink) => Err(ListFault::Sink(SinkFault)),
             Err(Stopped::Fault(why)) => Err(listing_fault(self.session.blame(why))),
         }
     }
@@ -224,7 +223,7 @@ impl<S: Alter + Drop> TableStore<S> {
     }
 
     // Passes the sink the deletions of an application, if nothing failed.
-    fn list_gone<K: ItemSink>(
+    fn list_gone<K: RowSink>(
         &mut self,
         alloc: Global,
         app: &App,
@@ -245,7 +244,7 @@ impl<S: Alter + Drop> TableStore<S> {
     }
 
     // Passes the sink the deletions of one application or of all, if nothing failed.
-    fn list_deletions<K: ItemSink>(
+    fn list_deletions<K: RowSink>(
         &mut self,
         alloc: Global,
         app: Option<&App>,
@@ -369,6 +368,8 @@ impl<S: Alter + Drop> PlanStore for TableStore<S> {
     ghost use Rattle.plan_tables.specs.Causes.{HasFailed};
     ghost use Rattle.plan_tables.specs.Kept.{CanRead};
     ghost use Rattle.plan_tables.specs.Session.{IsWhole};
+    ghost use Rattle.std.proofs.Math.Logic.{∥∥₁_map};
+    ghost use Rattle.app_definition_soundness.proofs.SoundAgain.{sound_again};
     ghost use Rattle.plan_tables.specs.Stored.{MayLeave};
     ghost use Rattle.plan_tables.specs.Stores.{kept_by, state_of};
 
@@ -393,9 +394,12 @@ impl<S: Alter + Drop> PlanStore for TableStore<S> {
 
     ghost left_is_clean = { λ _ _ left. left.0 };
 
+    ghost honest_is_sound = { λ store honest. sound_again (kept_by store)
+        (∥∥₁_map store.sound (λ held. held honest)) };
+
     // A store that is read stays as it was. It returns that the device failed if a failure was counted before, and
     // only then.
-    fn definitions(&mut self) -> Result<Definitions, StoreFault>
+    fn definitions(&mut self, _alloc: Global) -> Result<Definitions, StoreFault>
         ensures kept { self.new ≡ self.old }
         ensures answer { self.old.session.failures ≡ 0 → (result ≡ Ok self.old.lists.definitions)
             ⊎ (result ≡ Err StoreFault.Memory) }
@@ -418,7 +422,7 @@ impl<S: Alter + Drop> PlanStore for TableStore<S> {
         Ok(self.lists.bounds)
     }
 
-    fn links(&mut self) -> Result<Links, StoreFault>
+    fn links(&mut self, alloc: Global) -> Result<Links, StoreFault>
         ensures kept { self.new ≡ self.old }
         ensures answer { self.old.session.failures ≡ 0 → (result ≡ Ok self.old.lists.in_force.items)
             ⊎ (result ≡ Err StoreFault.Memory) }
@@ -427,24 +431,24 @@ impl<S: Alter + Drop> PlanStore for TableStore<S> {
         if self.session.failures > 0 {
             return Err(StoreFault::Device);
         }
-        Ok(self.lists.in_force.to_links(self.alloc)?)
+        Ok(self.lists.in_force.to_links(alloc)?)
     }
 
-    fn read_window<'a>(&'a mut self, need: Need) -> Result<View<'a>, StoreFault> {
-        self.make_ready(Sought::Window(&need))?;
-        self.lists.fill_window(&need)?;
+    fn read_window<'a>(&'a mut self, alloc: Global, need: Need) -> Result<View<'a>, StoreFault> {
+        self.make_ready(alloc, Sought::Window(&need))?;
+        self.lists.fill_window(alloc, &need)?;
         Ok(self.lists.window(&need))
     }
 
-    fn job<'a>(&'a mut self, number: u64) -> Result<Option<&'a Job>, StoreFault> {
-        self.look_up(number)?;
+    fn job<'a>(&'a mut self, alloc: Global, number: u64) -> Result<Option<&'a Job>, StoreFault> {
+        self.look_up(alloc, number)?;
         match &self.found {
             Some(job) => Ok(Some(job)),
             None => Ok(None),
         }
     }
 
-    fn rows_to<K: ItemSink>(
+    fn rows_to<K: RowSink>(
         &mut self,
         alloc: Global,
         what: What,
@@ -489,7 +493,7 @@ impl<S: Alter + Drop> PlanStore for TableStore<S> {
             (state_of self.new) result }
     {
         let prepared = self.prepared(alloc, &change)?;
-        self.make_ready(Sought::Change(&change))?;
+        self.make_ready(alloc, Sought::Change(&change))?;
         let is_fit = self.admits(alloc, &change)?;
         self.admit(&change, is_fit)?;
         self.commit(alloc, &prepared, change)

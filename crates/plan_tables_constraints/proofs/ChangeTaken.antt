@@ -9,8 +9,8 @@ use Rattle.std.proofs.lemmas.List.Kept.{AllPairs-filter}
 use Rattle.sqlite.specs.Order.{Row as Values, column}
 use Rattle.work_calendars.specs.Name.{IsName}
 use Rattle.app_definitions.specs.declared.options.Options.{Options}
-use Rattle.app_definitions.specs.declared.kinds.DefinitionBlock.{DefinitionBlock}
-use Rattle.app_definitions.specs.declared.kinds.DefinitionBlock.TheVariants as block
+use Rattle.app_definitions.specs.declared.kinds.Block.{Block}
+use Rattle.app_definitions.specs.declared.kinds.Block.TheVariants as block
 use Rattle.app_definitions.specs.declared.kinds.Kind.{Kind}
 use Rattle.app_definitions.specs.declared.kinds.Kind.TheVariants as kind
 use Rattle.occurrences.specs.declared.place.CurrentRow.{CurrentRow}
@@ -435,7 +435,7 @@ module _ (all : Tables) (c : Content) (change : Change) (is : IsContentOf all c)
       (meta_key c.sets.bounds c.sets.issued c.definitions.options) (λ v. (is.facts table.Meta v).0)
 
   -- of one kind
-  block_taken : (b : DefinitionBlock) → AreDefinitions (redefined (Merged b) c.definitions) → BringsRows b moves
+  block_taken : (b : Block) → AreDefinitions (redefined (Merged b) c.definitions) → BringsRows b moves
       → IsRepresentableBlock b → FindKind (kind_of b) moves all
       → AcceptsKind (Some (kind_of b)) c.sets.bounds c.sets.issued options moves all
   block_taken (block.Applications more) sounds are representable found =

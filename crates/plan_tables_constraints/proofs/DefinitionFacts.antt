@@ -9,8 +9,8 @@ use Rattle.app_definition_records.specs.ByName.{overlaid}
 use Rattle.app_definition_records.specs.declared.applications.Application.{Application}
 use Rattle.app_definition_records.specs.declared.predecessors.Predecessor.{Predecessor}
 use Rattle.app_definitions.specs.declared.definitions.Definitions.{Definitions}
-use Rattle.app_definitions.specs.declared.kinds.DefinitionBlock.{DefinitionBlock}
-use Rattle.app_definitions.specs.declared.kinds.DefinitionBlock.TheVariants as block
+use Rattle.app_definitions.specs.declared.kinds.Block.{Block}
+use Rattle.app_definitions.specs.declared.kinds.Block.TheVariants as block
 use Rattle.app_definitions.specs.declared.kinds.Kind.{Kind}
 use Rattle.app_definitions.specs.declared.kinds.Kind.TheVariants as kind
 use Rattle.app_definitions.specs.declared.options.Options.{Options}
@@ -228,7 +228,7 @@ module _ (c : Content) (all : Tables) (is : IsContentOf all c) where
   IsAfter new d = IsContentOf new (with_definitions d c)
 
   -- with a block's definitions
-  block_content : (b : DefinitionBlock) (moves : DefinitionMoves) → BringsRows b moves → IsRepresentableBlock b
+  block_content : (b : Block) (moves : DefinitionMoves) → BringsRows b moves → IsRepresentableBlock b
       → IsAfter (kind_moved (kind_of b) c.sets.bounds c.sets.issued (redefined (Merged b) defs).options moves all)
       (redefined (Merged b) defs)
   block_content (block.Applications more) moves are told = record {

@@ -3,8 +3,8 @@ use Rattle.std.specs.Prelude.{List, ⊤}
 use Rattle.run_cycles.specs.declared.cycles.RunCycle.{RunCycle}
 use Rattle.app_definition_records.specs.declared.predecessors.Predecessor.{Predecessor}
 use Rattle.app_definitions.specs.declared.definitions.Definitions.{Definitions}
-use Rattle.app_definitions.specs.declared.kinds.DefinitionBlock.{DefinitionBlock}
-use Rattle.app_definitions.specs.declared.kinds.DefinitionBlock.TheVariants as block
+use Rattle.app_definitions.specs.declared.kinds.Block.{Block}
+use Rattle.app_definitions.specs.declared.kinds.Block.TheVariants as block
 use Rattle.plan_tables_content.specs.Content.{AreEach, HasEntry, IsNamed, IsTold}
 
 abbrev pub AreCycles : List RunCycle → Type 0
@@ -21,7 +21,7 @@ pub record AreRepresentable (all : Definitions) : Type 0 where
   pub predecessors : AreEach ArePredecessors all.predecessors
 
 -- the same of a block
-abbrev pub IsRepresentableBlock : DefinitionBlock → Type 0
+abbrev pub IsRepresentableBlock : Block → Type 0
 IsRepresentableBlock (block.Applications more) = ⊤
 IsRepresentableBlock (block.Calendars more) = AreEach IsTold more
 IsRepresentableBlock (block.Periods more) = AreEach HasEntry more

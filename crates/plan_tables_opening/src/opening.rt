@@ -212,7 +212,8 @@ fn foreign_fault<S: Alter>(conn: &mut Connection<S>) -> OpenFault
 
 /// Opens a database. Either it has the tables of the plan, of a known version, with a sound content; or nothing in it
 /// is in their way, and the tables of a content of which nothing is known are added to its own. If it is not opened,
-/// it stays as it was. One that has a sound plan is opened with it, and is never refused for anything in it.
+/// it stays as it was, or has these first tables and nothing in them. One that has a sound plan is opened with it, and is
+/// never refused for anything in it.
 pub fn open_content<S: Alter>(alloc: Global, conn: &mut Connection<S>) -> Result<Content, OpenFault>
     requires { conn.old.in_transaction ≡ false }
     ensures opened { IfOk result (λ content.

@@ -17,7 +17,7 @@ ghost use Rattle.plan_tables_queries.specs.ListedRows.{RefusesRow, AcceptsRow, T
 
 use crate::decoding::decode_row;
 use occurrences::{Deletion, Row, Status};
-use plan_store::{Item, ItemRefused, ItemSink};
+use plan_store::{Item, RowSink, SinkFault};
 use plan_tables_loading::Decode;
 use plan_tables_lookups::{Look, RowRefused, Stopped, TableFault, ValuesSink, emit};
 use sqlite::types::ValueRef;
@@ -78,7 +78,7 @@ struct Decoder<'a, T, K> {
     told: PhantomData<T>,
 }
 
-impl<T: Marked + Drop, K: ItemSink> ValuesSink for Decoder<'_, T, K> {
+impl<T: Marked + Drop, K: RowSink> ValuesSink for Decoder<'_, T, K> {
     ghost accepts = { λ old row new. (new.sink.ghost_name ≡ old.sink.ghost_name)
         × AcceptsRow T.values T.row_of T.letter_of K.accepts old.sink.now old.count row new.sink.now
         new.count };
@@ -102,13 +102,13 @@ impl<T: Marked + Drop, K: ItemSink> ValuesSink for Decoder<'_, T, K> {
         };
         match self
             .sink
-            .accept(Item::Marked(fact.occurrence(), fact.letter()))
+            .take(Item::Marked(fact.occurrence(), fact.letter()))
         {
             Ok(()) => {
                 self.count = count;
                 Ok(())
             }
-            Err(ItemRefused) => {
+            Err(SinkFault) => {
                 self.why = Stopped::Sink;
                 Err(RowRefused)
             }
@@ -118,7 +118,7 @@ impl<T: Marked + Drop, K: ItemSink> ValuesSink for Decoder<'_, T, K> {
 
 /// Passes the sink what each row encodes that the query matches with these values, before the next is read, and
 /// returns how many.
-pub(crate) fn decode_rows<T: Marked + Drop, S: Alter, K: ItemSink>(
+pub(crate) fn decode_rows<T: Marked + Drop, S: Alter, K: RowSink>(
     alloc: Global,
     conn: &mut Connection<S>,
     look: Look,

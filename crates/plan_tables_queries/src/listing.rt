@@ -11,7 +11,7 @@ ghost use Rattle.plan_tables_queries.specs.Listing.{Lists};
 
 use crate::listed_rows::decode_rows;
 use occurrences::{Deletion, Row};
-use plan_store::ItemSink;
+use plan_store::RowSink;
 use plan_tables_lookups::{Look, Stopped, TableFault};
 use sqlite::types::ValueRef;
 use sqlite::{Alter, Connection};
@@ -26,7 +26,7 @@ fn name(app: &App) -> ValueRef<'_>
 
 /// Passes the sink the deletions of one application or of all, in the order of a listing, each before the next is
 /// read, and returns how many.
-pub fn list_deletions<S: Alter, K: ItemSink>(
+pub fn list_deletions<S: Alter, K: RowSink>(
     alloc: Global,
     conn: &mut Connection<S>,
     app: Option<&App>,
@@ -45,7 +45,7 @@ pub fn list_deletions<S: Alter, K: ItemSink>(
 
 /// Passes the sink the rows of history of one application or of all, in the order of a listing, each before the next
 /// is read, and returns how many.
-pub fn list_history<S: Alter, K: ItemSink>(
+pub fn list_history<S: Alter, K: RowSink>(
     alloc: Global,
     conn: &mut Connection<S>,
     app: Option<&App>,

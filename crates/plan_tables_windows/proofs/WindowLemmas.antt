@@ -15,7 +15,7 @@ use Rattle.planner_machine.specs.Sound.{IsSound}
 use Rattle.plan_store_lists.proofs.KeyLemmas.{contains_filter, nothing}
 use Rattle.plan_store.specs.HistoryReads.{ReadsKey, ReadsPlan, HasLast, HasLasts, IsLastOf, IsNoLater}
 use Rattle.plan_store.specs.Parts.{IsPartOf, Knows, Rest, is_planned, with_rest}
-use Rattle.plan_store.specs.Views.{Shows, ShowsLive, TellsSizes, needed_pairs, needs_completed}
+use Rattle.plan_store.specs.Views.{ShowsListed, ShowsLive, TellsSizes, needed_pairs, needs_completed}
 use Rattle.plan_store.specs.Views.{needs_pairs, needs_planned, bars, is_asked, is_of_key, named, shown}
 use Rattle.plan_store.specs.Views.{with_these}
 use Rattle.plan_store.specs.declared.stores.Need.{Need}
@@ -207,7 +207,7 @@ module _ (view : View) (rest : Rest) (c : Content) (sizes : TellsSizes c.sets vi
   sizes_of_whole : TellsSizes (with_rest rest c).sets view
   sizes_of_whole = record { ltp = sizes.ltp; cp = sizes.cp }
 
-  definitions_of_whole : Shows need.Definitions view c → Shows need.Definitions view (with_rest rest c)
+  definitions_of_whole : ShowsListed need.Definitions view c → ShowsListed need.Definitions view (with_rest rest c)
   definitions_of_whole shows = record {
     is = shows.is;
     lasts = no_lasts rest.history c.sets.history (shown view).sets.history shows.lasts;
@@ -216,7 +216,7 @@ module _ (view : View) (rest : Rest) (c : Content) (sizes : TellsSizes c.sets vi
     sizes = λ _. sizes_of_whole;
   }
 
-  daily_of_whole : (t : ℕ) → Shows (need.Daily t) view c → Shows (need.Daily t) view (with_rest rest c)
+  daily_of_whole : (t : ℕ) → ShowsListed (need.Daily t) view c → ShowsListed (need.Daily t) view (with_rest rest c)
   daily_of_whole t shows = record {
     is = shows.is;
     lasts = no_lasts rest.history c.sets.history (shown view).sets.history shows.lasts;
@@ -226,7 +226,7 @@ module _ (view : View) (rest : Rest) (c : Content) (sizes : TellsSizes c.sets vi
   }
 
   module _ (key : Key) (ready : IsReadyFor rest (need.Key key) c) (own : HasOwnRows (with_rest rest c).sets)
-      (shows : Shows (need.Key key) view c) where
+      (shows : ShowsListed (need.Key key) view c) where
     key_lasts : HasLasts (ReadsKey c key) rest.history (shown view).sets.history
     key_lasts = lasts_of_whole rest.history c.sets.history part.history (ReadsKey c key) (shown view).sets.history ready.0
         shows.lasts
@@ -253,7 +253,7 @@ module _ (view : View) (rest : Rest) (c : Content) (sizes : TellsSizes c.sets vi
         (λ n r is. (key_lasts.only n r is).0) own.own (key_lasts.lasts key.app (key.ia + 1) (refl, inl refl)) serial row
         stands (let is : row.key ≡ key = cc in is)
 
-    key_of_whole : Shows (need.Key key) view (with_rest rest c)
+    key_of_whole : ShowsListed (need.Key key) view (with_rest rest c)
     key_of_whole = record {
       is = key_is;
       lasts = key_lasts;
@@ -263,7 +263,7 @@ module _ (view : View) (rest : Rest) (c : Content) (sizes : TellsSizes c.sets vi
     }
 
   module _ (only : Option (List ℕ)) (ready : IsReadyFor rest (need.LongTerm only) c)
-      (shows : Shows (need.LongTerm only) view c) where
+      (shows : ShowsListed (need.LongTerm only) view c) where
     plan_is : shown view ≡ named (need.LongTerm only) (shown view).sets.history (with_rest rest c)
     plan_is = shows.is ∙ (λ i. with_these (record {
       history = (shown view).sets.history;
@@ -277,7 +277,7 @@ module _ (view : View) (rest : Rest) (c : Content) (sizes : TellsSizes c.sets vi
     plan_known pair there = asked_known rest c part None (λ serial row stands no. absurd (false≢true no)) pair
         (subst (λ (x : Content). Contains x.pairs pair) shows.is there)
 
-    plan_of_whole : Shows (need.LongTerm only) view (with_rest rest c)
+    plan_of_whole : ShowsListed (need.LongTerm only) view (with_rest rest c)
     plan_of_whole = record {
       is = plan_is;
       lasts = lasts_of_whole rest.history c.sets.history part.history (ReadsPlan only c) (shown view).sets.history ready
@@ -288,9 +288,9 @@ module _ (view : View) (rest : Rest) (c : Content) (sizes : TellsSizes c.sets vi
     }
 
 -- a window of lists that are ready for a need, and that have a part of the whole, shows of the whole what the need names
-pub window_of_part : (need : Need) (view : View) (rest : Rest) (c : Content) → Shows need view c → TellsSizes c.sets view
+pub window_of_part : (need : Need) (view : View) (rest : Rest) (c : Content) → ShowsListed need view c → TellsSizes c.sets view
     → ∥ IsPartOf rest c ∥₁ → IsReadyFor rest need c → ∥ IsSound (with_rest rest c) ∥₁
-    → Shows need view (with_rest rest c)
+    → ShowsListed need view (with_rest rest c)
 window_of_part need.Definitions view rest c shows sizes part ready sound =
     definitions_of_whole view rest c sizes (part_is rest c part) shows
 window_of_part (need.Key key) view rest c shows sizes part ready sound =

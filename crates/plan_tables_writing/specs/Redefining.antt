@@ -3,8 +3,8 @@ use Rattle.std.specs.Prelude.{◌≡◌, ◌↔◌, ℕ, List, [], ◌∷◌, Co
 use Rattle.sqlite.specs.Order.{Row as Values}
 use Rattle.sqlite.specs.declared.types.Value.TheVariants.{Text}
 use Rattle.app_definition_records.specs.ByName.{AreNamesOf}
-use Rattle.app_definitions.specs.declared.kinds.DefinitionBlock.{DefinitionBlock}
-use Rattle.app_definitions.specs.declared.kinds.DefinitionBlock.TheVariants as block
+use Rattle.app_definitions.specs.declared.kinds.Block.{Block}
+use Rattle.app_definitions.specs.declared.kinds.Block.TheVariants as block
 use Rattle.app_definitions.specs.declared.kinds.Kind.{Kind}
 use Rattle.app_definitions.specs.declared.kinds.Kind.TheVariants as kind
 use Rattle.app_definitions.specs.declared.options.Options.{Options}
@@ -81,7 +81,7 @@ pub record AreRowsOf {D : Type 0} (cells : ℕ) (IsRow : List ℕ → D → Valu
   pub own : HaveOwnKeys cells rows
 
 -- of one kind the names and the rows that a block brings
-abbrev pub BringsRows : DefinitionBlock → DefinitionMoves → Type 0
+abbrev pub BringsRows : Block → DefinitionMoves → Type 0
 BringsRows (block.Applications more) moves = AreRowsOf 1 IsApplicationRow more moves.names.items moves.rows.items
 BringsRows (block.Calendars more) moves = AreRowsOf 3 IsCalendarRow more moves.names.items moves.rows.items
 BringsRows (block.Periods more) moves = AreRowsOf 2 IsPeriodRow more moves.names.items moves.rows.items
@@ -91,7 +91,7 @@ BringsRows (block.RunCycles more) moves =
     × AreRowsOf 3 IsOffsetRow more moves.names.items moves.offsets.items
 BringsRows (block.Options given) moves = ⊤
 
-abbrev pub kind_of : DefinitionBlock → Kind
+abbrev pub kind_of : Block → Kind
 kind_of (block.Applications more) = kind.Applications
 kind_of (block.Calendars more) = kind.Calendars
 kind_of (block.Periods more) = kind.Periods

@@ -5,7 +5,7 @@ use Rattle.std.proofs.lemmas.List.Elements.{All-cons}
 use Rattle.app_definitions.specs.Blocks.{IsFaultyAt, ReadsAs}
 use Rattle.app_definitions.specs.Definitions.{IsDefined, names_given}
 use Rattle.app_definitions.specs.declared.definitions.Definitions.{Definitions}
-use Rattle.app_definitions.specs.declared.kinds.DefinitionBlock.{DefinitionBlock}
+use Rattle.app_definitions.specs.declared.kinds.Block.{Block}
 use Rattle.app_definitions.specs.declared.kinds.Kind.{Kind}
 use Rattle.occurrences.specs.declared.key.Key.{Key}
 use Rattle.occurrences.specs.declared.refusal.Refusal.{Refusal}
@@ -69,13 +69,13 @@ serves_job number text change c numbered fine reply c' (answer, step, is) = reco
 }
 
 -- a block's names can be shown
-shown_names : (number : ℕ) (kind : Kind) (bytes : List ℕ) → length bytes ≤ longest_block → (block : DefinitionBlock)
+shown_names : (number : ℕ) (kind : Kind) (bytes : List ℕ) → length bytes ≤ longest_block → (block : Block)
     → ReadsAs kind bytes block
     → names_given block ≤ 999999999
 shown_names number kind bytes short block reads = let few = names_few kind bytes block reads in omega (arith, few)
 
 -- what such a block defines is such as a line and a block give
-pub block_well_formed : (kind : Kind) (bytes : List ℕ) (block : DefinitionBlock) → length bytes ≤ longest_block
+pub block_well_formed : (kind : Kind) (bytes : List ℕ) (block : Block) → length bytes ≤ longest_block
     → ReadsAs kind bytes block → IsWellFormed (Define block)
 block_well_formed kind bytes block short reads = (shown_names 0 kind bytes short block reads, (kind, bytes, reads))
 
@@ -86,7 +86,7 @@ key_well_formed key act.Delete = tt
 key_well_formed key act.AddCurrent = tt
 key_well_formed key (act.Act action) = tt
 
-pub serves_define : (number : ℕ) (text : List ℕ) (kind : Kind) (bytes : List ℕ) (block : DefinitionBlock) (c : Content)
+pub serves_define : (number : ℕ) (text : List ℕ) (kind : Kind) (bytes : List ℕ) (block : Block) (c : Content)
     → IsJobNumber number
     → length bytes ≤ longest_block → ReadsAs kind bytes block
     → (reply : AnswerLines) (c' : Content) → AnswersBoth number text (Define block) c reply c'

@@ -36,7 +36,7 @@ pub(crate) fn answer_days<S: PlanStore>(
     ensures { AnswersBy S.PlanStore store.old store.new result
         (Serves (DaysStatement app.now from to) (S.content store.old)) }
 {
-    let view = store.read_window(Need::Definitions)?;
+    let view = store.read_window(alloc, Need::Definitions)?;
     Ok(days(alloc, view.definitions(), kept, app, from, to)?)
 }
 

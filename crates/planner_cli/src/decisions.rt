@@ -15,7 +15,7 @@ ghost use Rattle.planner_cli.specs.Verdicts.{plan_in, plan_of};
 
 use crate::define::{define, undefine};
 use crate::kinds::definitions_kind;
-use app_definitions::DefinitionBlock;
+use app_definitions::Block;
 use occurrences::{Key, Refusal};
 use plan_store::{Need, Verdict, View};
 use planner_cli_stream::{ChangeStatement, DailyFunction, KeyAct, PlanFunction};
@@ -26,7 +26,7 @@ use work_calendars::Moment;
 #[derive(Drop)]
 pub enum JobChange {
     /// To merge what a block defines.
-    Define(DefinitionBlock),
+    Define(Block),
     /// What a statement without data changes.
     Statement(ChangeStatement),
 }

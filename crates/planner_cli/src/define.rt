@@ -7,14 +7,14 @@ ghost use Rattle.plan_store.specs.Verdicts.{VerdictIs};
 ghost use Rattle.plan_store.specs.Views.{Shows};
 ghost use Rattle.plan_store.specs.declared.stores.Need.TheVariants as need;
 
-use app_definitions::{DefinitionBlock, Definitions, Kind};
+use app_definitions::{Block, Definitions, Kind};
 use occurrences::{Refusal, Reply};
 use plan_store::{Change, DefinitionChange, Verdict, View};
 use std::alloc::Global;
 use work_calendars::Name;
 
 /// `define` with a block that was read: it is merged.
-pub(crate) fn define(alloc: Global, block: DefinitionBlock) -> Verdict
+pub(crate) fn define(alloc: Global, block: Block) -> Verdict
     ensures { (c : Content) → VerdictIs (decided.define block) c result }
 {
     let names = block.len();

@@ -8,16 +8,18 @@ use crate::decisions::plan_refusal;
 use occurrences::Refusal;
 use plan_store::{Need, PlanStore, StoreFault};
 use planner_cli_stream::PlanFunction;
+use std::alloc::Global;
 
 /// Asks a store why a change of the long-term plan is refused by the bounds and its days. It reads no row, and nothing of
 /// history or of the deletions.
 pub(crate) fn find_refusal<S: PlanStore>(
+    alloc: Global,
     store: &mut S,
     function: &PlanFunction,
 ) -> Result<Option<Refusal>, StoreFault>
     ensures { ReadsBy S.PlanStore store.old store.new result
         (IsRefusedEarly (decision_of (plan_change function.now)) (S.content store.old)) }
 {
-    let view = store.read_window(Need::Definitions)?;
+    let view = store.read_window(alloc, Need::Definitions)?;
     Ok(plan_refusal(&view, function))
 }

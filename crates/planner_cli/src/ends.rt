@@ -23,7 +23,7 @@ pub(crate) fn find_end<S: PlanStore>(
     ensures { ReadsBy S.PlanStore store.old store.new result
         (IsEnd (S.content store.old) function.now) }
 {
-    let view = store.read_window(Need::Definitions)?;
+    let view = store.read_window(alloc, Need::Definitions)?;
     Ok(end_in(alloc, &view, function)?)
 }
 

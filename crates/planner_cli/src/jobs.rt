@@ -36,13 +36,12 @@ pub(crate) fn answer_job<S: PlanStore>(
 ) -> Result<Printed, StoreFault>
     requires numbered { IsJobNumber number }
     requires well_formed { IsWellFormed (job_change change) }
-    requires sound { S.is_honest store.old → IsSound (S.content store.old) }
     ensures { AnswersBy S.PlanStore store.old store.new result (λ reply c.
         (answer : AnswerValue)
         × AnswersJob number text (decision_of (job_change change)) (S.content store.old) answer c
         × (reply ≡ answering answer)) }
 {
-    match kept_answer(store, number, &text)? {
+    match kept_answer(alloc, store, number, &text)? {
         Some(answer) => print_alone(alloc, &answer),
         None => perform(alloc, store, number, text, change),
     }
@@ -50,6 +49,7 @@ pub(crate) fn answer_job<S: PlanStore>(
 
 // The reply of the job that is kept under the number, if there is one.
 fn kept_answer<S: PlanStore>(
+    alloc: Global,
     store: &mut S,
     number: u64,
     text: &JobText,
@@ -57,7 +57,7 @@ fn kept_answer<S: PlanStore>(
     ensures { ReadsBy S.PlanStore store.old store.new result
         (IsKeptAnswer ((S.content store.old).jobs number) text.now) }
 {
-    match store.job(number)? {
+    match store.job(alloc, number)? {
         Some(job) => Ok(Some(answer_of(job, text))),
         None => Ok(None),
     }
@@ -84,7 +84,6 @@ fn perform<S: PlanStore>(
 ) -> Result<Printed, StoreFault>
     requires numbered { IsJobNumber number }
     requires well_formed { IsWellFormed (job_change change) }
-    requires sound { S.is_honest store.old → IsSound (S.content store.old) }
     requires new { S.is_honest store.old → (S.content store.old).jobs number ≡ None }
     ensures { AnswersBy S.PlanStore store.old store.new result (λ reply c.
         (answer : AnswerValue)
@@ -107,7 +106,6 @@ fn perform_other<S: PlanStore>(
 ) -> Result<Printed, StoreFault>
     requires numbered { IsJobNumber number }
     requires well_formed { IsWellFormed (job_change change) }
-    requires sound { S.is_honest store.old → IsSound (S.content store.old) }
     requires new { S.is_honest store.old → (S.content store.old).jobs number ≡ None }
     ensures { AnswersBy S.PlanStore store.old store.new result (λ reply c.
         (answer : AnswerValue)
@@ -134,7 +132,6 @@ fn perform_plan<S: PlanStore>(
 ) -> Result<Printed, StoreFault>
     requires numbered { IsJobNumber number }
     requires well_formed { IsWellFormed (plan_change function) }
-    requires sound { S.is_honest store.old → IsSound (S.content store.old) }
     requires new { S.is_honest store.old → (S.content store.old).jobs number ≡ None }
     ensures { AnswersBy S.PlanStore store.old store.new result (λ reply c.
         (answer : AnswerValue)
@@ -142,7 +139,7 @@ fn perform_plan<S: PlanStore>(
         answer c × (reply ≡ answering answer)) }
 {
     streams();
-    match find_refusal(store, &function)? {
+    match find_refusal(alloc, store, &function)? {
         Some(refusal) => settle(alloc, store, number, text, Verdict::Refused(refusal)),
         None => {
             let change = JobChange::Statement(ChangeStatement::Plan(function));
@@ -162,7 +159,6 @@ fn perform_within<S: PlanStore>(
 ) -> Result<Printed, StoreFault>
     requires numbered { IsJobNumber number }
     requires well_formed { IsWellFormed (job_change change) }
-    requires sound { S.is_honest store.old → IsSound (S.content store.old) }
     requires new { S.is_honest store.old → (S.content store.old).jobs number ≡ None }
     requires ends { S.is_honest store.old → IsEndOf (S.content store.old) (daily_of change) end }
     ensures { AnswersBy S.PlanStore store.old store.new result (λ reply c.
@@ -172,7 +168,7 @@ fn perform_within<S: PlanStore>(
 {
     streams();
     let need = need_of(end, &change);
-    let view = store.read_window(need)?;
+    let view = store.read_window(alloc, need)?;
     let Ok(verdict) = decide(alloc, &view, &end, change) else {
         return Err(StoreFault::Memory);
     };

@@ -2,7 +2,6 @@
 ghost use Rattle.std.specs.Prelude.{◌≡◌, ◌⊎◌, ℕ, ◌≤◌, IfErr, IfOk, List, OnErr, OnOk, Some, option_copied};
 ghost use Rattle.std.specs.Io.KnownBytes.{Appends};
 ghost use Rattle.planner_machine.specs.Content.{Content};
-ghost use Rattle.planner_machine.specs.Sound.{IsSound};
 ghost use Rattle.plan_store.specs.Faults.{IsMildListing};
 ghost use Rattle.plan_store.specs.Listings.{IsListing, item_shown};
 ghost use Rattle.plan_store.specs.declared.listings.ListFault.TheVariants as list_fault;
@@ -19,7 +18,7 @@ use crate::faults::{Cause, FaultSource};
 use crate::writing::{write_answer, write_bytes};
 use occurrences::Reply;
 use plan_listings::{link_line, marked_line, pair_line, row_line};
-use plan_store::{Item, ItemRefused, ItemSink, ListFault, PlanStore, What};
+use plan_store::{Item, ListFault, PlanStore, RowSink, SinkFault, What};
 use std::alloc::Global;
 use std::io::Write;
 use work_calendars::App;
@@ -30,17 +29,17 @@ pub struct LineSink<'a, W> {
     writer: &'a mut W,
 }
 
-impl<W: Write> ItemSink for LineSink<'_, W> {
+impl<W: Write> RowSink for LineSink<'_, W> {
     ghost accepts = { λ old item new. (new.writer.ghost_name ≡ old.writer.ghost_name)
         × AcceptsLine (W.contents old.writer.now) item (W.contents new.writer.now) };
 
     ghost refuses = { λ old item new. (new.writer.ghost_name ≡ old.writer.ghost_name)
         × AcceptsFront (W.contents old.writer.now) item (W.contents new.writer.now) };
 
-    fn accept(&mut self, item: Item<'_>) -> Result<(), ItemRefused> {
+    fn take(&mut self, item: Item<'_>) -> Result<(), SinkFault> {
         match write_item(self.writer, item) {
             Ok(()) => Ok(()),
-            Err(_) => Err(ItemRefused),
+            Err(_) => Err(SinkFault),
         }
     }
 }
@@ -86,7 +85,6 @@ fn write_lines<S: PlanStore, W: Write>(
     app: Option<&App>,
     writer: &mut W,
 ) -> Result<usize, ListFault>
-    requires { S.is_honest store.old → IsSound (S.content store.old) }
     ensures all { S.is_honest store.new
         → IfOk result (WritesAll (IsListing what (option_copied app.entry)
         (S.content store.old)) (W.contents writer.old) (W.contents writer.new)) }
@@ -117,8 +115,7 @@ pub(crate) fn answer_list<S: PlanStore, W: Write>(
     app: Option<&App>,
     writer: &mut W,
 ) -> Result<bool, Cause>
-    requires asks { Asks (Alone line.now) (Some (list_asked what (option_copied app))) }
-    requires sound { S.is_honest store.old → IsSound (S.content store.old) }
+    requires { Asks (Alone line.now) (Some (list_asked what (option_copied app))) }
     ensures { AnswersItem S.PlanStore store.old store.new
         (W.contents writer.old) (W.contents writer.new) (Alone line.now) result }
 {

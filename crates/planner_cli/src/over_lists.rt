@@ -2,7 +2,6 @@
 ghost use Rattle.std.specs.Prelude.{◌≡◌, ◌≢◌, IfErr, IfOk};
 ghost use Rattle.plan_store.specs.Lists.{listed};
 ghost use Rattle.planner_machine.specs.Content.{Content, nothing_known};
-ghost use Rattle.planner_machine.specs.Sound.{IsSound};
 ghost use Rattle.planner_cli.specs.Faults.{cause_of};
 ghost use Rattle.planner_cli.specs.Plans.{RanPlan, StoppedPlan};
 ghost use Rattle.planner_cli.specs.Runs.{ends_of};
@@ -42,8 +41,7 @@ fn run_from_nothing<R: BufRead, W: Write>(
     reader: &mut R,
     writer: &mut W,
 ) -> Result<Tally, RunFault>
-    requires empty { listed store.old ≡ nothing_known }
-    requires sound { IsSound (listed store.old) }
+    requires { listed store.old ≡ nothing_known }
     ensures ran { IfOk result (λ tally. (c : Content) × RanPlan (ends_of nothing_known c
         (W.contents writer.old) (W.contents writer.new) (R.remaining reader.old)) tally) }
     ensures fault { IfErr result (λ fault. (c : Content) × StoppedPlan (ends_of nothing_known c

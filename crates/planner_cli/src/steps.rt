@@ -1,6 +1,5 @@
 //! The step of the planner: a change, or a line with data, gets its reply, and the content of the store changes.
 ghost use Rattle.std.specs.Prelude.{◌≡◌, ◌≤◌, Some, length};
-ghost use Rattle.planner_machine.specs.Sound.{IsSound};
 ghost use Rattle.planner_machine.specs.Statement.{DefineJob, Job as JobStatement};
 ghost use Rattle.planner_cli_stream.specs.JobNumber.{IsJobNumber};
 ghost use Rattle.planner_cli_stream.specs.Statement.{Reads};
@@ -34,8 +33,7 @@ pub(crate) fn answer_change<S: PlanStore>(
     number: u64,
     change: &ChangeStatement,
 ) -> Result<Printed, StoreFault>
-    requires numbered { IsJobNumber number }
-    requires sound { S.is_honest store.old → IsSound (S.content store.old) }
+    requires { IsJobNumber number }
     ensures { AnswersBy S.PlanStore store.old store.new result
         (Serves (JobStatement number (texts.line_text line.now) (change_of change.now)) (S.content store.old)) }
 {
@@ -51,8 +49,7 @@ pub(crate) fn answer_with_data<S: PlanStore>(
     line: &[u8],
     block: DataBlock<'_>,
 ) -> Result<Printed, StoreFault>
-    requires fits { BlockFits block }
-    requires sound { S.is_honest store.old → IsSound (S.content store.old) }
+    requires { BlockFits block }
     ensures { AnswersBy S.PlanStore store.old store.new result
         (Step (S.content store.old) (WithBlock line.now (block_shown block.entry))) }
 {
@@ -72,7 +69,6 @@ fn answer_block<S: PlanStore>(
 ) -> Result<Printed, StoreFault>
     requires reads { Reads line.now (Some statement.now) }
     requires fits { BlockFits block }
-    requires sound { S.is_honest store.old → IsSound (S.content store.old) }
     ensures { AnswersBy S.PlanStore store.old store.new result
         (Step (S.content store.old) (WithBlock line.now (block_shown block.entry))) }
 {
@@ -102,7 +98,6 @@ pub(crate) fn answer_define<S: PlanStore>(
 ) -> Result<Printed, StoreFault>
     requires fits { BlockFits block }
     requires numbered { IsJobNumber number }
-    requires sound { S.is_honest store.old → IsSound (S.content store.old) }
     ensures { AnswersBy S.PlanStore store.old store.new result
         (Serves (define_asked line.now number kind (block_shown block.entry)) (S.content store.old)) }
 {
@@ -124,7 +119,6 @@ fn answer_data<S: PlanStore>(
 ) -> Result<Printed, StoreFault>
     requires short { length bytes.now ≤ longest_block }
     requires numbered { IsJobNumber number }
-    requires sound { S.is_honest store.old → IsSound (S.content store.old) }
     ensures { AnswersBy S.PlanStore store.old store.new result
         (Serves (DefineJob number (texts.data_text line.now bytes.now) kind (Some bytes.now)) (S.content store.old)) }
 {

@@ -2,7 +2,6 @@
 ghost use Rattle.std.specs.Prelude.{◌≡◌, ◌<◌, ◌≤◌, ℕ, [], false, length, take, IfOk, IfErr, IsTrue, OnOk, Some};
 ghost use Rattle.std.specs.Io.KnownBytes.{Appends};
 ghost use Rattle.planner_machine.specs.Content.{Content};
-ghost use Rattle.planner_machine.specs.Sound.{IsSound};
 ghost use Rattle.planner_cli_stream.specs.Statement.{Reads};
 ghost use Rattle.planner_cli_stream.specs.Items.{Alone};
 ghost use Rattle.planner_cli_stream.specs.Pages.{item_of, FitsBlock};
@@ -41,8 +40,6 @@ pub fn run<S: PlanStore, R: BufRead, W: Write>(
     reader: &mut R,
     writer: &mut W,
 ) -> Result<Tally, RunFault>
-    // What an honest store keeps is sound.
-    requires { S.is_honest store.old → IsSound (S.content store.old) }
     // The headline, in `specs/Plans.antt`.
     ensures { RunsPlan S.is_honest S.failures S.may_leave S.is_clean S.is_whole store.old store.new
         (record {
@@ -64,7 +61,6 @@ pub fn run_reported<S: PlanStore, R: BufRead, W: Write>(
     reader: &mut R,
     writer: &mut W,
 ) -> (Result<Tally, RunFault>, bool)
-    requires { S.is_honest store.old → IsSound (S.content store.old) }
     ensures plan { RunsPlan S.is_honest S.failures S.may_leave S.is_clean S.is_whole store.old store.new
         (record {
           before = S.content store.old;
@@ -97,7 +93,6 @@ fn answer_all<S: PlanStore, R: BufRead, W: Write>(
     reader: &mut R,
     writer: &mut W,
 ) -> Result<Tally, RunFault>
-    requires { S.is_honest store.old → IsSound (S.content store.old) }
     ensures ran { S.is_honest store.new → IfOk result (Ran Step (ends_of (S.content store.old)
         (S.content store.new) (W.contents writer.old) (W.contents writer.new) (R.remaining reader.old))) }
     ensures fault { S.is_honest store.new
@@ -123,7 +118,6 @@ fn answer_all<S: PlanStore, R: BufRead, W: Write>(
         → S.is_honest store.new }
     ensures stays_whole { OnOk result (S.is_whole store.old → S.is_whole store.new) }
 {
-    streams();
     let mut page = Page::new(alloc);
     let mut kept = CalendarIndexes::new(alloc);
     let mut tally = Tally::new();
@@ -151,8 +145,7 @@ fn answer_one<S: PlanStore, W: Write>(
     item: Item<'_>,
     writer: &mut W,
 ) -> Result<bool, Cause>
-    requires fits { FitsBlock item }
-    requires sound { S.is_honest store.old → IsSound (S.content store.old) }
+    requires { FitsBlock item }
     ensures { AnswersItem S.PlanStore store.old store.new
         (W.contents writer.old) (W.contents writer.new) (item_of item.entry) result }
 {
@@ -177,7 +170,6 @@ fn answer_alone<S: PlanStore, W: Write>(
     line: &[u8],
     writer: &mut W,
 ) -> Result<bool, Cause>
-    requires { S.is_honest store.old → IsSound (S.content store.old) }
     ensures { AnswersItem S.PlanStore store.old store.new
         (W.contents writer.old) (W.contents writer.new) (Alone line.now) result }
 {
@@ -200,8 +192,7 @@ fn answer_statement<S: PlanStore, W: Write>(
     statement: &Statement,
     writer: &mut W,
 ) -> Result<bool, Cause>
-    requires reads { Reads line.now (Some statement.now) }
-    requires sound { S.is_honest store.old → IsSound (S.content store.old) }
+    requires { Reads line.now (Some statement.now) }
     ensures { AnswersItem S.PlanStore store.old store.new
         (W.contents writer.old) (W.contents writer.new) (Alone line.now) result }
 {

@@ -40,11 +40,10 @@ pub(crate) fn answer_plan_trial<S: PlanStore>(
     store: &mut S,
     function: &PlanFunction,
 ) -> Result<Printed, StoreFault>
-    requires { S.is_honest store.old → IsSound (S.content store.old) }
     ensures { AnswersBy S.PlanStore store.old store.new result
         (Serves (Trial (plan_change function.now)) (S.content store.old)) }
 {
-    match find_refusal(store, function)? {
+    match find_refusal(alloc, store, function)? {
         Some(refusal) => print_refusal(alloc, function, refusal),
         None => answer_seen(alloc, store, function),
     }
@@ -56,11 +55,10 @@ fn answer_seen<S: PlanStore>(
     store: &mut S,
     function: &PlanFunction,
 ) -> Result<Printed, StoreFault>
-    requires { S.is_honest store.old → IsSound (S.content store.old) }
     ensures { AnswersBy S.PlanStore store.old store.new result
         (Serves (Trial (plan_change function.now)) (S.content store.old)) }
 {
-    let view = store.read_window(need_of_plan(function))?;
+    let view = store.read_window(alloc, need_of_plan(function))?;
     Ok(plan_trial(alloc, &view, function)?)
 }
 
@@ -121,7 +119,6 @@ pub(crate) fn answer_daily_trial<S: PlanStore>(
     store: &mut S,
     function: &DailyFunction,
 ) -> Result<Printed, StoreFault>
-    requires { S.is_honest store.old → IsSound (S.content store.old) }
     ensures { AnswersBy S.PlanStore store.old store.new result
         (Serves (Trial (daily_change function.now)) (S.content store.old)) }
 {
@@ -136,12 +133,11 @@ fn answer_within<S: PlanStore>(
     end: Option<Moment>,
     function: &DailyFunction,
 ) -> Result<Printed, StoreFault>
-    requires sound { S.is_honest store.old → IsSound (S.content store.old) }
-    requires ends { S.is_honest store.old → IsEnd (S.content store.old) function.now end }
+    requires { S.is_honest store.old → IsEnd (S.content store.old) function.now end }
     ensures { AnswersBy S.PlanStore store.old store.new result
         (Serves (Trial (daily_change function.now)) (S.content store.old)) }
 {
-    let view = store.read_window(daily_need(end))?;
+    let view = store.read_window(alloc, daily_need(end))?;
     Ok(daily_trial(alloc, &view, end, function)?)
 }
 

@@ -20,7 +20,7 @@ use Rattle.app_definition_records.specs.Periods.{FitsPeriod, IsPeriodOf}
 use Rattle.app_definition_records.specs.Predecessors.{ArePredecessorsOf, FitsPredecessors}
 use Rattle.app_definition_records.specs.Records.{AllGood, block_records, Record, Records}
 use Rattle.app_definitions.specs.declared.definitions.Definitions.{Definitions}
-use Rattle.app_definitions.specs.declared.kinds.DefinitionBlock.{DefinitionBlock}
+use Rattle.app_definitions.specs.declared.kinds.Block.{Block}
 use Rattle.app_definitions.specs.declared.kinds.Kind.{Kind}
 use Rattle.app_definitions.specs.declared.kinds.Kind.TheVariants as kind
 use Rattle.planner_machine.specs.Content.{Content}
@@ -73,10 +73,10 @@ by_option : {X : Type 0} (G : Option X → Type 0) (P : Type 0) → (G None → 
 by_option G P none some None given = none given
 by_option G P none some (Some d) given = some d given
 
-pub define_are : (k : Kind) (text : List ℕ) (block : DefinitionBlock) (all : Definitions) → AreDefinitions all
+pub define_are : (k : Kind) (text : List ℕ) (block : Block) (all : Definitions) → AreDefinitions all
     → ReadsAs k text block → AreDefinitions (merged all block)
 define_are kind.Applications text block all are gives =
-    subst (λ (b : DefinitionBlock). AreDefinitions (merged all b)) (sym gives.is) (record {
+    subst (λ (b : Block). AreDefinitions (merged all b)) (sym gives.is) (record {
       applications = overlaid_definable HasApplicationFields FitsApplication IsApplicationOf all.applications
           gives.definitions (block_records text) are.applications gives.good gives.given;
       calendars = are.calendars;
@@ -86,7 +86,7 @@ define_are kind.Applications text block all are gives =
       default_calendar = are.default_calendar;
     })
 define_are kind.Calendars text block all are gives =
-    subst (λ (b : DefinitionBlock). AreDefinitions (merged all b)) (sym gives.is) (record {
+    subst (λ (b : Block). AreDefinitions (merged all b)) (sym gives.is) (record {
       applications = are.applications;
       calendars = overlaid_definable HasCalendarFields FitsCalendar IsCalendarOf all.calendars gives.definitions
           (block_records text) are.calendars gives.good gives.given;
@@ -96,7 +96,7 @@ define_are kind.Calendars text block all are gives =
       default_calendar = are.default_calendar;
     })
 define_are kind.Periods text block all are gives =
-    subst (λ (b : DefinitionBlock). AreDefinitions (merged all b)) (sym gives.is) (record {
+    subst (λ (b : Block). AreDefinitions (merged all b)) (sym gives.is) (record {
       applications = are.applications;
       calendars = are.calendars;
       periods = overlaid_definable HasPeriodFields FitsPeriod IsPeriodOf all.periods gives.definitions
@@ -106,7 +106,7 @@ define_are kind.Periods text block all are gives =
       default_calendar = are.default_calendar;
     })
 define_are kind.Predecessors text block all are gives =
-    subst (λ (b : DefinitionBlock). AreDefinitions (merged all b)) (sym gives.is) (record {
+    subst (λ (b : Block). AreDefinitions (merged all b)) (sym gives.is) (record {
       applications = are.applications;
       calendars = are.calendars;
       periods = are.periods;
@@ -116,7 +116,7 @@ define_are kind.Predecessors text block all are gives =
       default_calendar = are.default_calendar;
     })
 define_are kind.RunCycles text block all are gives =
-    subst (λ (b : DefinitionBlock). AreDefinitions (merged all b)) (sym gives.is) (record {
+    subst (λ (b : Block). AreDefinitions (merged all b)) (sym gives.is) (record {
       applications = are.applications;
       calendars = are.calendars;
       periods = are.periods;
@@ -126,7 +126,7 @@ define_are kind.RunCycles text block all are gives =
       default_calendar = are.default_calendar;
     })
 define_are kind.Options text block all are (o, is, options) =
-    subst (λ (b : DefinitionBlock). AreDefinitions (merged all b)) (sym is) (record {
+    subst (λ (b : Block). AreDefinitions (merged all b)) (sym is) (record {
       applications = are.applications;
       calendars = are.calendars;
       periods = are.periods;

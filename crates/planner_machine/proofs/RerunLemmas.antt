@@ -3,7 +3,7 @@ use Rattle.std.proofs.Common.{◌≡◌, ◌≢◌, ℕ, zero, suc, List, [], �
 use Rattle.std.proofs.Common.{◌⊎◌, Option, None, Some, Bool, true, false}
 use Rattle.std.specs.Prelude.{Ok, Err, nat_eq, if◌then◌else◌}
 use Rattle.std.proofs.lemmas.Bool.{eq-eqb, eqb-true}
-use Rattle.app_definitions.specs.declared.kinds.DefinitionBlock.{DefinitionBlock}
+use Rattle.app_definitions.specs.declared.kinds.Block.{Block}
 use Rattle.occurrences.specs.declared.refusal.Refusal.TheVariants.{FaultyData, JobWithAnotherText}
 use Rattle.planner_machine.specs.declared.job.Job.{Job as KeptJob}
 use Rattle.planner_machine.specs.Content.{Content}
@@ -94,7 +94,7 @@ module _ (number : ℕ) (text : List ℕ) (change : Change) where
 abbrev Knows : Statement → Answer → Content → Type 0
 Knows (DefineJob number text kind given) a c =
     ((n : ℕ) × IsFaulty kind given n × (a ≡ Err (FaultyData n)))
-    ⊎ ((block : DefinitionBlock) × AreRead kind given block × IsKnown number text a c)
+    ⊎ ((block : Block) × AreRead kind given block × IsKnown number text a c)
 Knows (Job number text change) a c = IsKnown number text a c
 Knows statement a c = Unit {0}
 

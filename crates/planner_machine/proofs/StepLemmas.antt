@@ -4,7 +4,7 @@ use Rattle.std.proofs.Common.{arith, Option, None, Some}
 use Rattle.std.specs.Prelude.{Ok, Err}
 use Rattle.app_definitions.proofs.OneBlock.{never_both, one_block, one_fault}
 use Rattle.app_definitions.specs.Blocks.{ReadsAs}
-use Rattle.app_definitions.specs.declared.kinds.DefinitionBlock.{DefinitionBlock}
+use Rattle.app_definitions.specs.declared.kinds.Block.{Block}
 use Rattle.app_definitions.specs.declared.kinds.Kind.{Kind}
 use Rattle.occurrences.proofs.RowLemmas.{row_strict}
 use Rattle.occurrences.specs.Order.{IsStrictOrder}
@@ -103,7 +103,7 @@ job_refused number text change c None r c' (left, decides, is) = ap (λ (x : Con
     ∙ ap (λ (x : Content). x.sets) decides.1
 job_refused number text change c (Some job) r c' (is, how) = ap (λ (x : Content). x.sets) is
 
-define_sets : (number : ℕ) (text : List ℕ) (block : DefinitionBlock) (c : Content) (o : Option KeptJob) (a : Answer)
+define_sets : (number : ℕ) (text : List ℕ) (block : Block) (c : Content) (o : Option KeptJob) (a : Answer)
     (c' : Content) → AnswersKept number text (define block) c o a c' → c'.sets ≡ c.sets
 define_sets number text block c None (Ok reply) c' (left, decides, is) = ap (λ (x : Content). x.sets) is
     ∙ ap (λ (x : Content). x.sets) decides.1.1
@@ -111,11 +111,11 @@ define_sets number text block c None (Err r) c' (left, decides, is) = absurd dec
 define_sets number text block c (Some job) a c' (is, how) = ap (λ (x : Content). x.sets) is
 
 -- data
-read_once : (kind : Kind) (given : Option (List ℕ)) (a b : DefinitionBlock) → AreRead kind given a → AreRead kind given b → a ≡ b
+read_once : (kind : Kind) (given : Option (List ℕ)) (a b : Block) → AreRead kind given a → AreRead kind given b → a ≡ b
 read_once kind None a b h k = absurd h
 read_once kind (Some text) a b h k = one_block kind text a b h k
 
-pub read_or_faulty : (kind : Kind) (given : Option (List ℕ)) (b : DefinitionBlock) (n : ℕ) → AreRead kind given b
+pub read_or_faulty : (kind : Kind) (given : Option (List ℕ)) (b : Block) (n : ℕ) → AreRead kind given b
     → IsFaulty kind given n → ⊥
 read_or_faulty kind None b n h k = h
 read_or_faulty kind (Some text) b n h k = never_both kind text b n h k

@@ -1,7 +1,7 @@
 -- `define` and `undefine`: definitions change, and the plans stay as they are.
 use Rattle.std.specs.Prelude.{◌≡◌, ℕ, List}
 use Rattle.app_definitions.specs.Definitions.{IsDefined, merged, names_given, without}
-use Rattle.app_definitions.specs.declared.kinds.DefinitionBlock.{DefinitionBlock}
+use Rattle.app_definitions.specs.declared.kinds.Block.{Block}
 use Rattle.app_definitions.specs.declared.kinds.Kind.{Kind}
 use Rattle.occurrences.specs.declared.refusal.Refusal.{Refusal}
 use Rattle.occurrences.specs.declared.refusal.Refusal.TheVariants.{NotDefined}
@@ -10,7 +10,7 @@ use Rattle.planner_machine.specs.Content.{Content}
 use Rattle.planner_machine.specs.Decision.{Decision}
 
 -- `define` with a block that was read: each name that it gives is replaced whole, and all others stay
-abbrev pub define : DefinitionBlock → Decision Content
+abbrev pub define : Block → Decision Content
 define block = record {
   Refuses = λ c r. ⊥;
   Does = λ c reply c'. (reply ≡ Defined (names_given block))

@@ -2,7 +2,7 @@
 use Rattle.std.specs.Prelude.{◌≡◌, ◌⊎◌, ℕ, List, [], ◌∷◌, Option, Some, None, Result, Err}
 use Rattle.app_definitions.specs.Blocks.{IsFaultyAt, ReadsAs}
 use Rattle.app_definitions.specs.declared.definitions.Definitions.{Definitions}
-use Rattle.app_definitions.specs.declared.kinds.DefinitionBlock.{DefinitionBlock}
+use Rattle.app_definitions.specs.declared.kinds.Block.{Block}
 use Rattle.app_definitions.specs.declared.kinds.Kind.{Kind}
 use Rattle.occurrences.specs.declared.key.Key.{Key}
 use Rattle.occurrences.specs.declared.place.Place.{Place}
@@ -37,7 +37,7 @@ use Rattle.planner_machine.specs.Shown.{Listed, list_links, list_pairs, list_row
 
 -- the statements that change something
 pub data Change : Type 0 where
-  Define : DefinitionBlock → Change
+  Define : Block → Change
   Undefine : Kind → List ℕ → Change
   Create : (from to : ℕ) → Change
   Extend : (to : ℕ) → Change
@@ -118,7 +118,7 @@ IsFaulty kind None number = number ≡ 0
 IsFaulty kind (Some text) number = IsFaultyAt kind text number
 
 -- the data are read as the block
-abbrev pub AreRead : Kind → Option (List ℕ) → DefinitionBlock → Type 0
+abbrev pub AreRead : Kind → Option (List ℕ) → Block → Type 0
 AreRead kind None block = ⊥
 AreRead kind (Some text) block = ReadsAs kind text block
 
@@ -126,7 +126,7 @@ AreRead kind (Some text) block = ReadsAs kind text block
 abbrev pub AnswersDefine : ℕ → List ℕ → Kind → Option (List ℕ) → Content → Answer → Content → Type 0
 AnswersDefine number text kind given c answer c' =
     ((record_number : ℕ) × IsFaulty kind given record_number × (answer ≡ Err (FaultyData record_number)) × (c' ≡ c))
-    ⊎ ((block : DefinitionBlock) × AreRead kind given block × AnswersJob number text (define block) c answer c')
+    ⊎ ((block : Block) × AreRead kind given block × AnswersJob number text (define block) c answer c')
 
 -- one step: where the content is c, the statement gets the reply, and leaves c'
 abbrev pub Steps : Statement → Content → Answer → Content → Type 0

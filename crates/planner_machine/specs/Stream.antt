@@ -14,7 +14,7 @@ use Rattle.planner_machine.specs.Sound.{IsShown, IsSound}
 use Rattle.planner_machine.specs.Statement.{AreRead, Answer, Change, DefineJob, Job, MakesDrafts, Statement, Steps}
 use Rattle.planner_machine.specs.Statement.{fate_of, place_of_made}
 use Rattle.app_definitions.specs.Definitions.{names_given}
-use Rattle.app_definitions.specs.declared.kinds.DefinitionBlock.{DefinitionBlock}
+use Rattle.app_definitions.specs.declared.kinds.Block.{Block}
 
 -- each statement in turn: its reply, and the content after the last
 abbrev pub Runs : List Statement → Content → List Answer → Content → Type 0
@@ -26,7 +26,7 @@ Runs (s ∷ stream) c (a ∷ answers) c' = (next : Content) × Steps s c a next 
 -- the values of a statement are such as a line and a block can give
 abbrev pub IsStatement : Statement → Type 0
 IsStatement (DefineJob number text kind given) = (1 ≤ number) × (number ≤ GREATEST_JOB)
-    × ((block : DefinitionBlock) → AreRead kind given block → IsShown (names_given block))
+    × ((block : Block) → AreRead kind given block → IsShown (names_given block))
 IsStatement (Job number text change) = (1 ≤ number) × (number ≤ GREATEST_JOB) × IsWellFormed change
 IsStatement statement = Unit {0}
 

@@ -89,8 +89,8 @@ pub fn trials()
     ensures answers { TrialAnswersAsStatement }
 {}
 
-/// Law: an accepted `ltp-create` or `ltp-modify-all` leaves fresh content, whatever was there before; from fresh
-/// content each stream leaves fresh content that adds and removes no definition; and in sound content fresh means that
+/// Law: an accepted `ltp-create` or `ltp-modify-all` over sound content leaves fresh content; from fresh content each
+/// stream leaves fresh content that adds and removes no definition; and in sound content fresh means that
 /// the generated rows of the long-term plan are exactly those that are named, less those left out.
 pub fn fresh_plans()
     ensures create { (from to : ℕ) → LeavesFresh (Create from to) }

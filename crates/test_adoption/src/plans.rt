@@ -1,8 +1,9 @@
 //! Plans that are adopted and migrated, or why they are not.
 ghost use Rattle.std.specs.Prelude.{◌≡◌, false, IfOk};
 
-use plan_migrations::{MigrateFault, migrate};
+use plan_migrations::{MigrateFault, migrate, migrate_fault_number};
 use plan_tables::{OpenFault, TableStore};
+use plan_tables_opening::open_fault_number;
 use plan_tables_schema::make_tables;
 use sqlite::{Alter, Connection, Error, MemStore};
 use std::alloc::Global;
@@ -55,13 +56,13 @@ pub(crate) fn settled<S: Alter + Drop>(conn: Connection<S>) -> Result<Connection
     }
 }
 
-/// Why the tables are not adopted; `None` where they are.
-fn adoption_fault<S: Alter + Drop>(alloc: Global, conn: Connection<S>) -> Option<OpenFault>
+/// Why the tables are not adopted, with the number that the program prints; `None` where they are.
+fn adoption_fault<S: Alter + Drop>(alloc: Global, conn: Connection<S>) -> Option<(OpenFault, u8)>
     requires { conn.in_transaction ≡ false }
 {
     match TableStore::adopt(alloc, conn) {
         Ok(_store) => None,
-        Err((fault, _conn)) => Some(fault),
+        Err((fault, _conn)) => Some((fault, open_fault_number(&fault))),
     }
 }
 
@@ -83,12 +84,14 @@ fn sound_plans_are_adopted(rt: HostRuntime) -> Result<(), Fail> {
     Ok(())
 }
 
-// Serial 1 in two tables; a gap in the serials; a pair of an open row that is missing; a generated row whose key an
-// operator deleted; a job without a number that it may have; and one with a reply that is none.
+// Serial 1 in two tables, first live in both, then in one of them only; a gap in the serials; a pair of an open row that
+// is missing; a generated row whose key an operator deleted; a job without a number that it may have; and one with a
+// reply that is none.
 #[test]
 fn unsound_plans_are_not_adopted(rt: HostRuntime) -> Result<(), Fail> {
     for change in [
         "INSERT INTO history_row VALUES (1, 'A', 28401600, 28402200, 'RC')",
+        "INSERT INTO deletion_row VALUES (1, 'A', 28401600, 28402200, 'RC', 'P')",
         "UPDATE ltp_row SET serial = 5 WHERE serial = 4; UPDATE plan_meta SET issued = 5",
         "INSERT INTO link_in_force VALUES ('B', 'A', NULL); INSERT INTO dependency VALUES (2, 1)",
         "INSERT INTO deletion_row VALUES (5, 'A', 28403040, 28403640, 'RC', 'O'); UPDATE plan_meta SET issued = 5",
@@ -98,7 +101,7 @@ fn unsound_plans_are_not_adopted(rt: HostRuntime) -> Result<(), Fail> {
         let conn = plan(rt.alloc(), change)?;
         assert_eq!(rt;
             adoption_fault(rt.alloc(), conn),
-            Some(OpenFault::Rows),
+            Some((OpenFault::Rows, 52)),
             "{change}"
         );
     }
@@ -111,19 +114,43 @@ fn one_table_alone_is_not_adopted(rt: HostRuntime) -> Result<(), Fail> {
         rt.alloc(),
         "CREATE TABLE ltp_row (serial INTEGER PRIMARY KEY)",
     )?;
-    assert_eq!(rt; adoption_fault(rt.alloc(), conn), Some(OpenFault::Unopened));
+    assert_eq!(rt;
+        adoption_fault(rt.alloc(), conn),
+        Some((OpenFault::Unopened, 50))
+    );
     Ok(())
 }
 
-/// The version found and the one left, or why there is none.
+// Without one of the tables, and with one of the version before.
+#[test]
+fn other_tables_are_not_adopted(rt: HostRuntime) -> Result<(), Fail> {
+    for change in [
+        "DROP TABLE ltp_row",
+        "DROP TABLE link_in_force; \
+            CREATE TABLE link_in_force (app TEXT NOT NULL, pred TEXT NOT NULL, PRIMARY KEY (app, pred)) STRICT",
+    ] {
+        let conn = plan(rt.alloc(), change)?;
+        assert_eq!(rt;
+            adoption_fault(rt.alloc(), conn),
+            Some((OpenFault::Tables, 51)),
+            "{change}"
+        );
+    }
+    Ok(())
+}
+
+/// The version found and the one left, or why there is none, with the number that the program prints.
 fn migration<S: Alter + Drop>(
     alloc: Global,
     conn: Connection<S>,
-) -> Result<(u32, u32), MigrateFault>
+) -> Result<(u32, u32), (MigrateFault, u8)>
     requires { conn.in_transaction ≡ false }
 {
     let mut conn = conn;
-    migrate(alloc, &mut conn)
+    match migrate(alloc, &mut conn) {
+        Ok(versions) => Ok(versions),
+        Err(fault) => Err((fault, migrate_fault_number(&fault))),
+    }
 }
 
 // The tables of this version, of one that nobody knows, and without one of them.
@@ -133,9 +160,9 @@ fn migrations_of_plans(rt: HostRuntime) -> Result<(), Fail> {
         ("", Ok((2, 2))),
         (
             "UPDATE plan_meta SET version = 7",
-            Err(MigrateFault::UnknownVersion),
+            Err((MigrateFault::UnknownVersion, 50)),
         ),
-        ("DROP TABLE ltp_row", Err(MigrateFault::OtherTable)),
+        ("DROP TABLE ltp_row", Err((MigrateFault::OtherTable, 51))),
     ] {
         let conn = plan(rt.alloc(), change)?;
         assert_eq!(rt; migration(rt.alloc(), conn), wanted, "{change}");

@@ -1,8 +1,8 @@
 // Blocks that no line feed ends, accepted and refused: in a stream each block has one. What they give comes from the
 // format's own words.
 use app_definitions::{
-    BlockFault, ByName, DefinitionBlock, Kind, LONGEST_BLOCK, Predecessor, Predecessors,
-    read_block, read_predecessors,
+    Block, BlockFault, ByName, Kind, LONGEST_BLOCK, Predecessor, Predecessors, read_block,
+    read_predecessors,
 };
 use std::alloc::Global;
 use std::fmt::Write;
@@ -100,7 +100,7 @@ fn lists(alloc: Global, text: &[u8]) -> Option<ByName<Predecessors>> {
         return None;
     }
     match read_predecessors(alloc, text) {
-        Ok(DefinitionBlock::Predecessors(lists)) => Some(lists),
+        Ok(Block::Predecessors(lists)) => Some(lists),
         _ => None,
     }
 }

@@ -33,7 +33,7 @@ const PLAN: &[u8] = b"define calendars --job 1\nDEFAULT,SAT,FREE\nDEFAULT,SUN,FR
 /// What a window shows, each as the digits of serials: the rows of the long-term plan, those of the current plan, those
 /// of history, the successors of pairs, their predecessors, and the deletions; and as two digits how many rows the
 /// long-term plan has, and how many the current plan.
-type Shown = [u64; 7];
+pub(crate) type Shown = [u64; 7];
 
 /// A need as words, and what a window for it shows.
 type Case = (&'static str, &'static str, &'static str, Shown);
@@ -106,7 +106,7 @@ fn need_of(what: &str, app: &str, moment: &str) -> Option<Need> {
 }
 
 /// A number with one more digit.
-fn with_digit(number: u64, digit: u32) -> u64 {
+pub(crate) fn with_digit(number: u64, digit: u32) -> u64 {
     number.saturating_mul(10).saturating_add(u64::from(digit))
 }
 
@@ -203,7 +203,7 @@ fn sizes_in(view: &View<'_>) -> u64 {
 }
 
 /// What the window shows; nothing where it lacks the calendar, or how many serials are issued.
-fn shown_in(view: &View<'_>) -> Option<Shown> {
+pub(crate) fn shown_in(view: &View<'_>) -> Option<Shown> {
     if view.definitions().calendars.len() != 1 || view.issued() == 0 {
         return None;
     }
@@ -219,19 +219,19 @@ fn shown_in(view: &View<'_>) -> Option<Shown> {
 }
 
 /// What a window of the store shows for the need.
-fn shown(store: &mut ListStore, need: Need) -> Option<Shown> {
-    match store.read_window(need) {
+fn shown(alloc: Global, store: &mut ListStore, need: Need) -> Option<Shown> {
+    match store.read_window(alloc, need) {
         Ok(view) => shown_in(&view),
         Err(_) => None,
     }
 }
 
 /// Tries each case on the store.
-fn try_cases(rt: &impl Abort, store: &mut ListStore, cases: &[Case]) {
+fn try_cases(rt: &impl Abort, alloc: Global, store: &mut ListStore, cases: &[Case]) {
     for (what, app, moment, wanted) in cases {
         let need = need_of(what, app, moment).expect(rt, "a need");
         assert!(rt;
-            shown(store, need) == Some(*wanted),
+            shown(alloc, store, need) == Some(*wanted),
             "{what} {app} {moment}"
         );
     }
@@ -249,11 +249,11 @@ pub fn planned(rt: &impl Abort, alloc: Global, stream: &[u8]) -> ListStore {
 #[test]
 fn windows_show_what_their_needs_name(rt: HostRuntime) {
     let mut store = planned(&rt, rt.alloc(), PLAN);
-    try_cases(&rt, &mut store, &CASES);
+    try_cases(&rt, rt.alloc(), &mut store, &CASES);
 }
 
 #[test]
 fn daily_window_shows_three_rows(rt: HostRuntime) {
     let mut store = planned(&rt, rt.alloc(), TWO_DAYS);
-    try_cases(&rt, &mut store, &TO_THE_END);
+    try_cases(&rt, rt.alloc(), &mut store, &TO_THE_END);
 }

@@ -53,11 +53,11 @@ fn migrates<S: Alter>(alloc: Global, conn: &mut Connection<S>, from: u32) -> boo
 }
 
 /// The version of the plan.
-fn version_of<S: Alter>(conn: &mut Connection<S>) -> Result<u32, Wrong>
+fn version_of<S: Alter>(alloc: Global, conn: &mut Connection<S>) -> Result<u32, Wrong>
     requires { conn.old.in_transaction ≡ false }
     ensures { conn.new.in_transaction ≡ false }
 {
-    match version(conn) {
+    match version(alloc, conn) {
         Ok(Some(found)) => Ok(found),
         Ok(None) | Err(_) => Err("version"),
     }
@@ -79,7 +79,7 @@ fn migrate_again<S: Alter>(alloc: Global, conn: &mut Connection<S>) -> Result<u3
     requires { conn.old.in_transaction ≡ false }
     ensures { conn.new.in_transaction ≡ false }
 {
-    let found = version_of(conn)?;
+    let found = version_of(alloc, conn)?;
     if migrates(alloc, conn, found) && migrates(alloc, conn, SCHEMA_VERSION) {
         Ok(found)
     } else {

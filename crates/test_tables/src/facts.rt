@@ -2,7 +2,7 @@
 ghost use Rattle.std.specs.Prelude.{⊤};
 
 use occurrences::{Origin, Reply, Serial};
-use plan_store::{Item, ItemRefused, ItemSink};
+use plan_store::{Item, RowSink, SinkFault};
 use plan_tables_lookups::{Stopped, TableFault};
 use plan_tables_queries::{
     completed_row, completed_rows, deleted_row, deleted_rows, deletions_from, kept_job,
@@ -43,14 +43,14 @@ struct Marks {
     enough: u64,
 }
 
-impl ItemSink for Marks {
+impl RowSink for Marks {
     ghost accepts = { λ old item new. ⊤ };
 
     ghost refuses = { λ old item new. ⊤ };
 
-    fn accept(&mut self, item: Item<'_>) -> Result<(), ItemRefused> {
+    fn take(&mut self, item: Item<'_>) -> Result<(), SinkFault> {
         if self.serials >= self.enough {
-            return Err(ItemRefused);
+            return Err(SinkFault);
         }
         match item {
             Item::Marked(row, letter) => {
@@ -60,7 +60,7 @@ impl ItemSink for Marks {
                 self.letters = self.letters.wrapping_mul(100).wrapping_add(letter);
                 Ok(())
             }
-            _ => Err(ItemRefused),
+            _ => Err(SinkFault),
         }
     }
 }

@@ -14,7 +14,7 @@ returns-in-Ok-clause-all g c content app numbered are =
     let found = c.push_rows.new.found.items in
     let whole : map (λ b. b.now) found ≡ c.args.deletions.now =
     c.in-Ok.ensures ∙ ap (λ l. map (λ b. b.now) l ++ c.args.deletions.now) c.new-found.ensures.items in
-    shown_all g.K.ItemSink.accepts g.K.ItemSink.refuses c.args.sink.now c.emit_each.new.sink
+    shown_all g.K.RowSink.accepts g.K.RowSink.refuses c.args.sink.now c.emit_each.new.sink
     (λ b. shown_as of_deletion (λ (d : Deletion). reason_letter d.reason) false b.now) found
     (ShowRows InDeletions (Some app) content) (lent_shown content numbered app c.args.deletions.now are (λ b. b.now) found
     whole) c.emit_each.result (rw c.deref.ensures.value at c.emit_each.ensures.all)
@@ -24,7 +24,7 @@ returns-in-Ok-clause-part g c content app numbered are =
     let found = c.push_rows.new.found.items in
     let whole : map (λ b. b.now) found ≡ c.args.deletions.now =
     c.in-Ok.ensures ∙ ap (λ l. map (λ b. b.now) l ++ c.args.deletions.now) c.new-found.ensures.items in
-    shown_part g.K.ItemSink.accepts g.K.ItemSink.refuses c.args.sink.now c.emit_each.new.sink
+    shown_part g.K.RowSink.accepts g.K.RowSink.refuses c.args.sink.now c.emit_each.new.sink
     (λ b. shown_as of_deletion (λ (d : Deletion). reason_letter d.reason) false b.now) found
     (ShowRows InDeletions (Some app) content) (lent_shown content numbered app c.args.deletions.now are (λ b. b.now) found
     whole) c.emit_each.result (rw c.deref.ensures.value at c.emit_each.ensures.part)

@@ -6,4 +6,4 @@ use Rattle.plan_store.proofs.listed.emit_all_lists.Given as goal
 
 abbrev pub invariant-loop-block : goal.invariant-loop-block
 invariant-loop-block g l = (l.count ≡ length (items_in (take l.block-index l.all)))
-    × AcceptsAll g.K.ItemSink.accepts l.initial.sink (map in_force_shown (items_in (take l.block-index l.all))) l.sink
+    × AcceptsAll g.K.RowSink.accepts l.initial.sink (map in_force_shown (items_in (take l.block-index l.all))) l.sink

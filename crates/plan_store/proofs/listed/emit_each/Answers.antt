@@ -13,8 +13,8 @@ loop-x-preserved g c =
     let f = λ (b : Bor g.row.T.Denot). shown_as g.T.PlanRow.row_of g.T.Lettered.letter_of c.args.is_plain b.now in
     let more : map f (take (i + 1) rows) ≡ map f (take i rows) ++ f x ∷ [] = map_more f rows i x c.loop-x-test.true
     ∙ ap (λ b. map f (take i rows) ++ f b ∷ []) (sym c.x-item.is) in
-    subst (λ l. AcceptsAll g.K.ItemSink.accepts c.args.sink.now l c.emit.new.sink) (sym more)
-    (takes_more g.K.ItemSink.accepts c.args.sink.now (map f (take i rows)) c.loop-x.sink (f x) c.emit.new.sink
+    subst (λ l. AcceptsAll g.K.RowSink.accepts c.args.sink.now l c.emit.new.sink) (sym more)
+    (takes_more g.K.RowSink.accepts c.args.sink.now (map f (take i rows)) c.loop-x.sink (f x) c.emit.new.sink
     c.loop-x.invariant c.in-Ok.ensures.taken)
 
 pub returns-in-Err-clause-part : goal.returns-in-Err-clause-part

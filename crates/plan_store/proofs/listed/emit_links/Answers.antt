@@ -17,14 +17,14 @@ loop-pair-preserved g c =
     elim c.match-linked.branch [
       | in-Some+in-Ok w ↦ record {
         few = omega (arith, w.count-is, few);
-        taken = λ s numbered are. step_some g.K.ItemSink.accepts g.K.ItemSink.refuses s app pairs i p lt at
+        taken = λ s numbered are. step_some g.K.RowSink.accepts g.K.RowSink.refuses s app pairs i p lt at
             c.loop-pair.count c.args.sink.now c.loop-pair.sink (c.loop-pair.invariant.taken s numbered are)
-            (linked_rows w.in-Some.link) (w.in-Some.ensures s numbered are) c.match-linked.count w.accept.new.self
+            (linked_rows w.in-Some.link) (w.in-Some.ensures s numbered are) c.match-linked.count w.take.new.self
             c.match-linked.sink w.in-Ok.ensures.taken w.count-is w.sink-is;
       }
       | in-None w ↦ record {
         few = omega (arith, w.count-is, few);
-        taken = λ s numbered are. step_none g.K.ItemSink.accepts g.K.ItemSink.refuses s app pairs i p lt at
+        taken = λ s numbered are. step_none g.K.RowSink.accepts g.K.RowSink.refuses s app pairs i p lt at
             c.loop-pair.count c.args.sink.now c.loop-pair.sink (c.loop-pair.invariant.taken s numbered are)
             (w.in-None.ensures s numbered are) c.match-linked.count c.match-linked.sink w.count-is w.sink-is;
       }
@@ -38,9 +38,9 @@ returns-in-Err-clause-part g c s numbered are =
     let p = c.pair-item.result in
     let lt : i < length pairs = c.loop-pair-test.true in
     let at : p ≡ get_or pairs i p = c.pair-item.is in
-    ends_at g.K.ItemSink.accepts g.K.ItemSink.refuses s app pairs i p lt at c.loop-pair.count c.args.sink.now
+    ends_at g.K.RowSink.accepts g.K.RowSink.refuses s app pairs i p lt at c.loop-pair.count c.args.sink.now
     c.loop-pair.sink (c.loop-pair.invariant.taken s numbered are) (linked_rows c.in-Some.link)
-    (c.in-Some.ensures s numbered are) c.accept.new.self c.in-Err.ensures.refused c.in-Err.fault
+    (c.in-Some.ensures s numbered are) c.take.new.self c.in-Err.ensures.refused c.in-Err.fault
 
 pub returns-in-Err-clause-blames : goal.returns-in-Err-clause-blames
 returns-in-Err-clause-blames g c = λ is. cc

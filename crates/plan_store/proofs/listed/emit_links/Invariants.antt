@@ -12,6 +12,6 @@ invariant-loop-pair g l = record {
   few : l.count ≤ l.pair-index;
   taken : (s : Sets) → AreNumbered s → AreBySerial (λ row. row.now) s l.all
       → (l.count ≡ length (links_at s (option_copied l.app) (take l.pair-index l.pairs)))
-      × AcceptsAll g.K.ItemSink.accepts l.initial.sink
+      × AcceptsAll g.K.RowSink.accepts l.initial.sink
       (map link_shown (links_at s (option_copied l.app) (take l.pair-index l.pairs))) l.sink;
 }

@@ -12,9 +12,9 @@ loop-link-preserved g c =
     let more : map in_force_shown (take (i + 1) links) ≡ map in_force_shown (take i links) ++ in_force_shown link ∷ [] =
     map_more in_force_shown links i link c.loop-link-test.true
     ∙ ap (λ x. map in_force_shown (take i links) ++ in_force_shown x ∷ []) (sym c.link-item.is) in
-    subst (λ l. AcceptsAll g.K.ItemSink.accepts c.args.sink.now l c.accept.new.self) (sym more)
-    (takes_more g.K.ItemSink.accepts c.args.sink.now (map in_force_shown (take i links)) c.loop-link.sink
-    (in_force_shown link) c.accept.new.self c.loop-link.invariant c.in-Ok.ensures.taken)
+    subst (λ l. AcceptsAll g.K.RowSink.accepts c.args.sink.now l c.take.new.self) (sym more)
+    (takes_more g.K.RowSink.accepts c.args.sink.now (map in_force_shown (take i links)) c.loop-link.sink
+    (in_force_shown link) c.take.new.self c.loop-link.invariant c.in-Ok.ensures.taken)
 
 pub returns-in-Err-clause-part : goal.returns-in-Err-clause-part
 returns-in-Err-clause-part g c =

@@ -4,5 +4,5 @@ use Rattle.plan_store.specs.Listings.{AcceptsAll, in_force_shown}
 use Rattle.plan_store.proofs.listed.emit_lists.Given as goal
 
 abbrev pub invariant-loop-link : goal.invariant-loop-link
-invariant-loop-link g l = AcceptsAll g.K.ItemSink.accepts l.initial.sink (map in_force_shown (take l.link-index l.links))
+invariant-loop-link g l = AcceptsAll g.K.RowSink.accepts l.initial.sink (map in_force_shown (take l.link-index l.links))
     l.sink

@@ -17,8 +17,8 @@ use Rattle.plan_tables.proofs.listing.list_all_pairs.Goals as goal
 
 pub returns-in_err-rows : goal.returns-in_err-rows
 returns-in_err-rows g c =
-    unread_kept g.S.Store c.args.conn.now c.read_rest.new.conn (content_of c.args.lists.now) g.K.ItemSink.accepts
-    g.K.ItemSink.refuses c.args.sink.now c.args.sink.now asked.Pairs None _ c.in_err-rows.field-0.0
+    unread_kept g.S.Store c.args.conn.now c.read_rest.new.conn (content_of c.args.lists.now) g.K.RowSink.accepts
+    g.K.RowSink.refuses c.args.sink.now c.args.sink.now asked.Pairs None _ c.in_err-rows.field-0.0
     c.in_err-rows.ensures (λ numbered. c.has_listings_with.ensures
     (rest_in (state g.S.Store c.args.conn.now)) numbered Whats.Dependencies None) refl c.from_residual.result
     c.from_residual.ensures.1
@@ -26,7 +26,7 @@ returns-in_err-rows g c =
 pub returns-in-Ok : goal.returns-in-Ok
 returns-in-Ok g c =
     let lists = content_of c.args.lists.now in
-    pairs_ok g.S.Store c.args.conn.now c.read_rest.new.conn lists g.K.ItemSink.accepts g.K.ItemSink.refuses
+    pairs_ok g.S.Store c.args.conn.now c.read_rest.new.conn lists g.K.RowSink.accepts g.K.RowSink.refuses
     c.args.sink.now c.pairs_to.new.sink asked.Pairs None c.in_ok-rows.rows (λ (k : Content) found.
     ListsAll of_row found.0.items k.sets.history × ListsAll of_deletion found.1.items k.sets.deletions) c.in_ok-rows.ensures
     _ (rest_ready g.S.Store c.args.conn.now c.read_rest.new.conn lists c.in_ok-rows.rows _ c.in_ok-rows.ensures
@@ -40,9 +40,9 @@ returns-in-Ok g c =
 pub returns : goal.returns
 returns g c =
     let lists = content_of c.args.lists.now in
-    subst (λ (f : Stopped TableFault). ListsKept g.S.Store c.args.conn.now c.read_rest.new.conn lists g.K.ItemSink.accepts
-    g.K.ItemSink.refuses c.args.sink.now c.pairs_to.new.sink asked.Pairs None (Err f)) (sym c.ended_so.ensures)
-    (pairs_ended g.S.Store c.args.conn.now c.read_rest.new.conn lists g.K.ItemSink.accepts g.K.ItemSink.refuses
+    subst (λ (f : Stopped TableFault). ListsKept g.S.Store c.args.conn.now c.read_rest.new.conn lists g.K.RowSink.accepts
+    g.K.RowSink.refuses c.args.sink.now c.pairs_to.new.sink asked.Pairs None (Err f)) (sym c.ended_so.ensures)
+    (pairs_ended g.S.Store c.args.conn.now c.read_rest.new.conn lists g.K.RowSink.accepts g.K.RowSink.refuses
     c.args.sink.now c.pairs_to.new.sink asked.Pairs None c.in_ok-rows.rows (λ (k : Content) found.
     ListsAll of_row found.0.items k.sets.history × ListsAll of_deletion found.1.items k.sets.deletions) c.in_ok-rows.ensures
     _ (rest_ready g.S.Store c.args.conn.now c.read_rest.new.conn lists c.in_ok-rows.rows _ c.in_ok-rows.ensures

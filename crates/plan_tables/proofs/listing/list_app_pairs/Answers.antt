@@ -14,8 +14,8 @@ use Rattle.plan_tables.proofs.listing.list_app_pairs.Goals as goal
 
 pub returns-in_err-found : goal.returns-in_err-found
 returns-in_err-found g c =
-    unread_kept g.S.Store c.args.conn.now c.find_ends.new.conn (content_of c.args.lists.now) g.K.ItemSink.accepts
-    g.K.ItemSink.refuses c.args.sink.now c.args.sink.now asked.Pairs (Some c.args.app.now) _ c.in_err-found.field-0.0
+    unread_kept g.S.Store c.args.conn.now c.find_ends.new.conn (content_of c.args.lists.now) g.K.RowSink.accepts
+    g.K.RowSink.refuses c.args.sink.now c.args.sink.now asked.Pairs (Some c.args.app.now) _ c.in_err-found.field-0.0
     c.in_err-found.ensures.found (λ numbered. c.has_listings_with.ensures
     (rest_in (state g.S.Store c.args.conn.now)) numbered Whats.Dependencies (Some c.args.app.now)) refl c.from_residual.result
     c.from_residual.ensures.1
@@ -25,7 +25,7 @@ returns-in-Ok g c =
     let lists = content_of c.args.lists.now in
     let app = c.args.app.now in
     let found = c.in_ok-found.found in
-    pairs_ok g.S.Store c.args.conn.now c.find_ends.new.conn lists g.K.ItemSink.accepts g.K.ItemSink.refuses
+    pairs_ok g.S.Store c.args.conn.now c.find_ends.new.conn lists g.K.RowSink.accepts g.K.RowSink.refuses
     c.args.sink.now c.app_pairs_to.new.sink asked.Pairs (Some app) found
     (λ (k : Content) rows. HasFound app lists k.sets.history rows.items) c.in_ok-found.ensures.found _
     (ends_ready g.S.Store c.args.conn.now c.find_ends.new.conn lists found _ c.in_ok-found.ensures.found app found.items
@@ -38,10 +38,10 @@ returns g c =
     let lists = content_of c.args.lists.now in
     let app = c.args.app.now in
     let found = c.in_ok-found.found in
-    subst (λ (f : Stopped TableFault). ListsKept g.S.Store c.args.conn.now c.find_ends.new.conn lists g.K.ItemSink.accepts
-    g.K.ItemSink.refuses c.args.sink.now c.app_pairs_to.new.sink asked.Pairs (Some app) (Err f))
+    subst (λ (f : Stopped TableFault). ListsKept g.S.Store c.args.conn.now c.find_ends.new.conn lists g.K.RowSink.accepts
+    g.K.RowSink.refuses c.args.sink.now c.app_pairs_to.new.sink asked.Pairs (Some app) (Err f))
     (sym c.ended_so.ensures)
-    (pairs_ended g.S.Store c.args.conn.now c.find_ends.new.conn lists g.K.ItemSink.accepts g.K.ItemSink.refuses
+    (pairs_ended g.S.Store c.args.conn.now c.find_ends.new.conn lists g.K.RowSink.accepts g.K.RowSink.refuses
     c.args.sink.now c.app_pairs_to.new.sink asked.Pairs (Some app) found
     (λ (k : Content) rows. HasFound app lists k.sets.history rows.items) c.in_ok-found.ensures.found _
     (ends_ready g.S.Store c.args.conn.now c.find_ends.new.conn lists found _ c.in_ok-found.ensures.found app found.items

@@ -24,7 +24,7 @@ returns-in-Ok-clause-asks g c =
 
 pub returns-in-Err-Sink-clause-part : goal.returns-in-Err-Sink-clause-part
 returns-in-Err-Sink-clause-part g c clean is numbered =
-    handed_refused g.K.ItemSink.accepts g.K.ItemSink.refuses (IsListing (what_of c.args.asked) (option_copied c.args.app)
+    handed_refused g.K.RowSink.accepts g.K.RowSink.refuses (IsListing (what_of c.args.asked) (option_copied c.args.app)
     (kept_in (state g.S.Store c.args.conn.now) (content_of c.args.lists.now))) c.args.sink.now c.list_facts.new.sink
     c.in-Err-Sink.field-0 c.in-Err-Sink.field-0-is (c.in-Err-Sink.ensures.part clean is numbered)
 
@@ -47,13 +47,13 @@ left : (g : Over) (c : goal.After-why_of g) → EndsFor g.S.Store c.args.conn.no
     (content_of c.args.lists.now) c.why_of.result
 left g c = ends_for g.S.Store c.args.conn.now c.list_facts.new.conn (content_of c.args.lists.now) c.why_of.new.conn
     c.in-Err-Fault.fault c.why_of.result (listing_fails g.S.Store c.args.conn.now c.list_facts.new.conn
-    (content_of c.args.lists.now) g.K.ItemSink.accepts g.K.ItemSink.refuses c.args.sink.now c.list_facts.new.sink
+    (content_of c.args.lists.now) g.K.RowSink.accepts g.K.RowSink.refuses c.args.sink.now c.list_facts.new.sink
     c.args.asked (option_copied c.args.app) c.in-Err-Fault.field-0 c.in-Err-Fault.fault c.in-Err-Fault.field-0-is
     c.in-Err-Fault.ensures) c.why_of.ensures
 
 pub returns-in-Err-Fault-clause-part : goal.returns-in-Err-Fault-clause-part
 returns-in-Err-Fault-clause-part g c clean is numbered =
-    handed_unread g.K.ItemSink.accepts g.K.ItemSink.refuses (IsListing (what_of c.args.asked) (option_copied c.args.app)
+    handed_unread g.K.RowSink.accepts g.K.RowSink.refuses (IsListing (what_of c.args.asked) (option_copied c.args.app)
     (kept_in (state g.S.Store c.args.conn.now) (content_of c.args.lists.now))) c.args.sink.now c.list_facts.new.sink
     c.in-Err-Fault.field-0 c.in-Err-Fault.fault c.why_of.result c.in-Err-Fault.field-0-is
     (c.in-Err-Fault.ensures.part ((left g c).calm clean) is numbered)

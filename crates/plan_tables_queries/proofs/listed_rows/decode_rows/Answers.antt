@@ -15,9 +15,9 @@ returns-in-Ok-clause-all g c clean has =
     let whole = Answers (question c.args.look) (bound c.args.asked.now)
     (tables_of (state g.S.Store c.args.conn.now).now.trees) in
     let (named, told) = told_all c.emit.new.sink (λ w. w.sink.now) (λ w. w.sink.ghost_name) (λ w. w.count) (λ w. w.why)
-    g.T.Decode.has_form g.T.Decode.values g.T.Marked.row_of g.T.Marked.letter_of g.K.ItemSink.accepts g.K.ItemSink.refuses
+    g.T.Decode.has_form g.T.Decode.values g.T.Marked.row_of g.T.Marked.letter_of g.K.RowSink.accepts g.K.RowSink.refuses
     whole _ c.emit.new.sink refl (c.in-Ok.ensures.all clean has) in
-    subst (λ k. TellsAll g.T.Decode.values g.T.Marked.row_of g.T.Marked.letter_of g.K.ItemSink.accepts whole
+    subst (λ k. TellsAll g.T.Decode.values g.T.Marked.row_of g.T.Marked.letter_of g.K.RowSink.accepts whole
     c.args.sink.now k c.emit.new.sink.count) (search rules) told
 
 pub returns-in-Err-Fault-clause-part : goal.returns-in-Err-Fault-clause-part
@@ -25,19 +25,19 @@ returns-in-Err-Fault-clause-part g c clean has =
     let whole = Answers (question c.args.look) (bound c.args.asked.now)
     (tables_of (state g.S.Store c.args.conn.now).now.trees) in
     let (named, told) = told_before c.emit.new.sink (λ w. w.sink.now) (λ w. w.sink.ghost_name) (λ w. w.count)
-    (λ w. w.why) g.T.Decode.has_form g.T.Decode.values g.T.Marked.row_of g.T.Marked.letter_of g.K.ItemSink.accepts
-    g.K.ItemSink.refuses whole _ c.emit.new.sink c.in-Err-Fault.error
+    (λ w. w.why) g.T.Decode.has_form g.T.Decode.values g.T.Marked.row_of g.T.Marked.letter_of g.K.RowSink.accepts
+    g.K.RowSink.refuses whole _ c.emit.new.sink c.in-Err-Fault.error
     (rw c.in-Err-Fault.field-0-is at (c.in-Err-Fault.ensures.part clean has)) in
-    subst (λ k. TellsPart g.T.Decode.has_form g.T.Decode.values g.T.Marked.row_of g.T.Marked.letter_of g.K.ItemSink.accepts
-    g.K.ItemSink.refuses whole c.args.sink.now k (Fault (Store c.in-Err-Fault.error))) (search rules) told
+    subst (λ k. TellsPart g.T.Decode.has_form g.T.Decode.values g.T.Marked.row_of g.T.Marked.letter_of g.K.RowSink.accepts
+    g.K.RowSink.refuses whole c.args.sink.now k (Fault (Store c.in-Err-Fault.error))) (search rules) told
 
 pub returns-in-Err-Sink-clause-part : goal.returns-in-Err-Sink-clause-part
 returns-in-Err-Sink-clause-part g c clean has =
     let whole = Answers (question c.args.look) (bound c.args.asked.now)
     (tables_of (state g.S.Store c.args.conn.now).now.trees) in
     let (named, told) = told_part c.emit.new.sink (λ w. w.sink.now) (λ w. w.sink.ghost_name) (λ w. w.count)
-    (λ w. w.why) g.T.Decode.has_form g.T.Decode.values g.T.Marked.row_of g.T.Marked.letter_of g.K.ItemSink.accepts
-    g.K.ItemSink.refuses whole _ c.emit.new.sink
+    (λ w. w.why) g.T.Decode.has_form g.T.Decode.values g.T.Marked.row_of g.T.Marked.letter_of g.K.RowSink.accepts
+    g.K.RowSink.refuses whole _ c.emit.new.sink
     (rw c.in-Err-Sink.field-0-is at (c.in-Err-Sink.ensures.part clean has)) in
-    subst (λ k. TellsPart g.T.Decode.has_form g.T.Decode.values g.T.Marked.row_of g.T.Marked.letter_of g.K.ItemSink.accepts
-    g.K.ItemSink.refuses whole c.args.sink.now k c.emit.new.sink.why) (search rules) told
+    subst (λ k. TellsPart g.T.Decode.has_form g.T.Decode.values g.T.Marked.row_of g.T.Marked.letter_of g.K.RowSink.accepts
+    g.K.RowSink.refuses whole c.args.sink.now k c.emit.new.sink.why) (search rules) told

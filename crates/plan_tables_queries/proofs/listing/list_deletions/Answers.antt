@@ -13,7 +13,7 @@ returns-in-Some g c =
     let told = rw c.name.ensures at c.decode_rows.ensures in
     rw c.in-Some.is (lists _ _ _ _ (λ (c : Content). c.sets.deletions) InDeletions deletions_shown DeletionsOf
     (Text app ∷ []) (Some app) (deletions_of app) (app, refl) _ _ _ deletions_read g.S.Store
-    c.args.conn.now c.decode_rows.new.conn g.K.ItemSink.accepts g.K.ItemSink.refuses c.args.sink.now c.decode_rows.new.sink
+    c.args.conn.now c.decode_rows.new.conn g.K.RowSink.accepts g.K.RowSink.refuses c.args.sink.now c.decode_rows.new.sink
     c.decode_rows.result told.all told.part told.same told.fails told.leaves told.mode told.survives)
 
 pub returns-in-None : goal.returns-in-None
@@ -21,6 +21,6 @@ returns-in-None g c =
     let told = c.decode_rows-in-None.ensures in
     rw c.in-None.is (lists _ _ _ _ (λ (c : Content). c.sets.deletions) InDeletions deletions_shown DeletionsListed
     [] None all_deletions refl _ _ _ deletions_read g.S.Store
-    c.args.conn.now c.decode_rows-in-None.new.conn g.K.ItemSink.accepts g.K.ItemSink.refuses c.args.sink.now
+    c.args.conn.now c.decode_rows-in-None.new.conn g.K.RowSink.accepts g.K.RowSink.refuses c.args.sink.now
     c.decode_rows-in-None.new.sink
     c.decode_rows-in-None.result told.all told.part told.same told.fails told.leaves told.mode told.survives)

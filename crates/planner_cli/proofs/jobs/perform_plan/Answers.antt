@@ -18,7 +18,7 @@ settle-requires-clause-sound g c honest =
     subst (λ x. IsSound (job_left c.args.number c.args.text (Refused refusal) x)) (sym (reads.same honest))
     (left_sound c.streams.ensures.sound c.args.number c.args.text (plan_change c.args.function) (Refused refusal) _
     c.requires.numbered c.requires.well_formed decided (c.requires.new (reads.honest honest))
-    (c.requires.sound (reads.honest honest)))
+    (g.met.S.PlanStore.honest_is_sound c.args.store.now (reads.honest honest)))
 
 pub perform_within-requires-clause-well_formed : goal.perform_within-requires-clause-well_formed
 perform_within-requires-clause-well_formed g c = c.requires.well_formed

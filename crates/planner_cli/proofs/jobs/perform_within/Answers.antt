@@ -15,7 +15,7 @@ settle-requires-clause-fits g c honest =
     (rw c.in_ok-view.was at reads.right honest) in
     let change = job_change c.args.change in
     let decided = c.in-Ok.ensures (g.S.PlanStore.content c.args.store.now) (c.requires.ends (reads.honest honest)) shows
-    (c.requires.sound (reads.honest honest)) in
+    (g.met.S.PlanStore.honest_is_sound c.args.store.now (reads.honest honest)) in
     subst (λ x. Rattle.planner_cli.specs.Verdicts.FitsVerdict c.in-Ok.verdict x) (sym (reads.same honest))
     (verdict_fits change c.in-Ok.verdict _ decided)
 
@@ -25,7 +25,7 @@ settle-requires-clause-sound g c honest =
     let shows = subst (λ n. Shows n c.in_ok-view.view (g.S.PlanStore.content c.args.store.now)) c.need_of-need.ensures
     (rw c.in_ok-view.was at reads.right honest) in
     let change = job_change c.args.change in
-    let first = c.requires.sound (reads.honest honest) in
+    let first = g.met.S.PlanStore.honest_is_sound c.args.store.now (reads.honest honest) in
     let decided = c.in-Ok.ensures (g.S.PlanStore.content c.args.store.now) (c.requires.ends (reads.honest honest)) shows
     first in
     subst (λ x. IsSound (job_left c.args.number c.args.text c.in-Ok.verdict x)) (sym (reads.same honest))
@@ -42,7 +42,7 @@ returns g c =
     let shows = subst (λ n. Shows n c.in_ok-view.view (g.S.PlanStore.content c.args.store.now)) c.need_of-need.ensures
     (rw c.in_ok-view.was at reads.right honest) in
     let decided = c.in-Ok.ensures (g.S.PlanStore.content c.args.store.now) (c.requires.ends (reads.honest honest)) shows
-    (c.requires.sound (reads.honest honest)) in
+    (g.met.S.PlanStore.honest_is_sound c.args.store.now (reads.honest honest)) in
     let same = reads.same honest in
     verdict_answers c.args.number c.args.text change c.in-Ok.verdict _
     (subst (λ x. VerdictIs (decision_of change) x c.in-Ok.verdict) (sym same) decided)

@@ -8,8 +8,7 @@ use Rattle.planner_cli.proofs.lists.write_lines.Goals as goal
 
 pub returns-clause-all : goal.returns-clause-all
 returns-clause-all g c honest =
-    let sound = c.requires (c.rows_to.ensures.honest honest) in
-    let hands = c.rows_to.ensures.all honest sound.serials in
+    let hands = c.rows_to.ensures.all honest in
     let whole = IsListing c.args.what (option_copied c.args.app) (g.S.PlanStore.content c.args.store.now) in
     if_ok c.rows_to.result _ _ (λ count h.
     let (named, wrote) = wrote_all c.rows_to.new.sink (λ k. g.W.Write.contents k.writer.now) (λ k. k.writer.ghost_name)
@@ -19,8 +18,7 @@ returns-clause-all g c honest =
 
 pub returns-clause-part : goal.returns-clause-part
 returns-clause-part g c honest still =
-    let sound = c.requires honest in
-    let hands = c.rows_to.ensures.part honest still sound.serials in
+    let hands = c.rows_to.ensures.part honest still in
     let whole = IsListing c.args.what (option_copied c.args.app) (g.S.PlanStore.content c.args.store.now) in
     if_err c.rows_to.result _ _ (λ fault h.
     let (named, wrote) = wrote_part c.rows_to.new.sink (λ k. g.W.Write.contents k.writer.now) (λ k. k.writer.ghost_name)

@@ -2,7 +2,6 @@ use Rattle.std.proofs.Common.{sym, ap, ◌∙◌, arith}
 use Rattle.std.specs.Option.{option_map}
 use Rattle.planner_cli_stream.specs.Pages.{item_of}
 use Rattle.planner_cli_stream.specs.declared.lines.ReadFault.TheVariants as Reads
-use Rattle.planner_cli.proofs.PlanLemmas.{step_sound}
 use Rattle.planner_cli.proofs.Progress.{crashes_between, crashes_within, halts_between, halts_within}
 use Rattle.planner_cli.proofs.Progress.{progress_answers, progress_starts}
 use Rattle.planner_cli.proofs.StoreLemmas.{blamed_since}
@@ -10,7 +9,6 @@ use Rattle.planner_cli.proofs.stream.answer_all.Goals as goal
 
 pub loop-init : goal.loop-init
 loop-init g c = record {
-  sound = c.requires;
   counts = omega arith;
   honest = λ h. h;
   clean = λ h. h;
@@ -104,10 +102,6 @@ pub loop-preserved : goal.loop-preserved
 loop-preserved g c =
     let met = sym c.item.ensures.item ∙ ap (option_map item_of) c.in-Some.is in
     record {
-      sound = λ honest.
-          let before = c.loop.invariant.sound (c.answer_one.ensures.honest honest) in
-          let (text, answered, wrote) = c.in-Ok.ensures.ok honest in
-          step_sound c.streams.ensures.sound _ _ _ answered.reply before answered.gives;
       counts = let a = c.loop.invariant.counts in let b = c.answer_one.ensures.counts in omega arith;
       honest = λ honest. c.loop.invariant.honest (c.answer_one.ensures.honest honest);
       clean = λ clean. c.loop.invariant.clean (c.answer_one.ensures.clean clean);

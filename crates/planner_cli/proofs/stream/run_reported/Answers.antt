@@ -6,7 +6,7 @@ use Rattle.planner_cli.proofs.stream.run_reported.Goals as goal
 pub returns-in-Ok-clause-plan : goal.returns-in-Ok-clause-plan
 returns-in-Ok-clause-plan g c = record {
   ran = λ honest. ran_leads c.streams.ensures.sound c.streams.ensures.by_fate _ _ _ _ _ _
-      (c.requires (c.answer_all.ensures.honest honest)) (c.in-Ok.ensures.ran honest);
+      (g.met.S.PlanStore.honest_is_sound c.args.store.now (c.answer_all.ensures.honest honest)) (c.in-Ok.ensures.ran honest);
   replied = λ honest clean. tt;
   fault = λ honest. tt;
   settled = c.in-Ok.ensures.settled;
@@ -24,14 +24,14 @@ returns-in-Err-clause-plan g c = record {
   ran = λ honest. tt;
   replied = λ honest clean.
       let (last, stopped) = c.in-Err.ensures.replied honest clean in
-      replied_leads c.streams.ensures.sound c.streams.ensures.by_fate _ _ last _ _ _ _ (c.requires honest)
+      replied_leads c.streams.ensures.sound c.streams.ensures.by_fate _ _ last _ _ _ _ (g.met.S.PlanStore.honest_is_sound c.args.store.now honest)
       (fault_written _ _ _ _ _ _ _ _ _ stopped c.cause.ensures c.write_fault-is_written.ensures.front);
   fault = λ honest. stopped_leads c.streams.ensures.sound c.streams.ensures.by_fate _ _ _ _ _ _
-      (c.requires (c.answer_all.ensures.honest honest))
+      (g.met.S.PlanStore.honest_is_sound c.args.store.now (c.answer_all.ensures.honest honest))
       (fault_written _ _ _ _ _ _ _ _ _ (c.in-Err.ensures.fault honest) c.cause.ensures c.write_fault-is_written.ensures.front);
   settled = λ honest own. tt;
   crash = λ honest own left leaves.
-      crashed_leads c.streams.ensures.sound c.streams.ensures.by_fate _ _ _ _ _ _ left (c.requires honest)
+      crashed_leads c.streams.ensures.sound c.streams.ensures.by_fate _ _ _ _ _ _ left (g.met.S.PlanStore.honest_is_sound c.args.store.now honest)
       (crash_written _ _ _ _ _ _ _ _ _ left
       (c.in-Err.ensures.crash honest (g.met.S.PlanStore.left_is_clean _ left leaves) own left leaves)
       c.cause.ensures c.write_fault-is_written.ensures.front);

@@ -6,8 +6,8 @@ use Rattle.planner_cli.specs.Verdicts.{IsEnd}
 use Rattle.planner_cli.proofs.StoreLemmas.{after_read}
 use Rattle.planner_cli.proofs.trials.answer_daily_trial.Goals as goal
 
-pub answer_within-requires-clause-ends : goal.answer_within-requires-clause-ends
-answer_within-requires-clause-ends g c honest =
+pub answer_within-requires : goal.answer_within-requires
+answer_within-requires g c honest =
     let reads = c.find_end.ensures in
     subst (λ x. IsEnd x c.args.function.now c.in_ok-end.end) (sym (reads.same honest))
     (rw c.in_ok-end.was at reads.right honest)

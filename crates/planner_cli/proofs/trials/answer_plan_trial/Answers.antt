@@ -9,7 +9,7 @@ returns-in-Some g c =
     let reads = c.find_refusal.ensures in
     read_tried g.S.PlanStore _ _ _ _ reads _ c.in_ok-refusal.was c.print_refusal.result _ (λ honest.
     if_ok c.print_refusal.result _ _ (λ printed prints. prints (g.S.PlanStore.content c.args.store.now)
-    (c.requires (reads.honest honest)) (rw (c.in_ok-refusal.was, c.in-Some.is) at reads.right honest))
+    (g.met.S.PlanStore.honest_is_sound c.args.store.now (reads.honest honest)) (rw (c.in_ok-refusal.was, c.in-Some.is) at reads.right honest))
     c.print_refusal.ensures.prints) c.print_refusal.ensures.err
 
 pub returns-in-None : goal.returns-in-None

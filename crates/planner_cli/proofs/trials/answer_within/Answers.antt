@@ -9,8 +9,8 @@ returns g c =
     read_printed g.S.PlanStore _ _ _ _ reads _ c.in_ok-view.was c.in_ok-daily_trial.field-0 _ (λ honest.
     let shows = subst (λ n. Shows n c.in_ok-view.view (g.S.PlanStore.content c.args.store.now)) c.daily_need.ensures
     (rw c.in_ok-view.was at reads.right honest) in
-    c.in_ok-daily_trial.ensures (g.S.PlanStore.content c.args.store.now) (c.requires.ends (reads.honest honest)) shows
-    (c.requires.sound (reads.honest honest)))
+    c.in_ok-daily_trial.ensures (g.S.PlanStore.content c.args.store.now) (c.requires (reads.honest honest)) shows
+    (g.met.S.PlanStore.honest_is_sound c.args.store.now (reads.honest honest)))
 
 pub returns-in_err-daily_trial : goal.returns-in_err-daily_trial
 returns-in_err-daily_trial g c =

@@ -17,7 +17,7 @@ returns-in-Ok-clause-all g c rest numbered has =
     let found = c.in-Ok.found in
     let links = links_at (with_others others content.sets) (Some app) found in
     let h = rw c.as_slice.ensures.all at c.hand_known.ensures.all in
-    shown_all g.K.ItemSink.accepts g.K.ItemSink.refuses c.args.sink.now c.hand_known.new.sink link_shown links
+    shown_all g.K.RowSink.accepts g.K.RowSink.refuses c.args.sink.now c.hand_known.new.sink link_shown links
     (ShowPairs (Some app) whole)
     (links, lists_found app rest others content has numbered found c.as_slice.ensures.rising c.in-Ok.ensures, refl)
     c.hand_known.result (h has.ordered)
@@ -31,7 +31,7 @@ returns-in-Ok-clause-part g c rest numbered has =
     let found = c.in-Ok.found in
     let links = links_at (with_others others content.sets) (Some app) found in
     let h = rw c.as_slice.ensures.all at c.hand_known.ensures.part in
-    shown_part g.K.ItemSink.accepts g.K.ItemSink.refuses c.args.sink.now c.hand_known.new.sink link_shown links
+    shown_part g.K.RowSink.accepts g.K.RowSink.refuses c.args.sink.now c.hand_known.new.sink link_shown links
     (ShowPairs (Some app) whole)
     (links, lists_found app rest others content has numbered found c.as_slice.ensures.rising c.in-Ok.ensures, refl)
     c.hand_known.result (h has.ordered)

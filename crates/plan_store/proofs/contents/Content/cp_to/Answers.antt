@@ -17,7 +17,7 @@ returns-clause-all g c rest numbered =
     let whole = with_rest rest (content_of kept) in
     let app = option_copied c.args.app in
     let h = c.emit_rows.ensures.all in
-    whole_all g.K.ItemSink.accepts g.K.ItemSink.refuses c.args.sink.now c.emit_rows.new.sink
+    whole_all g.K.RowSink.accepts g.K.RowSink.refuses c.args.sink.now c.emit_rows.new.sink
     (ShowsSet of_current (λ (x : CurrentRow). status_letter x.status) false kept.cp.items app)
     (ShowRows CurrentPlan app whole) (shows_cp whole numbered kept.cp.items kept.cp_rows (λ _. refl) app)
     c.emit_rows.result (h kept.cp_rows)
@@ -28,7 +28,7 @@ returns-clause-part g c rest numbered =
     let whole = with_rest rest (content_of kept) in
     let app = option_copied c.args.app in
     let h = c.emit_rows.ensures.part in
-    whole_part g.K.ItemSink.accepts g.K.ItemSink.refuses c.args.sink.now c.emit_rows.new.sink
+    whole_part g.K.RowSink.accepts g.K.RowSink.refuses c.args.sink.now c.emit_rows.new.sink
     (ShowsSet of_current (λ (x : CurrentRow). status_letter x.status) false kept.cp.items app)
     (ShowRows CurrentPlan app whole) (shows_cp whole numbered kept.cp.items kept.cp_rows (λ _. refl) app)
     c.emit_rows.result (h kept.cp_rows)

@@ -12,6 +12,6 @@ invariant-loop-pair g l = record {
   taken : AreBySerials l.others
       → (l.count ≡ length (links_at (with_others l.others (content_of l.self).sets) (Some l.app)
       (take l.pair-index l.pairs)))
-      × AcceptsAll g.K.ItemSink.accepts l.initial.sink (map link_shown
+      × AcceptsAll g.K.RowSink.accepts l.initial.sink (map link_shown
       (links_at (with_others l.others (content_of l.self).sets) (Some l.app) (take l.pair-index l.pairs))) l.sink;
 }

@@ -18,7 +18,7 @@ returns-clause-all g c rest numbered =
     let whole = with_rest rest (content_of kept) in
     let app = option_copied c.args.app in
     let h = c.emit_rows.ensures.all in
-    whole_all g.K.ItemSink.accepts g.K.ItemSink.refuses c.args.sink.now c.emit_rows.new.sink
+    whole_all g.K.RowSink.accepts g.K.RowSink.refuses c.args.sink.now c.emit_rows.new.sink
     (ShowsSet of_row (λ (_ : Row). status_letter C) true kept.ltp.items app) (ShowRows LongTermPlan app whole)
     (shows_ltp whole numbered (λ (_ : Row). status_letter C) kept.ltp.items kept.ltp_rows (λ _. refl) app)
     c.emit_rows.result (h kept.ltp_rows)
@@ -29,7 +29,7 @@ returns-clause-part g c rest numbered =
     let whole = with_rest rest (content_of kept) in
     let app = option_copied c.args.app in
     let h = c.emit_rows.ensures.part in
-    whole_part g.K.ItemSink.accepts g.K.ItemSink.refuses c.args.sink.now c.emit_rows.new.sink
+    whole_part g.K.RowSink.accepts g.K.RowSink.refuses c.args.sink.now c.emit_rows.new.sink
     (ShowsSet of_row (λ (_ : Row). status_letter C) true kept.ltp.items app) (ShowRows LongTermPlan app whole)
     (shows_ltp whole numbered (λ (_ : Row). status_letter C) kept.ltp.items kept.ltp_rows (λ _. refl) app)
     c.emit_rows.result (h kept.ltp_rows)

@@ -13,7 +13,7 @@ returns-in-Ok-by_serial-clause-all g c rest numbered history deletions =
     let app = option_copied c.args.app in
     let links = links_at whole.sets app whole.pairs in
     let h = rw (c.deref.ensures.value, c.deref-in-Ok-by_serial.ensures.value, c.in-Ok.ensures) at c.emit_links.ensures.all in
-    shown_all g.K.ItemSink.accepts g.K.ItemSink.refuses c.args.sink.now c.emit_links.new.sink link_shown links
+    shown_all g.K.RowSink.accepts g.K.RowSink.refuses c.args.sink.now c.emit_links.new.sink link_shown links
     (ShowPairs app whole) (links, lists_links whole app numbered c.rise.ensures, refl)
     c.emit_links.result (h whole.sets numbered (c.in-Ok-by_serial.ensures rest numbered history deletions))
 
@@ -23,7 +23,7 @@ returns-in-Ok-by_serial-clause-part g c rest numbered history deletions =
     let app = option_copied c.args.app in
     let links = links_at whole.sets app whole.pairs in
     let h = rw (c.deref.ensures.value, c.deref-in-Ok-by_serial.ensures.value, c.in-Ok.ensures) at c.emit_links.ensures.part in
-    shown_part g.K.ItemSink.accepts g.K.ItemSink.refuses c.args.sink.now c.emit_links.new.sink link_shown links
+    shown_part g.K.RowSink.accepts g.K.RowSink.refuses c.args.sink.now c.emit_links.new.sink link_shown links
     (ShowPairs app whole) (links, lists_links whole app numbered c.rise.ensures, refl)
     c.emit_links.result (h whole.sets numbered (c.in-Ok-by_serial.ensures rest numbered history deletions))
 

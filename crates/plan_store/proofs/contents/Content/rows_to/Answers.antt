@@ -35,7 +35,7 @@ returns-in-History-clause-all g c numbered =
     let kept = c.args.self.now in
     let app = option_copied c.args.app in
     let h = c.emit_rows.ensures.all in
-    rw c.in-History.is (whole_all g.K.ItemSink.accepts g.K.ItemSink.refuses c.args.sink.now c.emit_rows.new.sink
+    rw c.in-History.is (whole_all g.K.RowSink.accepts g.K.RowSink.refuses c.args.sink.now c.emit_rows.new.sink
     (ShowsSet of_row (λ (_ : Row). status_letter C) false kept.history.items app)
     (ShowRows InHistory app (content_of kept)) (shows_history (content_of kept) numbered kept.history.items
     kept.history_rows (λ _. refl) app) c.emit_rows.result (h kept.history_rows))
@@ -45,7 +45,7 @@ returns-in-History-clause-part g c numbered =
     let kept = c.args.self.now in
     let app = option_copied c.args.app in
     let h = c.emit_rows.ensures.part in
-    rw c.in-History.is (whole_part g.K.ItemSink.accepts g.K.ItemSink.refuses c.args.sink.now c.emit_rows.new.sink
+    rw c.in-History.is (whole_part g.K.RowSink.accepts g.K.RowSink.refuses c.args.sink.now c.emit_rows.new.sink
     (ShowsSet of_row (λ (_ : Row). status_letter C) false kept.history.items app)
     (ShowRows InHistory app (content_of kept)) (shows_history (content_of kept) numbered kept.history.items
     kept.history_rows (λ _. refl) app) c.emit_rows.result (h kept.history_rows))
@@ -55,7 +55,7 @@ returns-in-Deletions-clause-all g c numbered =
     let kept = c.args.self.now in
     let app = option_copied c.args.app in
     let h = c.emit_rows-in-Deletions.ensures.all in
-    rw c.in-Deletions.is (whole_all g.K.ItemSink.accepts g.K.ItemSink.refuses c.args.sink.now
+    rw c.in-Deletions.is (whole_all g.K.RowSink.accepts g.K.RowSink.refuses c.args.sink.now
     c.emit_rows-in-Deletions.new.sink (ShowsSet of_deletion (λ (x : Deletion). reason_letter x.reason) false
     kept.deletions.items app) (ShowRows InDeletions app (content_of kept))
     (shows_deletions (content_of kept) numbered kept.deletions.items kept.deletion_rows (λ _. refl) app)
@@ -66,7 +66,7 @@ returns-in-Deletions-clause-part g c numbered =
     let kept = c.args.self.now in
     let app = option_copied c.args.app in
     let h = c.emit_rows-in-Deletions.ensures.part in
-    rw c.in-Deletions.is (whole_part g.K.ItemSink.accepts g.K.ItemSink.refuses c.args.sink.now
+    rw c.in-Deletions.is (whole_part g.K.RowSink.accepts g.K.RowSink.refuses c.args.sink.now
     c.emit_rows-in-Deletions.new.sink (ShowsSet of_deletion (λ (x : Deletion). reason_letter x.reason) false
     kept.deletions.items app) (ShowRows InDeletions app (content_of kept))
     (shows_deletions (content_of kept) numbered kept.deletions.items kept.deletion_rows (λ _. refl) app)

@@ -1,7 +1,7 @@
 use Rattle.std.proofs.Common.{subst, sym}
 use Rattle.plan_store_lists.specs.Rows.{of_current, of_deletion, of_row}
 use Rattle.plan_store.specs.Contents.{content_of}
-use Rattle.plan_store.specs.Views.{Shows}
+use Rattle.plan_store.specs.Views.{ShowsListed}
 use Rattle.plan_store.proofs.WindowLemmas.{early_rows, early_seats, no_rows, no_seats}
 use Rattle.plan_store.proofs.WindowLemmas.{shows_definitions, shows_early, shows_key, shows_plan, tells_sizes}
 use Rattle.plan_store.proofs.contents.Content.window.Goals as goal
@@ -49,7 +49,7 @@ window_of_lasts-requires-in-LongTerm-clause-seats c =
 pub returns-in-Definitions-clause-shows : goal.returns-in-Definitions-clause-shows
 returns-in-Definitions-clause-shows c =
     let kept = c.args.self.now in
-    subst (λ n. Shows n c.window_of_plans.result (content_of kept)) (sym c.in-Definitions.is)
+    subst (λ n. ShowsListed n c.window_of_plans.result (content_of kept)) (sym c.in-Definitions.is)
     (shows_definitions c.window_of_plans.result kept c.window_of_plans.ensures.whole
     (rw (kept.buffer.no_row, kept.buffer.no_current_row) at c.window_of_plans.ensures.shown))
 
@@ -58,7 +58,7 @@ returns-in-Key-clause-shows c =
     let kept = c.args.self.now in
     let filled = rw c.in-Key.is at c.requires in
     let shows = rw (c.deref.ensures.value, kept.buffer.no_deletion) at c.window_of_lasts.ensures.shown in
-    subst (λ n. Shows n c.window_of_lasts.result (content_of kept)) (sym c.in-Key.is)
+    subst (λ n. ShowsListed n c.window_of_lasts.result (content_of kept)) (sym c.in-Key.is)
     (shows_key c.in-Key.field-0 c.window_of_lasts.result kept kept.buffer.lasts.items c.window_of_lasts.ensures.whole
     filled c.window_of_lasts.ensures.history shows)
 
@@ -68,14 +68,14 @@ returns-in-LongTerm-clause-shows c =
     let filled = rw c.in-LongTerm.is at c.requires in
     let shows = rw c.deref-in-LongTerm.ensures.value
     at c.window_of_lasts-in-LongTerm.ensures.shown in
-    subst (λ n. Shows n c.window_of_lasts-in-LongTerm.result (content_of kept)) (sym c.in-LongTerm.is)
+    subst (λ n. ShowsListed n c.window_of_lasts-in-LongTerm.result (content_of kept)) (sym c.in-LongTerm.is)
     (shows_plan c.in-LongTerm.field-0 c.window_of_lasts-in-LongTerm.result kept kept.buffer.lasts.items
     c.window_of_lasts-in-LongTerm.ensures.whole filled c.window_of_lasts-in-LongTerm.ensures.history shows)
 
 pub returns-in-Daily-clause-shows : goal.returns-in-Daily-clause-shows
 returns-in-Daily-clause-shows c =
     let kept = c.args.self.now in
-    subst (λ n. Shows n c.window_of_plans-in-Daily.result (content_of kept)) (sym c.in-Daily.is)
+    subst (λ n. ShowsListed n c.window_of_plans-in-Daily.result (content_of kept)) (sym c.in-Daily.is)
     (shows_early _ kept kept.buffer.early.items (rw c.in-Daily.is at c.requires)
     c.window_of_plans-in-Daily.result c.window_of_plans-in-Daily.ensures.whole c.window_of_plans-in-Daily.ensures.shown)
 

@@ -3,7 +3,7 @@ use Rattle.std.proofs.Math.Logic.{∥∥₁_elim}
 use Rattle.sqlite.specs.Held.{Held, state}
 use Rattle.sqlite.specs.State.{HasCleanDisk}
 use Rattle.plan_store.specs.Contents.{content_of}
-use Rattle.plan_tables.specs.Kept.{CanRead, NotesIn, kept_in}
+use Rattle.plan_tables.specs.Kept.{CanRead, KeepsSound, NotesIn, kept_in}
 use Rattle.plan_tables.specs.Stored.{LeavesSound}
 use Rattle.plan_tables.proofs.LookLemmas.{kept_sure}
 use Rattle.plan_tables.proofs.MetLemmas.{fits_lists}
@@ -20,6 +20,8 @@ invariant_of-self g c =
       told = subst (λ (conn : Held _). ∥ (HasCleanDisk (state g.S.Store conn) → LeavesSound (state g.S.Store conn)) ∥₁)
           (sym c.blame.ensures.conn) old.told;
       noted = subst (λ (conn : Held _). NotesIn (state g.S.Store conn) old.gone) (sym c.blame.ensures.conn) old.noted;
+      sound = subst (λ (conn : Held _). KeepsSound (state g.S.Store conn) (content_of old.lists))
+          (sym c.blame.ensures.conn) old.sound;
     }
 
 pub returns-clause-admits : goal.returns-clause-admits

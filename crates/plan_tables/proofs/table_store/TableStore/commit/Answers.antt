@@ -3,7 +3,7 @@ use Rattle.sqlite.specs.Held.{Held}
 use Rattle.planner_machine.specs.Content.{Content}
 use Rattle.plan_store.specs.Contents.{content_of}
 use Rattle.plan_tables.specs.Session.{doubt_after, failures_after}
-use Rattle.plan_tables.proofs.CommitLemmas.{Unchanged, commits, commits_not, keeps_commit, keeps_undone, noted_commit, noted_undone, told_commit}
+use Rattle.plan_tables.proofs.CommitLemmas.{Unchanged, commits, commits_not, keeps_commit, keeps_undone, noted_commit, noted_undone, sound_commit, sound_undone, told_commit}
 use Rattle.plan_tables.proofs.MetLemmas.{still_jobless}
 use Rattle.plan_tables.proofs.StorableMoves.{storable_moves}
 use Rattle.plan_tables.proofs.table_store.TableStore.commit.Given.{Over}
@@ -53,6 +53,13 @@ invariant_of-self-in-Ok g c =
           })
           c.note_gone.new.gone c.note_gone.ensures.stay
           (rw c.deref.ensures.value at c.note_gone.ensures.noted);
+      sound = sound_commit old c.args.change c.args.prepared.now.moves r.whole r.fits r.sound r.moves
+          c.change_both.new.conn (content_of c.change_both.new.lists) r.knows c.tables_represent_sets.ensures (record {
+            lists = c.in-Ok.ensures.lists;
+            done = c.in-Ok.ensures.done;
+            schema = c.in-Ok.ensures.schema;
+            crash = c.change_both.ensures.crash;
+          });
     }
 
 pub invariant_of-self-in-Err : goal.invariant_of-self-in-Err
@@ -73,6 +80,10 @@ invariant_of-self-in-Err g c =
           (c.blame.ensures.failures ∙ ap (failures_after (Some c.in-Err.why)) r.whole.0)
           (c.blame.ensures.in_doubt ∙ ap (doubt_after (Some c.in-Err.why)) r.whole.1) c.note_gone.new.gone
           c.note_gone.ensures.stay;
+      sound = sound_undone old c.args.change c.args.prepared.now.moves r.whole r.fits r.sound r.moves last.conn
+          (content_of c.change_both.new.lists) c.in-Err.why last.failures last.in_doubt did
+          (c.blame.ensures.failures ∙ ap (failures_after (Some c.in-Err.why)) r.whole.0)
+          (c.blame.ensures.in_doubt ∙ ap (doubt_after (Some c.in-Err.why)) r.whole.1);
     }
 
 pub returns-in-Ok : goal.returns-in-Ok

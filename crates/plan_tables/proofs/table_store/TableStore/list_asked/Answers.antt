@@ -19,6 +19,7 @@ use Rattle.plan_tables.proofs.LookLemmas.{looks_still}
 use Rattle.plan_tables.proofs.SessionLemmas.{asks_blamed, counts_device, counts_none, device_is, failed_asked, keeps_asked, keeps_unchecked, kept_checked}
 use Rattle.plan_tables.proofs.SessionLemmas.{looks_checked, looks_then, looks_unchecked, mild_never, mild_opens, none_less, opens_asked, shut_unchecked}
 use Rattle.plan_tables.proofs.SessionLemmas.{told_asked, told_checked}
+use Rattle.plan_tables.proofs.SoundLemmas.{sound_on}
 use Rattle.plan_tables.proofs.StoredLemmas.{keeps_still}
 use Rattle.plan_tables.proofs.table_store.TableStore.list_asked.Goals as goal
 
@@ -34,6 +35,8 @@ invariant_of-self g c =
       told = told_checked old.session c.check.new.self lists old.stored c.check.ensures old.told;
       noted = noted_on (state g.S.Store old.session.conn) (state g.S.Store c.check.new.self.conn) lists lists old.gone
           (looks_unchecked old.session c.check.new.self lists old.stored c.in-Err.fault c.in-Err.ensures) old.noted;
+      sound = sound_on (state g.S.Store old.session.conn) (state g.S.Store c.check.new.self.conn) lists lists
+          (looks_unchecked old.session c.check.new.self lists old.stored c.in-Err.fault c.in-Err.ensures) old.sound;
     }
 
 pub returns-in-Err : goal.returns-in-Err
@@ -49,7 +52,7 @@ returns-in-Err g c =
       part = λ honest either numbered.
           let (items, is) = c.has_listings_with.ensures (told_rest (tables_of (state g.S.Store old.session.conn).now.trees))
           numbered (what_of c.args.asked) (option_copied c.args.app) in
-          emits_none g.K.ItemSink.accepts g.K.ItemSink.refuses _ c.args.sink.now items fault c.listing_fault.result told is;
+          emits_none g.K.RowSink.accepts g.K.RowSink.refuses _ c.args.sink.now items fault c.listing_fault.result told is;
       same = looks.same;
       crash = looks.crash;
       blames = λ device. elim (checks.blames (store_device fault (sym told ∙ device))) [
@@ -89,6 +92,11 @@ invariant_of-self-in-Ok-list_kept g c =
           lists (looks_checked old.session mid lists old.stored checks checks.whole.0)
           (looks_still (state g.S.Store mid.conn) (state g.S.Store c.list_kept.new.conn) asks.survives lists kept asks.stays))
           old.noted;
+      sound = sound_on (state g.S.Store old.session.conn) (state g.S.Store c.list_kept.new.conn) lists lists
+          (looks_then (state g.S.Store old.session.conn) (state g.S.Store mid.conn) (state g.S.Store c.list_kept.new.conn) lists lists
+          lists (looks_checked old.session mid lists old.stored checks checks.whole.0)
+          (looks_still (state g.S.Store mid.conn) (state g.S.Store c.list_kept.new.conn) asks.survives lists kept asks.stays))
+          old.sound;
     }
 
 pub invariant_of-self-in-Err-Sink : goal.invariant_of-self-in-Err-Sink
@@ -111,6 +119,11 @@ invariant_of-self-in-Err-Sink g c =
           lists (looks_checked old.session mid lists old.stored checks checks.whole.0)
           (looks_still (state g.S.Store mid.conn) (state g.S.Store c.list_kept.new.conn) asks.survives lists kept asks.stays))
           old.noted;
+      sound = sound_on (state g.S.Store old.session.conn) (state g.S.Store c.list_kept.new.conn) lists lists
+          (looks_then (state g.S.Store old.session.conn) (state g.S.Store mid.conn) (state g.S.Store c.list_kept.new.conn) lists lists
+          lists (looks_checked old.session mid lists old.stored checks checks.whole.0)
+          (looks_still (state g.S.Store mid.conn) (state g.S.Store c.list_kept.new.conn) asks.survives lists kept asks.stays))
+          old.sound;
     }
 
 pub invariant_of-self-in-Err-Fault : goal.invariant_of-self-in-Err-Fault
@@ -136,6 +149,11 @@ invariant_of-self-in-Err-Fault g c =
           lists (looks_checked old.session mid lists old.stored checks checks.whole.0)
           (looks_still (state g.S.Store mid.conn) (state g.S.Store now.conn) asks.survives lists kept asks.stays))
           old.noted;
+      sound = sound_on (state g.S.Store old.session.conn) (state g.S.Store now.conn) lists lists
+          (looks_then (state g.S.Store old.session.conn) (state g.S.Store mid.conn) (state g.S.Store now.conn) lists lists
+          lists (looks_checked old.session mid lists old.stored checks checks.whole.0)
+          (looks_still (state g.S.Store mid.conn) (state g.S.Store now.conn) asks.survives lists kept asks.stays))
+          old.sound;
     }
 
 pub returns-in-Ok-list_kept : goal.returns-in-Ok-list_kept
@@ -153,7 +171,7 @@ returns-in-Ok-list_kept g c =
     let did = looks_then (state g.S.Store old.session.conn) s1 s2 lists lists lists met looks in
     let opens = opens_asked g.S.Store mid.conn c.list_kept.new.conn lists None asks kept in
     record {
-      all = λ (clean, opens). subst (λ (k : Content). AreNumbered k.sets → EmitsAll g.K.ItemSink.accepts
+      all = λ (clean, opens). subst (λ (k : Content). AreNumbered k.sets → EmitsAll g.K.RowSink.accepts
           (IsListing (what_of c.args.asked) (option_copied c.args.app) k) c.args.sink.now c.list_kept.new.sink
           c.in-Ok-list_kept.count) (met.same (looks.clean clean, looks.opens clean opens))
           (c.in-Ok-list_kept.ensures.all clean (∥∥₁_map kept (λ h. h (looks.clean clean))));
@@ -190,7 +208,7 @@ returns-in-Err-Sink g c =
       part = λ honest either.
           let clean : HasCleanDisk s2 = elim either [ inl is ↦ is.0 | inr is ↦ is ] in
           let calm = looks.clean clean in
-          subst (λ (k : Content). AreNumbered k.sets → EmitsPart g.K.ItemSink.accepts g.K.ItemSink.refuses
+          subst (λ (k : Content). AreNumbered k.sets → EmitsPart g.K.RowSink.accepts g.K.RowSink.refuses
           (IsListing (what_of c.args.asked) (option_copied c.args.app) k) c.args.sink.now c.list_kept.new.sink
           (fault_so Sink))
           (met.same (calm, (checks.fine calm).stays_open honest.1))
@@ -234,10 +252,10 @@ returns-in-Err-Fault g c =
           let calm = looks.clean clean in
           let was = subst (λ (h : Held _). HasCleanDisk (state g.S.Store h)) c.blame.ensures.conn clean in
           let is = met.same (calm, (checks.fine calm).stays_open honest.1) in
-          subst (EmitsPart g.K.ItemSink.accepts g.K.ItemSink.refuses
+          subst (EmitsPart g.K.RowSink.accepts g.K.RowSink.refuses
           (IsListing (what_of c.args.asked) (option_copied c.args.app) (kept_in (state g.S.Store old.session.conn) lists))
           c.args.sink.now c.list_kept.new.sink) (sym told)
-          (subst (λ (k : Content). AreNumbered k.sets → EmitsPart g.K.ItemSink.accepts g.K.ItemSink.refuses
+          (subst (λ (k : Content). AreNumbered k.sets → EmitsPart g.K.RowSink.accepts g.K.RowSink.refuses
           (IsListing (what_of c.args.asked) (option_copied c.args.app) k) c.args.sink.now c.list_kept.new.sink
           (listing_fault (fault_of why))) is
           (rw c.in-Err-Fault.field-0-is at (c.in-Err-Fault.ensures.part was (∥∥₁_map kept (λ h. h calm)))) numbered);

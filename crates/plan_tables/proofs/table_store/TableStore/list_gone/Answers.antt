@@ -8,7 +8,7 @@ use Rattle.plan_tables.proofs.table_store.TableStore.list_gone.Goals as goal
 
 pub returns-in-Err : goal.returns-in-Err
 returns-in-Err g c =
-    lists_unread _ c.args.self.now c.find_gone.new.self g.K.ItemSink.accepts g.K.ItemSink.refuses c.args.sink.now
+    lists_unread _ c.args.self.now c.find_gone.new.self g.K.RowSink.accepts g.K.RowSink.refuses c.args.sink.now
     Showable.Deletions (Some c.args.app.now) _ c.in-Err.fault c.in-Err.ensures.reads c.requires
     c.listing_fault.result c.listing_fault.ensures (λ numbered. c.has_listings_with.ensures
     (told_rest (tables_of (state g.S.Store c.args.self.now.session.conn).now.trees)) numbered Showable.Deletions

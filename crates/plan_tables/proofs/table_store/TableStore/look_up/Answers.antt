@@ -10,6 +10,7 @@ use Rattle.plan_tables.proofs.GoneLemmas.{noted_on}
 use Rattle.plan_tables.proofs.LookLemmas.{looks_still}
 use Rattle.plan_tables.proofs.SessionLemmas.{asked, asks_blamed, keeps_asked, keeps_unchecked, kept_checked, looks_checked, looks_then, looks_unchecked, reads_err, reads_ok, reads_unchecked, told_asked, told_checked}
 use Rattle.plan_tables.proofs.SetLemmas.{found_set}
+use Rattle.plan_tables.proofs.SoundLemmas.{sound_on}
 use Rattle.plan_tables.proofs.StoredLemmas.{keeps_still}
 use Rattle.plan_tables.proofs.table_store.TableStore.look_up.Goals as goal
 
@@ -23,6 +24,8 @@ invariant_of-self g c =
       told = told_checked old.session c.check.new.self lists old.stored c.check.ensures old.told;
       noted = noted_on (state g.S.Store old.session.conn) (state g.S.Store c.check.new.self.conn) lists lists old.gone
           (looks_unchecked old.session c.check.new.self lists old.stored c.in_err-check.field-0.0 c.in_err-check.ensures) old.noted;
+      sound = sound_on (state g.S.Store old.session.conn) (state g.S.Store c.check.new.self.conn) lists lists
+          (looks_unchecked old.session c.check.new.self lists old.stored c.in_err-check.field-0.0 c.in_err-check.ensures) old.sound;
     }
 
 -- the connection is in no transaction where the session is blamed
@@ -49,6 +52,11 @@ invariant_of-self-in-Ok g c =
           lists (looks_checked old.session mid lists old.stored checks checks.whole.0)
           (looks_still (state g.S.Store mid.conn) (state g.S.Store c.job_kept.new.conn) asks.survives lists kept asks.stays))
           old.noted;
+      sound = sound_on (state g.S.Store old.session.conn) (state g.S.Store c.job_kept.new.conn) lists lists
+          (looks_then (state g.S.Store old.session.conn) (state g.S.Store mid.conn) (state g.S.Store c.job_kept.new.conn) lists lists
+          lists (looks_checked old.session mid lists old.stored checks checks.whole.0)
+          (looks_still (state g.S.Store mid.conn) (state g.S.Store c.job_kept.new.conn) asks.survives lists kept asks.stays))
+          old.sound;
     }
 
 pub invariant_of-self-in-Err : goal.invariant_of-self-in-Err
@@ -73,6 +81,11 @@ invariant_of-self-in-Err g c =
           lists (looks_checked old.session mid lists old.stored checks checks.whole.0)
           (looks_still (state g.S.Store mid.conn) (state g.S.Store now.conn) asks.survives lists kept asks.stays))
           old.noted;
+      sound = sound_on (state g.S.Store old.session.conn) (state g.S.Store now.conn) lists lists
+          (looks_then (state g.S.Store old.session.conn) (state g.S.Store mid.conn) (state g.S.Store now.conn) lists lists
+          lists (looks_checked old.session mid lists old.stored checks checks.whole.0)
+          (looks_still (state g.S.Store mid.conn) (state g.S.Store now.conn) asks.survives lists kept asks.stays))
+          old.sound;
     }
 
 pub returns-in_err-check : goal.returns-in_err-check

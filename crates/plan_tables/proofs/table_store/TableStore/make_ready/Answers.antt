@@ -14,6 +14,7 @@ use Rattle.plan_tables.proofs.GoneLemmas.{noted_on}
 use Rattle.plan_tables.proofs.LookLemmas.{looks_more}
 use Rattle.plan_tables.proofs.SessionLemmas.{asked, keeps_asked, keeps_unchecked, kept_checked, looks_checked, looks_then, looks_unchecked, opens_asked}
 use Rattle.plan_tables.proofs.SessionLemmas.{reads_err, reads_ok, reads_unchecked, seen_asked, seen_unchecked, told_asked, told_checked}
+use Rattle.plan_tables.proofs.SoundLemmas.{sound_on}
 use Rattle.plan_tables.proofs.StoredLemmas.{keeps_more}
 use Rattle.plan_tables.proofs.table_store.TableStore.make_ready.Goals as goal
 
@@ -27,6 +28,8 @@ invariant_of-self g c =
       told = told_checked old.session c.check.new.self lists old.stored c.check.ensures old.told;
       noted = noted_on (state g.S.Store old.session.conn) (state g.S.Store c.check.new.self.conn) lists lists old.gone
           (looks_unchecked old.session c.check.new.self lists old.stored c.in_err-check.field-0.0 c.in_err-check.ensures) old.noted;
+      sound = sound_on (state g.S.Store old.session.conn) (state g.S.Store c.check.new.self.conn) lists lists
+          (looks_unchecked old.session c.check.new.self lists old.stored c.in_err-check.field-0.0 c.in_err-check.ensures) old.sound;
     }
 
 pub invariant_of-self-in-Ok : goal.invariant_of-self-in-Ok
@@ -54,6 +57,11 @@ invariant_of-self-in-Ok g c =
           (looks_checked old.session mid first old.stored checks checks.whole.0)
           (looks_cut s1 first was c.cut_lists.ensures.same (state g.S.Store c.seek.new.conn) now
           (looks_more s1 (state g.S.Store c.seek.new.conn) did.asks.survives was kept now did.asks.stays did.grows))) old.noted;
+      sound = sound_on (state g.S.Store old.session.conn) (state g.S.Store c.seek.new.conn) first now
+          (looks_then (state g.S.Store old.session.conn) s1 (state g.S.Store c.seek.new.conn) first first now
+          (looks_checked old.session mid first old.stored checks checks.whole.0)
+          (looks_cut s1 first was c.cut_lists.ensures.same (state g.S.Store c.seek.new.conn) now
+          (looks_more s1 (state g.S.Store c.seek.new.conn) did.asks.survives was kept now did.asks.stays did.grows))) old.sound;
     }
 
 pub invariant_of-self-in-Err : goal.invariant_of-self-in-Err
@@ -86,6 +94,11 @@ invariant_of-self-in-Err g c =
           (looks_checked old.session mid first old.stored checks checks.whole.0)
           (looks_cut s1 first was c.cut_lists.ensures.same (state g.S.Store last.conn) now
           (looks_more s1 (state g.S.Store last.conn) did.asks.survives was kept now did.asks.stays did.grows))) old.noted;
+      sound = sound_on (state g.S.Store old.session.conn) (state g.S.Store last.conn) first now
+          (looks_then (state g.S.Store old.session.conn) s1 (state g.S.Store last.conn) first first now
+          (looks_checked old.session mid first old.stored checks checks.whole.0)
+          (looks_cut s1 first was c.cut_lists.ensures.same (state g.S.Store last.conn) now
+          (looks_more s1 (state g.S.Store last.conn) did.asks.survives was kept now did.asks.stays did.grows))) old.sound;
     }
 
 pub returns-in_err-check : goal.returns-in_err-check

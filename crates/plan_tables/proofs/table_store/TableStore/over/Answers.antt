@@ -37,6 +37,8 @@ invariant_of-result-2 g c =
           (noted_all c.arrivals_of-gone.result c.args.lists.deletions.items made.sets.deletions
           (λ serial d is. (look_some (λ (x : Deletion). x.row.serial) c.args.lists.deletions.items serial d is).0)
           c.arrivals_of-gone.ensures));
+      sound = merely (λ can. subst IsSound (sym (kept_part c.tables_represent_sets.ensures s made lists
+          c.keep_part.ensures.same (c.requires.opened can.0))) c.requires.sound);
     }
 
 pub returns-clause-kept : goal.returns-clause-kept
