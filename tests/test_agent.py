@@ -485,7 +485,8 @@ class Words(Room):
         self.jobs.chmod(0o777)
         ran = plans.plan("agent", "--desk", away, "--jobs", self.jobs)
         self.assertEqual(ran.returncode, 1)
-        self.assertIn("everybody may write into this folder", ran.stderr)
+        self.assertRegex(ran.stderr, f"^plan: agent: {self.jobs}: others than .* may write this folder, .* 0777; run "
+                                     ".*\n$")
 
 
 if __name__ == "__main__":

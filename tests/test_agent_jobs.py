@@ -3,6 +3,7 @@ and the ends of logs that the agent gives its desk."""
 
 import contextlib
 import dataclasses
+import datetime
 import io
 import json
 import os
@@ -73,11 +74,10 @@ where = "etl*"
 class Described(Room):
     """Rooms with a file of jobs."""
 
-    def describe(self, text, stamp=[0]):
+    def describe(self, text):
         path = Path(f"{self.jobs}.toml")
         path.write_text(text, encoding="utf-8")
-        stamp[0] += 1
-        os.utime(path, ns=(stamp[0], stamp[0]))
+        path.chmod(0o644)
 
     def log_of(self, serial):
         return (self.logs / f"{serial:09}.log").read_text(encoding="utf-8")
@@ -90,7 +90,8 @@ class File(Described):
             with self.subTest(text), self.assertRaises(jobs.InvalidJobsFile) as caught:
                 jobs.Jobs(str(self.jobs), "here")
             self.assertIn(reason, str(caught.exception))
-            self.assertTrue(str(caught.exception).startswith(f"{self.jobs}.toml: "))
+            line = 0 if "isn't valid TOML" in reason else 1 + text.startswith("[PAY]\n")
+            self.assertTrue(str(caught.exception).startswith(f"{self.jobs}.toml: {f'line {line}: ' if line else ''}"))
             self.assertNotIn("\n", str(caught.exception).strip())
 
     def test_a_job_is_what_the_file_says(self):
@@ -128,19 +129,36 @@ class File(Described):
         with mock.patch.object(os, "geteuid", return_value=0):
             jobs.Jobs(str(self.jobs), "here")
 
-    def test_what_everybody_may_write_is_not_read(self):
-        self.describe("")
-        os.chmod(f"{self.jobs}.toml", 0o666)
-        self.assertRaisesRegex(jobs.InvalidJobsFile, "everybody may write this file", jobs.Jobs, str(self.jobs), "here")
+    def test_what_is_no_file_or_too_large_is_not_read(self):
+        self.describe("#" * (jobs.MOST_BYTES + 1))
+        self.assertRaisesRegex(jobs.InvalidJobsFile, "more than 1,048,576 bytes", jobs.Jobs, str(self.jobs), "here")
         os.remove(f"{self.jobs}.toml")
         os.mkdir(f"{self.jobs}.toml")
         self.assertRaisesRegex(jobs.InvalidJobsFile, "this isn't a regular file", jobs.Jobs, str(self.jobs), "here")
 
+    def test_a_fault_has_its_line(self):
+        for old, new, said in (
+            ("classes.db = 2", "classes.db = 0", "line 2: `classes.db` must be"),
+            ("[PAY]", "[pay]", "line 4: pay: this is no application"),
+            ("tries = 3", "try = 3", "line 9: PAY: there is no key `try`"),
+            ('[60, "5m"]', '[60,\n"5 m"]', "line 10: PAY: `pauses` must be"),
+            ('class = "db"', "class = 'web'", "line 12: PAY: `class` names 'web'"),
+            ('folder = "/srv"', 'user = "no-such-user"', "line 6: PAY: `user` names 'no-such-user'"),
+        ):
+            self.describe(DESCRIBED.replace(old, new))
+            with self.subTest(new), self.assertRaises(jobs.InvalidJobsFile) as caught:
+                jobs.Jobs(str(self.jobs), "etl1")
+            self.assertTrue(str(caught.exception).startswith(f"{self.jobs}.toml: {said}"), caught.exception)
+
     def test_an_agent_does_not_begin_with_a_faulty_one(self):
-        self.describe("[PAY]\ntries = 0\n")
-        ran = plans.plan("agent", "--desk", self.room / "nowhere", "--jobs", self.jobs)
-        self.assertEqual((ran.returncode, ran.stdout), (1, ""))
-        self.assertEqual(ran.stderr, f"plan: agent: {self.jobs}.toml: PAY: `tries` must be a number from 1 to 99\n")
+        """Status 1 if another machine, or this one later, could start with it; then systemd tries again."""
+        for text, status, said in (("[PAY]\ntries = 0\n", 2, "line 2: PAY: `tries` must be a number from 1 to 99\n"),
+                                   ("[PAY\n", 2, "the file isn't valid TOML: "),
+                                   ('[PAY]\nuser = "no-such-user"\n', 1, "line 2: PAY: `user` names 'no-such-user'")):
+            self.describe(text)
+            ran = plans.plan("agent", "--desk", self.room / "nowhere", "--jobs", self.jobs)
+            self.assertEqual((ran.returncode, ran.stdout, ran.stderr.count("\n")), (status, "", 1), ran.stderr)
+            self.assertTrue(ran.stderr.startswith(f"plan: agent: {self.jobs}.toml: {said}"), ran.stderr)
         for words in (["--name", "a b"], ["--name", ""], ["--tail", "1M"], ["--tail", "many"]):
             ran = plans.plan("agent", "--desk", self.room / "nowhere", "--jobs", self.jobs, *words)
             self.assertEqual((ran.returncode, ran.stderr.count("\n")), (2, 1), ran.stderr)
@@ -163,13 +181,31 @@ class Tries(Described):
         self.assertEqual(self.acts(desk), ["start", "fail", "reset", "start", "fail", "reset", "start", "complete"])
         key = desk.log[0]["key"]
         self.assertEqual([one["key"].removeprefix(key) for one in desk.log],
-                         ["", "-end", ".1-reset", ".2", ".2-end", ".2-reset", ".3", ".3-end"])
+                         ["", "-again0", ".1-reset", ".2", ".2-again0", ".2-reset", ".3", ".3-end"])
         self.assertEqual(len({one["job"] for one in desk.log}), 8)
         self.assertIn("status 1; it is in error, try 1 of 3; the agent tries again after 0 seconds", messages)
         log = self.log_of(1)
         self.assertEqual(re.findall(r"try \d of 3|says \d|status \d", log),
                          ["try 1 of 3", "says 1", "status 1", "try 2 of 3", "says 2", "status 1", "try 3 of 3",
                           "says 3", "status 0"])
+
+    def test_an_end_under_the_key_of_an_older_agent_is_known(self):
+        """An agent that is replaced by this one sent the end of a first try without saying that another one follows."""
+        desk = PlainDesk(day_stream({"AA": ""}))
+        self.failing(1)
+        self.describe('[AA]\ntries = 2\npauses = ["1m"]\n')
+        with mock.patch.object(Record, "end_key", property(lambda one: f"{one.start_key}-end")):
+            self.until(lambda: self.acts(desk) == ["start", "fail"], self.agent(desk))
+        self.assertTrue(desk.log[1]["key"].endswith("-end"))
+        with mock.patch.object(Record, "pause", 0.0):
+            self.until(lambda: desk.status("AA") == "C", self.agent(desk))
+        self.assertEqual(self.acts(desk), ["start", "fail", "reset", "start", "complete"])
+
+    def test_the_key_of_an_end_says_after_how_many_seconds_another_try_follows(self):
+        one = Record(1, "AA", "2024-01-01/08.00", "k", 0, None, tries=3, pauses=(59.2, 1e10), status=1)
+        self.assertEqual([dataclasses.replace(one, attempt=attempt).end_key for attempt in (1, 2, 3)],
+                         ["k-again60", "k.2-again999999999", "k.3-end"])
+        self.assertEqual(dataclasses.replace(one, status=0).end_key, "k-end")
 
     def test_the_last_try_is_the_last(self):
         desk = PlainDesk(day_stream({"AA": ""}))
@@ -195,10 +231,15 @@ class Tries(Described):
             for _ in range(3):
                 self.until(lambda: True, one)
             self.assertEqual(self.acts(desk).count("reset"), 0)
-        now = time.time
-        with mock.patch.object(time, "time", lambda: now() + 3500):
-            self.until(lambda: True, one)
-            self.assertEqual(self.acts(desk).count("reset"), 0)
+        # a try that took an hour: its pause begins at its end
+        tried = record.read(self.logs, 1)
+        begun = datetime.datetime.fromisoformat(tried.ended) - datetime.timedelta(hours=1)
+        record.write(self.logs, dataclasses.replace(tried, began=begun.isoformat(" ", "seconds")))
+        one, now = self.agent(desk, most=1), time.time
+        for later in (0, 3500):
+            with mock.patch.object(time, "time", lambda: now() + later):
+                self.until(lambda: True, one)
+                self.assertEqual(self.acts(desk).count("reset"), 0, "it is tried again within its pause")
         with mock.patch.object(time, "time", lambda: now() + 3601):
             self.until(lambda: desk.status("AA") == "C", one)
 
@@ -284,7 +325,7 @@ class Placed(Described):
         with mock.patch.object(desk, "statement", behind):
             messages = self.until(lambda: True, agent)
         self.assertIn("its class has no room now", messages)
-        self.assertEqual((desk.status("BB"), record.serials(self.logs), os.listdir(self.logs)), ("W", [], []))
+        self.assertEqual((desk.status("BB"), os.listdir(self.logs)), ("W", [".jobs-toml"]))
         desk.put("cp-complete --app AA --ia 2024-01-01/08.00")
         self.until(lambda: desk.status("BB") == "C", agent)
 
@@ -308,7 +349,7 @@ class Placed(Described):
         messages = "".join(self.until(lambda: True, agent) for _ in range(3))
         self.assertEqual(messages.count("the agent goes on with what the file had before"), 1)
         self.assertEqual((desk.log, agent.jobs.rules.elsewhere), ([], {"AA"}))
-        os.remove(f"{self.jobs}.toml")
+        self.describe('[AA]\nwhere = "agent"\n')
         self.until(lambda: desk.status("AA") == "C", agent)
 
 
@@ -460,7 +501,8 @@ class Ends(Described):
             text, position = desk.tails["1", attempt]
             self.assertEqual(re.findall(rb"says \d", text), [f"says {attempt}".encode()])
             self.assertIn(b"== agent: ended", text)
-            ended = next(one["seq"] for one in desk.log if one["key"].endswith("-end") and one["seq"] > position)
+            ended = next(one["seq"] for one in desk.log
+                         if re.search("-(end|again0)$", one["key"]) and one["seq"] > position)
             self.assertEqual((ended, position), {"1": (2, 1), "2": (5, 4)}[attempt])
 
     def test_it_has_no_more_than_so_many_bytes(self):

@@ -5,7 +5,6 @@ Each state of a world is met once; from each in which the agent rests, all has t
 one of the promises has to be caught: those of `Mutants` are as agents once were, or as they must not become."""
 
 import dataclasses
-import time
 import unittest
 from unittest import mock
 
@@ -15,7 +14,7 @@ from opcplan.agent import known_plan, state
 from opcplan.agent.known_plan import Latest
 from opcplan.agent.record import Record
 
-LONGEST = 90  # seconds of the processor for all worlds together
+MOST = 150_000  # states of all worlds together, which stay small
 TRIES = 3  # of a look, in a small world
 AGAIN = ("fail", "reset", "start")
 WORLDS = {
@@ -74,16 +73,15 @@ class States(unittest.TestCase):
                 self.assertGreater(explored(WORLDS[name]), 40, name)
 
     def test_every_interleaving_of_small_worlds(self):
-        begun, total = time.process_time(), 0
+        total = 0
         with small():
             for name, kind in WORLDS.items():
                 count = explored(kind)
                 self.assertGreater(count, 40, name)
                 print(f"{name}: {count:,} states")
                 total += count
-        took = time.process_time() - begun
-        print(f"{total:,} states of {len(WORLDS)} worlds in {took:.1f} s")
-        self.assertLess(took, LONGEST)
+        print(f"{total:,} states of {len(WORLDS)} worlds")
+        self.assertLess(total, MOST)
 
     def test_walks_at_random_through_a_larger_world(self):
         for seed in range(25):
@@ -249,7 +247,9 @@ class Mutants(unittest.TestCase):
 
     def test_tries(self):
         with mock.patch.object(Record, "is_tried_again", property(lambda one: not one.is_good)):
-            self.assertIn("there are 2 tries", self.caught(state.State, "a second try"))
+            self.assertRegex(self.caught(state.State, "a second try"), "there are 2 tries|whether another try follows")
+        with mock.patch.object(Record, "end_key", property(lambda one: f"{one.start_key}-end")):
+            self.assertIn("doesn't say whether another try follows", self.caught(state.State, "a second try"))
         self.assertIn("is never tried again", self.caught(Single, "a second try"))
         self.assertIn("within its pause", self.caught(Restless, "a second try"))
         self.assertRegex(self.caught(Careless, "tries, and people who mend it"), "was in force|no try before it")

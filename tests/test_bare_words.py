@@ -12,7 +12,7 @@ assert plans
 # a word of the form that an option takes, by its metavar, and what stands for the places of a command
 WORDS = {"D": "2027-01-05", "D/HH.MM": "2027-01-05/06.00", "DESK": "http://127.0.0.1:7411", "HOST:PORT": "localhost:7"}
 PLACES = {"PLAN.db": "plan.db", "STREAM": "x.in", "OUTPUT": "x.out", "NAME": "DEFAULT", "FILE": "copy", "BACKUP": "b",
-          "LIST": "cp", "APP": "PAY", "YEAR": "2027", "LOG": "etcd://127.0.0.1:2379/plan"}
+          "LIST": "cp", "APP": "PAY", "YEAR": "2027", "LOG": "etcd://127.0.0.1:2379/plan", "D": "2027-01-05"}
 
 
 def cases():

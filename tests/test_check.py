@@ -3,6 +3,7 @@
 What is wanted is worked out by hand from the rules, or asked of the plain planner."""
 
 import re
+import subprocess
 import tempfile
 import unittest
 from pathlib import Path
@@ -82,7 +83,7 @@ class InRoom(unittest.TestCase):
         plan = plans.of_stream(base)
         given = [name, plan, file, "--program", plans.PROGRAM]
         given = given if name in ("check", "what-if") else [name, file, "--plan", plan]
-        ran = plans.plan(*given, *words)
+        ran = plans.plan_in_here(*given, *words)
         ran.stdout = ran.stdout.replace("\n    ", " ")
         return ran
 
@@ -270,17 +271,40 @@ default_calendar = "DEFALT"
         plain.run((text + "ltp-modify-all --job 21\n").encode(), planner)
         self.assertNotIn("REPORT", {row[1] for row in planner.planned.values()})
 
-    def test_lint_says_what_it_did_not_look_at(self):
-        for text, said in (
-            ("", "no likely mistakes"),
-            ("nonsense\n", "no likely mistakes; line 1 is refused in any plan; `./plan check` says why"),
+    def test_lint_reports_what_is_refused_in_any_plan(self):
+        """Each answer is that of the plain planner over an empty plan, and over one with definitions."""
+        open_data = "define calendars --job 20\nC,SAT,FREE\n"
+        for text, lines in (
+            ("", []),
+            ("nonsense\n", ["line 1: refused 10: it isn't a statement: there is no statement `nonsense`"]),
             ("list cp\nnonsense\ndefine calendars --job 20\nC,SAT\n/*\n",
-             "no likely mistakes; 2 statements, the first at line 2, are refused in any plan; `./plan "
-             "check` says why"),
+             ["line 2: refused 10: it isn't a statement: there is no statement `nonsense`",
+              "line 3: refused 11 1: record 1 of its data, line 4, is faulty; `C,SAT`; it has 2 fields, fewer than "
+              "the 3 of calendars: calendar, entry, status"]),
+            (open_data, ["line 1: refused 11 0: its data have no end: no line after it is `/*` and nothing else, so "
+                         "everything after it was read as data"]),
         ):
+            for planner in (plain.Planner(), plans.planner_of(BASE).copy()):
+                refused = [reply for reply in plain.run(text.encode(), planner) if reply.startswith("refused")]
+                self.assertEqual([line.split(": ")[1] for line in lines], refused)
             ran = self.asked("lint", text)
-            self.assertEqual((ran.returncode, ran.stdout), (0, ""))
-            self.assertTrue(ran.stderr.endswith(f": {said}\n"), ran.stderr)
+            shown = ran.stdout.replace("\n    ", " ").splitlines()
+            self.assertEqual((ran.returncode, shown), (1 if lines else 0, lines))
+            self.assertEqual(ran.stderr.endswith(": no likely mistakes\n"), not lines)
+
+    def test_a_database_is_no_stream(self):
+        """Neither of the three reads a plan as a stream, from a file or from standard input."""
+        file = plans.copy_of(plans.of_stream(BASE), self.room)
+        before = plans.prints(file)
+        for *given, name in (("lint", file, file), ("lint", "--plan", file, file, file), ("check", file, file, file),
+                             ("what-if", file, file, file), ("lint", "-", "standard input")):
+            with open(file, "rb") as data:
+                ran = subprocess.run([plans.TOP / "plan", *given], stdin=data, capture_output=True, encoding="utf-8",
+                                     check=False, timeout=300)
+            self.assertEqual((ran.returncode, ran.stdout), (2, ""), given)
+            self.assertEqual(ran.stderr.count("\n"), 1, given)
+            self.assertIn(f"{name} is a database, and no job stream", ran.stderr)
+        self.assertEqual(plans.prints(file), before)
 
     def test_a_default_calendar_that_is_taken_away(self):
         gone = "the default calendar {} isn't defined, so each day is a work day for {}"

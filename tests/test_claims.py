@@ -1,4 +1,5 @@
-"""tools/proof/claims: the tables that it makes of small READMEs, and what it reports of those that are wrong."""
+"""tools/proof/claims: the tables that it makes of small READMEs, what it reports of those that are wrong, and of lines
+that a page quotes."""
 
 import contextlib
 import importlib.machinery
@@ -68,6 +69,43 @@ fn example_of_days(rt: HostRuntime) {
 }
 """
 LINES = ["// a day", "let day = Day {", "    number: 1,", "};", "", "assert_eq!(rt; day.number(), 1);"]
+SPEC = """-- Days.
+use Rattle.std.specs.Prelude.{◌≤◌, ℕ}
+
+-- a run of days
+pub record Days (from to : ℕ) : Type 0 where
+  -- in order
+  pub rising : from ≤ to
+
+  pub each : (n : ℕ) → from ≤ n → n ≤ to
+      → IsDay n
+
+pub record Week (from : ℕ) : Type 0 where
+  pub days : Days from (from + 6)
+"""
+CONTRACT = """fn week(from: u32) -> u32
+    // before the last week
+    requires { from ≤ 93 }
+    ensures { Week from
+        × (result ≡ from + 6) }
+{
+    from + 6
+}
+"""
+# what a page has of both: the first line is line 13 of DEFINITIONS.md
+QUOTED = """record Days (from to : ℕ) : Type 0 where
+  -- in order
+  rising : from ≤ to
+  each : (n : ℕ) → from ≤ n → n ≤ to
+      → IsDay n
+
+record Week (from : ℕ) : Type 0 where
+  days : Days from (from + 6)
+
+requires { from ≤ 93 }
+ensures { Week from
+    × (result ≡ from + 6) }
+"""
 LIBRARY = "//! Days.\n//!\n//! ```\n//! let day = 2;\n//! ```\n//!\n//! More.\n#![tactic(auto)]\n"
 
 
@@ -232,6 +270,87 @@ class Examples(Trees):
     def test_two_examples(self):
         self.write("crates/test_days/src/examples.rt", TEST + TEST)
         self.fails("days has two examples")
+
+
+class Quotations(Trees):
+    def setUp(self):
+        super().setUp()
+        self.write("crates/days/specs/Days.antt", SPEC)
+        self.write("crates/days/src/week.rt", CONTRACT)
+        # begins as the contract before does
+        self.write("crates/trials/src/week.rt", CONTRACT.replace("+ 6", "+ 5"))
+        self.quotes(QUOTED)
+        self.run_tool("--write")
+
+    def quotes(self, text, page="docs/work/DEFINITIONS.md", language="antt"):
+        """Lets a page quote a text."""
+        before = self.text(page).partition("```")[0] if (self.top / page).exists() else "# Page\n\n"
+        self.write(page, f"{before}```{language}\n{text}```\n")
+
+    def reports(self, line, why, old, new):
+        """That one line of the page is reported if what it quotes is changed so."""
+        self.assertEqual(QUOTED.count(old), 1, old)
+        self.quotes(QUOTED.replace(old, new))
+        self.fails(f"docs/work/DEFINITIONS.md:{line}: {why}")
+
+    def test_lines_of_the_sources_pass(self):
+        self.assertTrue(self.text("docs/work/DEFINITIONS.md").splitlines()[12].startswith("record Days"))
+        self.assertEqual(self.run_tool("--check"), (0, "5 passed, 0 failed\n"))
+        for text in (QUOTED.replace("  -- in order\n", ""), QUOTED.replace("\nreq", "\n    req"),
+                     QUOTED.replace("record", "pub record"), "  rising : from ≤ to\n"):
+            self.quotes(text)
+            self.assertEqual(self.run_tool("--check"), (0, "5 passed, 0 failed\n"), text)
+
+    def test_line_that_no_source_has(self):
+        for line, old, new in ((13, "record Days (from to", "record Days (first to"), (14, "in order", "rising"),
+                               (15, "from ≤ to\n", "from < to\n"), (17, "→ IsDay n", "→ IsDate n"),
+                               (22, "{ from ≤ 93 }", "{ from ≤ 94 }")):
+            why = "no spec or contract has this line: "
+            self.reports(line, why + QUOTED.replace(old, new).splitlines()[line - 13].strip(), old, new)
+
+    def test_each_such_line_is_reported(self):
+        self.quotes(QUOTED.replace("Days", "Dates"))
+        status, said = self.run_tool()
+        self.assertEqual((status, [line.split(":")[1] for line in said.splitlines()[:-1]]), (1, ["13", "20"]))
+
+    def test_source_that_changed(self):
+        self.write("crates/days/specs/Days.antt", SPEC.replace("from + 6", "from + 7"))
+        self.fails("docs/work/DEFINITIONS.md:20: no spec or contract has this line: days : Days from (from + 6)")
+
+    def test_line_that_is_left_out(self):
+        file = "crates/days/specs/Days.antt"
+        self.reports(15, f"{file} goes on otherwise: rising : from ≤ to", "  rising : from ≤ to\n", "")
+        self.reports(16, f"{file} goes on: → IsDay n", "      → IsDay n\n", "")
+        self.reports(19, f"{file} goes on: days : Days from (from + 6)", "  days : Days from (from + 6)\n", "")
+        self.reports(23, "crates/days/src/week.rt goes on: × (result ≡ from + 6) }",
+                     "    × (result ≡ from + 6) }\n", "")
+
+    def test_line_of_another_place(self):
+        file = "crates/days/specs/Days.antt"
+        self.reports(15, f"{file} goes on otherwise: rising : from ≤ to", "  rising : from ≤ to\n",
+                     "  days : Days from (from + 6)\n")
+        self.reports(21, f"{file} ends", "(from + 6)\n\n", "(from + 6)\n")
+
+    def test_block_after_one_of_another_form(self):
+        """A block with a name, as the guide has them, and one that is indented."""
+        text = self.text("docs/work/DEFINITIONS.md").replace("```antt", "```text a.in\nline\n```\n\n   ```antt")
+        self.write("docs/work/DEFINITIONS.md", text.replace("Days", "Dates"))
+        status, said = self.run_tool()
+        self.assertEqual((status, [line.split(":")[1] for line in said.splitlines()[:-1]]), (1, ["13", "17", "24"]))
+
+    def test_pages_and_blocks_that_quote(self):
+        wrong = "rising : to ≤ from\n"
+        for page, language in (("README.md", "antt"), ("docs/DECISIONS.md", "text"), ("docs/work/PROOFS.md", ""),
+                               ("docs/rules/PLANS.md", "antt"), ("crates/days/README.md", "antt")):
+            before = self.text(page) if (self.top / page).exists() else ""
+            self.write(page, before)
+            self.quotes(wrong, page, language)
+            self.fails(f"{page}:{before.count(chr(10)) + 2}: no spec or contract has this line: {wrong.strip()}")
+            self.write(page, before)
+        for page, language in (("README.md", "text"), ("docs/work/PROOFS.md", "mermaid"), ("docs/rules/PLANS.md", ""),
+                               ("docs/work/KIT.md", "text")):
+            self.quotes(wrong, page, language)
+            self.assertEqual(self.run_tool("--check"), (0, "5 passed, 0 failed\n"))
 
 
 if __name__ == "__main__":

@@ -3,6 +3,7 @@
 import importlib
 import importlib.machinery
 import importlib.util
+import re
 import unittest
 
 from support import TOP
@@ -10,8 +11,11 @@ from support import TOP
 from opcplan import __main__ as command
 
 # what changes a plan or waits for callers isn't printed to a full disk, nor given damaged plans at random
-NO_PRINTERS = {"edit", "import", "restore", "send", "desk", "log", "agent", "roll", "watch"}
-NOT_AT_RANDOM = {"run", "init", "backup", "restore", "send", "desk", "log", "agent", "roll", "watch"}
+# verbs are one module but for their words: some of them stand for all
+NO_PRINTERS = {"edit", "import", "restore", "send", "desk", "log", "agent", "roll", "watch", "start", "complete",
+               "fail", "reset", "delete", "rerun", "move", "undo"}
+NOT_AT_RANDOM = {"run", "init", "backup", "restore", "send", "desk", "log", "agent", "roll", "watch", "start",
+                 "complete", "fail", "reset", "delete", "undo"}
 
 
 def fuzz_plan():
@@ -37,6 +41,10 @@ class Lists(unittest.TestCase):
     def test_what_a_subcommand_may_be_called_leads_to_one(self):
         self.assertLessEqual(set(command.OTHERWISE.values()), set(command.SUBCOMMANDS))
         self.assertEqual(set(command.OTHERWISE) & set(command.SUBCOMMANDS), set())
+        self.assertEqual(set(command.DOES) & {*command.SUBCOMMANDS, *command.OTHERWISE}, set())
+        named = [word for text in command.DOES.values() for word in re.findall(r"`\./plan ([a-z-]+)", text)]
+        self.assertLessEqual(set(named), set(command.SUBCOMMANDS))
+        self.assertGreaterEqual(len(named), len(command.DOES))
 
 
 if __name__ == "__main__":

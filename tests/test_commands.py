@@ -30,9 +30,12 @@ READERS = {
     "status": ["PLAN", "--now", "2024-01-02/12.00"],
     "cal": ["PLAN", "DEFAULT", "2024"],
     "days": ["PLAN", "--from", "2024-01-01"],
+    "next": ["PLAN", "LEDGER", "--now", "2024-01-02/12.00"],
+    "day": ["PLAN", "2024-01-02", "--now", "2024-01-02/12.00"],
 }
 OF_STREAMS = {"explain", "lint"}
-WRITERS = {"init", "restore", "send", "desk", "log", "agent", "roll", "watch"}
+VERBS = {"start", "complete", "fail", "reset", "delete", "cancel", "rerun", "move", "add", "undo"}
+WRITERS = {"init", "restore", "send", "desk", "log", "agent", "roll", "watch", *VERBS}
 OF_JOURNALS = {"journal"}
 
 
@@ -51,10 +54,10 @@ class Commands(unittest.TestCase):
         self.crontab = self.room / "crontab"
         self.crontab.write_text("0 1 * * * backup\n")
 
-    def asked(self, name, file):
+    def asked(self, name, file, ask=plans.plan):
         names = {"PLAN": file, "STREAM": self.stream, "OUT": self.room / "page.html", "COPY": self.room / "copy",
                  "CRONTAB": self.crontab}
-        return plans.plan(name, *(names.get(word, word) for word in READERS[name]))
+        return ask(name, *(names.get(word, word) for word in READERS[name]))
 
     def strangers(self):
         """Files that are no plan, each in a folder of its own."""
@@ -89,11 +92,12 @@ class Commands(unittest.TestCase):
             yield name, file
 
     def test_files_that_are_no_plan_are_reported_and_stay(self):
+        """Of one that is missing each command says so in a process of its own, of the others in this one."""
         for turn, (what, file) in enumerate(self.strangers()):
             for name in READERS if what in ("missing", "version") else list(READERS)[turn % 3 :: 3]:
                 with self.subTest(name, file=what):
                     before = plans.prints(file)
-                    ran = self.asked(name, file)
+                    ran = self.asked(name, file, plans.plan if what == "missing" else plans.plan_in_here)
                     self.assertEqual((ran.returncode, ran.stdout), (1, ""), ran.stderr)
                     self.assertRegex(ran.stderr, f"^plan: {file}: [^\n]+\n$")
                     self.assertEqual(plans.prints(file), before)
@@ -136,7 +140,7 @@ class Commands(unittest.TestCase):
         file = plans.of_worked("monday")
         for words in ([], ["show"], ["Page"], ["--page"], ["views"], ["plan_file"], ["dump", file, "--no-such-word"],
                       *([name] for name in [*READERS, *OF_STREAMS, *OF_JOURNALS, *WRITERS])):
-            ran = plans.plan(*words)
+            ran = plans.plan_in_here(*words)
             self.assertEqual((ran.returncode, ran.stdout), (2, ""), words)
             self.assertTrue(ran.stderr.startswith("plan: ") and ran.stderr.count("\n") == 1, ran.stderr)
 

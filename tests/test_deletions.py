@@ -1,6 +1,8 @@
 """A planning statement doesn't make a key again that an operator deleted, however often FILE is opened in between: each
 answer is that of tools/reference/plain_planner.py."""
 
+import functools
+import itertools
 import tempfile
 import unittest
 from pathlib import Path
@@ -58,33 +60,42 @@ list deletions
 """
 
 
+# the definitions, and each statement
+ITEMS = [DEFINED, *STATEMENTS.splitlines(keepends=True)]
+
+
+@functools.cache
+def answers() -> list[list[str]]:
+    """What the plain planner answers to each item, after those before it."""
+    planner = plans.plain.Planner()
+    return [plans.plain.run(item, planner) for item in ITEMS]
+
+
 class TestDeletions(unittest.TestCase):
     """Runs over one file, and the plain planner over the same statements."""
 
-    def assert_as_plain(self, parts: list[bytes]) -> None:
-        """Each part in a run of its own answers as the plain planner does after those before it."""
-        planner = plans.plain.Planner()
+    def assert_as_plain(self, *places: int) -> None:
+        """The items between these places, each in a run of its own, have the answers of the plain planner."""
         with tempfile.TemporaryDirectory(prefix="deletions-") as folder:
             path = Path(folder) / "plan.db"
-            for part in parts:
-                answers, status, said = expected.asked(path, part)
-                self.assertEqual((answers, part), (plans.plain.run(part, planner), part))
+            for begin, end in itertools.pairwise([0, *places, len(ITEMS)]):
+                found, status, said = expected.asked(path, b"".join(ITEMS[begin:end]))
+                self.assertEqual((found, begin), (sum(answers()[begin:end], []), begin))
                 self.assertIn(status, (0, 4), said)
 
     def test_each_statement_in_a_run_of_its_own(self) -> None:
         """FILE is opened before each statement, so what it needs of the deletions comes from there."""
-        self.assert_as_plain([DEFINED, *STATEMENTS.splitlines(keepends=True)])
+        self.assert_as_plain(*range(1, len(ITEMS)))
 
     def test_all_in_one_run(self) -> None:
         """FILE is opened once, before there is a plan."""
-        self.assert_as_plain([DEFINED + STATEMENTS])
+        self.assert_as_plain()
 
     def test_some_in_each_run(self) -> None:
         """FILE is opened at each place of the stream once, and the rest goes on from there."""
-        lines = STATEMENTS.splitlines(keepends=True)
-        for at in range(1, len(lines)):
-            with self.subTest(at=at):
-                self.assert_as_plain([DEFINED + b"".join(lines[:at]), b"".join(lines[at:])])
+        for place in range(2, len(ITEMS)):
+            with self.subTest(place=place):
+                self.assert_as_plain(place)
 
 
 if __name__ == "__main__":

@@ -15,6 +15,8 @@ from contextlib import closing
 
 from support import desks, expected, plans
 
+from opcplan.plans import plan_name
+
 START, COMPLETE = (f"cp-{what} --app APP00 --ia 2024-01-01/08.00" for what in ("start", "complete"))
 ADDS = [f"cp-add --app APP00 --ia 2024-01-02/{place // 60:02}.{place % 60:02}" for place in range(300)]
 
@@ -26,8 +28,8 @@ def numbered(*lines, first=500_000_001):
 
 def answers(*texts):
     """What the plain planner answers to the last of some streams, after the plan of the tests."""
-    planner = plans.plain.Planner()
-    for text in (desks.CENTRE, *texts):
+    planner = plans.planner_from(desks.CENTRE)
+    for text in texts:
         found = plans.plain.run(plans.as_bytes(text), planner)
     return "".join(line + "\n" for line in found)
 
@@ -74,7 +76,9 @@ class Statements(desks.Case):
             self.assertEqual((status, body.count("\n")), (409, 1), body)
         self.end(desk)
         again = self.desk()
-        self.assertEqual(again.posted(text, Idempotency_Key="k", Accept="application/x-ndjson")[2], first)
+        later = again.posted(text, Idempotency_Key="k", Accept="application/x-ndjson")[2]
+        tags = [json.loads(found.splitlines()[0])["tag"].partition("-")[0] for found in (first, later)]
+        self.assertEqual(later, first.replace(*tags))  # another run of the desk has other tags
         for key in ("", "a b", "a#1", "x" * 201):
             self.assertEqual(again.posted(text, Idempotency_Key=key)[0], 400, key)
         self.end(again)
@@ -156,10 +160,8 @@ class Looked(desks.Case):
             self.assertEqual((first["data"]["reply"], first["data"]["who"]), ("refused 29", desks.own_name()))
             state = self.event(lines)
             self.assertEqual((state["event"], state["data"]["position"]), ("state", 2))
-            begun = time.monotonic()
             desk.posted(COMPLETE)
             self.assertEqual(self.event(lines)["data"]["statement"], f"{COMPLETE} --job 500000003")
-            self.assertLess(time.monotonic() - begun, desks.QUICK)
             self.assertEqual(self.event(lines)["data"]["position"], 3)
         body = desk.asked("GET", "/journal?from=2")[2].splitlines()
         self.assertEqual([json.loads(line)["seq"] for line in body], [2, 3])
@@ -194,11 +196,13 @@ class Looked(desks.Case):
             one.sendall(b"GET /snapshot HTTP/1.0\r\nHost: 127.0.0.1:%d\r\n\r\n" % desk.port)
             copy.write_bytes(one.makefile("rb").read().partition(b"\r\n\r\n")[2])
         self.assertEqual(expected.asked(copy, expected.LOOK)[0], expected.of_stream(desks.CENTRE, numbered(START)))
+        plan = f'plan="{plan_name.of_path(desk.plan)}"'
         body = desk.asked("GET", "/metrics")[2].splitlines()
-        self.assertIn('opcplan_desk_answers_total{statement="cp-start",reply="ok"} 1', body)
-        self.assertIn("opcplan_desk_position 1", body)
+        self.assertIn(f'opcplan_desk_answers_total{{{plan},statement="cp-start",reply="ok"}} 1', body)
+        self.assertIn(f"opcplan_desk_position{{{plan}}} 1", body)
         for line in body:
-            self.assertRegex(line, r'^(# TYPE [a-z_]+ [a-z]+|[a-z_]+(\{[a-z]+="[^"]+"(,[a-z]+="[^"]+")*\})? [0-9.]+)$')
+            self.assertRegex(line, r'^(# HELP [a-z_]+ \S.*|# TYPE [a-z_]+ [a-z]+'
+                             r'|[a-z_]+(\{[a-z]+="[^"]+"(,[a-z]+="[^"]+")*\})? -?[0-9.]+)$')
         self.end(desk)
 
 
@@ -214,10 +218,9 @@ class Slow(desks.Case):
                 slow.setsockopt(socket.SOL_SOCKET, socket.SO_RCVBUF, 4096)
                 slow.connect(("127.0.0.1", desk.port))
                 slow.sendall(f"GET {path} HTTP/1.1\r\nHost: 127.0.0.1:{desk.port}\r\n\r\n".encode())
-            time.sleep(1)
-            begun = time.monotonic()
+                self.assertTrue(slow.recv(1))
+            # a desk gives a reader of two million bytes 70 seconds: an answer that waits for one comes too late
             self.assertEqual(desk.posted(START)[2], "ok serial 1 status S\n")
-            self.assertLess(time.monotonic() - begun, 5 * desks.QUICK)
             self.end(desk)
         self.assert_plan(numbered(START))
 

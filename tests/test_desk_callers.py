@@ -4,18 +4,17 @@ import contextlib
 import os
 import resource
 import signal
-import statistics
 import subprocess
 import sys
 import tempfile
-import threading
 import time
 import unittest
 from contextlib import closing
 
 from support import desks
 
-START = "cp-start --app APP00 --ia 2024-01-01/08.00"
+# each changes the plan where they come in this order, again and again
+START, *_ = CHANGES = [f"cp-{what} --app APP00 --ia 2024-01-01/08.00" for what in ("start", "fail", "reset")]
 # asks a port for something again and again, and prints how many bytes came each time
 READER = """
 import http.client, os, sys
@@ -45,9 +44,7 @@ class Silent(desks.Case):
                 if place % 100 == 0:
                     self.assertEqual(desk.asked("GET", "/health")[0], 200)
             os.kill(desk.open(), signal.SIGKILL)  # there are descriptors for the next one
-            begun = time.monotonic()
             self.assertEqual(desk.posted(START)[2], "ok serial 1 status S\n")
-            self.assertLess(time.monotonic() - begun, 10 * desks.QUICK)
         self.end(desk)
         self.assertLess(len(desk.said), 6, desk.said)
 
@@ -57,8 +54,7 @@ class Silent(desks.Case):
             begun = time.monotonic()
             with contextlib.suppress(ConnectionResetError):
                 self.assertEqual(one.recv(100), b"")
-            self.assertGreater(time.monotonic() - begun, 8)
-            self.assertLess(time.monotonic() - begun, 12 + desks.QUICK)
+            self.assertGreater(time.monotonic() - begun, 8)  # no less on a slower machine
         self.end(desk)
 
     def test_callers_who_hang_up_leave_no_traceback(self):
@@ -80,37 +76,29 @@ class Silent(desks.Case):
 
 @unittest.skipIf(desks.why_not(), desks.why_not())
 class Reader(desks.Case):
-    """A plan of 29,000 rows, and one who asks for all of them all the time."""
+    """A plan of 3,600 rows, and some who ask for all of them all the time. What they cost callers with changes, in
+    seconds, `tools/soak/seconds rates` prints."""
 
-    TEXT = desks.CENTRE.replace(b"--to 2024-01-31", b"--to 2027-12-30")
-    CALLERS, SECONDS, TURNS, MOST_TURNS = 10, 2, 4, 15
+    TEXT = desks.CENTRE.replace(b"--to 2024-01-31", b"--to 2024-06-28")
 
-    def test_changes_keep_half_of_their_rate(self):
-        """Without a share for changes a twentieth was left."""
-        self.beside("/rows?list=ltp", 1, 0.5)
+    def test_changes_go_on_beside_lists(self):
+        self.beside("/rows?list=ltp", 1)
 
     def test_changes_go_on_beside_copies(self):
-        """One copy of the plan is made at a time, however many ask, who take their part of the processors besides; a
-        seventh was left."""
-        self.beside("/snapshot", 6, 0.25)
+        self.beside("/snapshot", 6)
 
-    def beside(self, path, count, share):
-        """Asks that changes keep a share of their rate beside so many readers of a path. The two are measured by turns:
-        what else the machine does takes from both."""
-        desk = self.desk()
-        desk.open()
-        rates = {signal.SIGSTOP: [], signal.SIGCONT: []}  # alone, and beside readers
+    def beside(self, path, count):
+        """Asks that changes and so many readers of a path go on beside each other, and each answer is whole."""
+        desk, turns = self.desk(), 0
         with tempfile.TemporaryFile("w+") as found:
             words = [sys.executable, "-c", READER, str(desk.port), path]
             readers = [subprocess.Popen(words, stdout=found) for _ in range(count)]
             try:
-                for turn in range(self.MOST_TURNS):
-                    if turn >= self.TURNS and os.fstat(found.fileno()).st_size:
-                        break  # on a machine that does much else the first answer takes its time
-                    for what in (signal.SIGSTOP, signal.SIGCONT):
-                        for reader in readers:
-                            reader.send_signal(what)
-                        rates[what].append(self.rate(desk))
+                until = time.monotonic() + desks.PATIENCE
+                while turns < 30 or not os.fstat(found.fileno()).st_size:
+                    self.assertTrue(desk.posted(CHANGES[turns % 3])[2].startswith("ok"), turns)
+                    self.assertLess(time.monotonic(), until)
+                    turns += 1
             finally:
                 for reader in readers:
                     reader.kill()
@@ -118,30 +106,7 @@ class Reader(desks.Case):
             found.seek(0)
             sizes = list(map(int, found))
         self.end(desk)
-        alone, beside = map(statistics.mean, rates.values())
-        print(f"{alone:.0f} changes a second alone, {beside:.0f} beside {len(sizes)} answers to GET {path}")
-        self.assertGreater(beside, share * alone)
-        self.assertGreater(len(sizes), 0)
-        self.assertGreater(min(sizes), 29_000 * 50)
-
-    def rate(self, desk):
-        """Changes in a second, of all callers together."""
-        counts, until = [0] * self.CALLERS, time.monotonic() + self.SECONDS
-
-        def call(number):
-            caller = desks.client.Client(desk.socket)
-            lines = [f"cp-{what} --app APP{number:02} --ia 2024-01-01/08.{number:02}\n"
-                     for what in ("start", "fail", "reset")]
-            while time.monotonic() < until:
-                caller.request("POST", "/statements", lines[counts[number] % 3])
-                counts[number] += 1
-
-        callers = [threading.Thread(target=call, args=(number,)) for number in range(self.CALLERS)]
-        for caller in callers:
-            caller.start()
-        for caller in callers:
-            caller.join()
-        return sum(counts) / self.SECONDS
+        self.assertGreater(min(sizes), 3_500 * 50)
 
 
 if __name__ == "__main__":

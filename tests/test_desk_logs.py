@@ -9,10 +9,11 @@ import unittest
 from pathlib import Path
 from unittest import mock
 
-from support import desks
+from support import desks, plans
 
 from opcplan.desk import client, routes
 from opcplan.plans import job_logs
+from opcplan.plans.log_room import NoRoom, Standing
 
 HOSTILE = ("0", "-1", "1x", "1234567890", "..", "%2e%2e", "..%2f..%2fplan.db", "1%00", "1%2f2", "%31%0a", "1.2",
            "x" * 300)
@@ -51,15 +52,19 @@ class Kept(unittest.TestCase):
         logs = job_logs.JobLogs(str(self.folder), 1000)
         for serial in range(1, 31):
             logs.put(serial, 1, b"x" * 100)
+            logs.room().noted(serial, Standing.OVER)
             os.utime(logs.path_of(serial, 1), (serial, serial))
             self.assertLessEqual(sum(path.stat().st_size for path in self.folder.iterdir()), 1000)
-        self.assertIsNone(logs.read(1))
+        self.assertEqual(self.names(), [f"0000000{serial}.01.log" for serial in range(21, 31)])
+        self.assertIsNone(logs.read(20))
         self.assertEqual(logs.read(30), b"x" * 100)
-        self.assertGreaterEqual(len(self.names()), 8)
-        # one that begins over a folder knows what is in it
-        job_logs.JobLogs(str(self.folder), 300).put(99, 1, b"y" * 100)
-        self.assertLessEqual(sum(path.stat().st_size for path in self.folder.iterdir()), 300)
-        self.assertIn("000000099.01.log", self.names())
+        # one that begins over a folder knows what is in it, and not yet whose occurrences are over
+        logs = job_logs.JobLogs(str(self.folder), 1000)
+        self.assertRaises(NoRoom, logs.put, 99, 1, b"y" * 100)
+        for serial in range(21, 30):
+            logs.room().noted(serial, Standing.OVER)
+        logs.put(99, 1, b"y" * 100)
+        self.assertEqual(self.names(), [f"0000000{serial}.01.log" for serial in (*range(22, 31), 99)])
 
     def test_no_more_is_shown_than_so_much(self):
         logs = job_logs.JobLogs(str(self.folder))
@@ -92,17 +97,25 @@ class Kept(unittest.TestCase):
         for one in all_of_them:
             one.join()
         self.assertIn(logs.read(7), [b"%d" % one * 1000 for one in range(8)])
-        self.assertEqual((self.names(), logs.size), (["000000007.01.log"], 1000))
+        self.assertEqual((self.names(), logs.room().logs, logs.room().bytes), (["000000007.01.log"], 1, 1000))
 
 
 @unittest.skipIf(desks.why_not(), desks.why_not())
 class AtADesk(desks.Case):
+    @staticmethod
+    def act(desk, what, *serials):
+        """Has a desk start, complete or reset occurrences of the first day; those of odd serials wait for nothing."""
+        for serial in serials:
+            told = desk.posted(f"cp-{what} --app APP{serial - 1:02} --ia 2024-01-01/08.{serial - 1:02}")[2]
+            assert told.startswith(f"ok serial {serial} status "), told
+
     def put(self, desk, path, data=b"one\n"):
-        """The status of what is put."""
+        """The status of what is put; `said` is the sentence of a refusal."""
         try:
             client.Client(desk.socket).request("PUT", path, data, {"Content-Type": "text/plain"})
         except client.RequestRefused as why:
-            self.assertEqual(str(why).count("\n"), 0)
+            self.said = str(why)
+            self.assertEqual(self.said.count("\n"), 0)
             return why.status
         return 204
 
@@ -111,8 +124,13 @@ class AtADesk(desks.Case):
         heads, data = client.Client(desk.socket).request("GET", f"/logs/{serial}")
         return heads, data.decode()
 
+    def names(self):
+        """The serials and tries of the files that there are."""
+        return [name.removesuffix(".log").lstrip("0") for name in sorted(os.listdir(f"{self.plan}.logs"))]
+
     def test_what_an_agent_gives_is_shown_as_text(self):
         desk = self.desk()
+        self.act(desk, "start", 7)
         self.assertEqual(self.put(desk, "/logs/7?try=1", b"<script>\xff\n"), 204)
         self.assertEqual(self.put(desk, "/logs/7?try=2", b"two\n"), 204)
         heads, text = self.got(desk, 7)
@@ -144,6 +162,7 @@ class AtADesk(desks.Case):
 
     def test_no_more_is_taken_than_so_much(self):
         desk = self.desk()
+        self.act(desk, "start", 7)
         self.assertEqual(self.put(desk, "/logs/7", b"x" * 256 * KIB), 204)
         self.assertEqual(self.put(desk, "/logs/8", b"x" * (256 * KIB + 1)), 413)
         self.assertEqual(self.put(desk, "/logs/8", iter([b"x" * 100 * KIB] * 3)), 413)
@@ -151,8 +170,57 @@ class AtADesk(desks.Case):
         self.end(desk)
         self.assertEqual(os.listdir(f"{self.plan}.logs"), ["000000007.01.log"])
 
+    def test_only_what_was_started_has_a_log(self):
+        desk = self.desk()
+        never = "occurrence 7 was never started, so no job of it has a log; nothing was stored"
+        self.assertEqual((self.put(desk, "/logs/7"), self.said), (409, never))
+        self.act(desk, "start", 7, 9)
+        for serial, status in ((7, 204), (8, 409), (9, 204), (999_999_999, 409)):
+            self.assertEqual(self.put(desk, f"/logs/{serial}"), status, serial)
+        self.act(desk, "complete", 7)
+        self.assertEqual(self.put(desk, "/logs/7?try=2"), 204)
+        self.end(desk)
+        Path(f"{self.plan}.journal").unlink()  # a new one knows nothing of what happened, and the plan does
+        desk = self.desk()
+        for serial, status in ((7, 204), (8, 409), (9, 204), (11, 409)):
+            self.assertEqual(self.put(desk, f"/logs/{serial}"), status, serial)
+        self.act(desk, "fail", 9)
+        self.act(desk, "reset", 9)
+        self.assertEqual(self.put(desk, "/logs/9"), 204)
+        self.end(desk)
+        self.assertEqual(sorted(os.listdir(f"{self.plan}.logs")), ["000000007.01.log", "000000009.01.log"])
+
+    def test_what_is_over_gives_way(self):
+        desk, most = self.desk("--job-logs", "1"), b"x" * 256 * KIB
+        self.act(desk, "start", 7, 9, 11, 13, 15, 17)
+        for serial in (11, 9, 7, 13):
+            self.assertEqual(self.put(desk, f"/logs/{serial}", most), 204)
+        self.assertEqual((self.put(desk, "/logs/15", b"one\n"), self.said), (
+            507, "the desk has no room for this log: it has 4 logs of jobs, 1,024 KiB in all, and may have 50,000 logs "
+            "of 1,024 KiB; those that could give way are of occurrences that aren't over; the agent still has it"))
+        self.assertEqual(self.put(desk, "/logs/13", most), 204)  # in the place of its earlier one
+        self.act(desk, "complete", 9, 11)
+        self.assertEqual(self.put(desk, "/logs/15", most), 204)
+        self.assertEqual((self.got(desk, 11)[1], self.put(desk, "/logs/9?try=2", b"")), ("x" * 256 * KIB, 204))
+        self.assertEqual(self.put(desk, "/logs/17", most), 204)
+        self.act(desk, "fail", 13)
+        self.act(desk, "reset", 13)
+        self.act(desk, "start", 19)
+        self.assertEqual(self.put(desk, "/logs/19", most), 507)  # one that is in error or waits again isn't over
+        self.end(desk)
+        desk = self.desk("--job-logs", "1")
+        self.assertEqual(self.put(desk, "/logs/19", most), 507)
+        self.assertEqual(self.names(), ["7.01", "9.02", "13.01", "15.01", "17.01"])
+        self.act(desk, "complete", 7)
+        self.assertEqual(self.put(desk, "/logs/19", most), 204)
+        self.end(desk)
+        self.assertEqual(self.names(), ["13.01", "15.01", "17.01", "19.01"])
+        for wrong in ("0", "-1", "x", "1.5", "10000000"):
+            self.assertIn("is not a number of MiB", plans.plan("desk", self.plan, "--job-logs", wrong).stderr)
+
     def test_a_folder_that_can_not_be_written_is_reported(self):
         desk = self.desk()
+        self.act(desk, "start", 7)
         Path(f"{self.plan}.logs").write_text("no folder", encoding="ascii")
         self.assertEqual(self.put(desk, "/logs/7"), 507)
         self.assertEqual(desk.posted("list cp\n")[0], 200)

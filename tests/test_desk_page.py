@@ -246,11 +246,35 @@ class LivePage(desks.Case):
         ways = {"W": [], "S": ["start"], "E": ["start", "fail"], "C": ["start", "complete"], "D": ["delete"]}
         for status, way in ways.items():
             for act in acts:
-                planner = plans.plain.Planner()
+                planner = plans.planner_from(desks.CENTRE)
                 lines = [f"cp-{step} --app APP00 --ia 2024-01-01/08.00 --job {50 + n}\n"
                          for n, step in enumerate([*way, act])]
-                reply = plans.plain.run(desks.CENTRE + "".join(lines).encode(), planner)[-1]
+                reply = plans.plain.run("".join(lines).encode(), planner)[-1]
                 self.assertEqual(reply.startswith("ok"), status in acts[act]["from"], (status, act, reply))
+
+    def test_what_cannot_be_undone(self):
+        """By the plain planner: from the status that an act gives no acts lead back to the status of before."""
+        desk = self.desk()
+        acts = self.page(desk)[1].value("desk")["acts"]
+        self.end(desk)
+        ways = {"W": [], "S": ["start"], "E": ["start", "fail"], "C": ["start", "complete"], "D": ["delete"]}
+        steps = {}
+        for status, way in ways.items():
+            for act in acts:
+                planner = plans.planner_from(desks.CENTRE)
+                lines = [f"cp-{step} --app APP00 --ia 2024-01-01/08.00 --job {50 + n}\n"
+                         for n, step in enumerate([*way, act])]
+                reply = plans.plain.run("".join(lines).encode(), planner)[-1]
+                if reply.startswith("ok"):
+                    steps.setdefault(status, {})[act] = reply.split()[-1]
+        for status, found in steps.items():
+            for act, after in found.items():
+                reached, left = {after}, [after]
+                while left:
+                    new = set(steps.get(left.pop(), {}).values()) - reached
+                    reached |= new
+                    left += new
+                self.assertEqual(status not in reached, acts[act]["final"], (status, act))
 
 
 if __name__ == "__main__":

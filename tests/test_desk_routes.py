@@ -5,6 +5,7 @@ import hashlib
 import http.client
 import json
 import re
+import time
 import types
 import unittest
 
@@ -26,6 +27,16 @@ def line_of(kind):
     return " ".join(filter(None, [kind.name, word, *given])) + ("\n/*\n" if kind.name == "define" else "\n")
 
 
+# a body that each route takes
+BODIES = {"/statements": "list cp\n", "/acts": '{"verb": "start", "of": "APP00"}', "/logs/{serial}": "list cp\n",
+          "/reports/agent": "{}",
+          "/reports/calls": '{"undelivered": []}', "/reports/roll": json.dumps(
+              {"outcome": "done", "end": f"{DAY}/06.00", "ahead": 2880, "reserve": 60, "every": 1440, "why": ""})}
+
+# what has the occurrence started whose logs are asked for
+STARTS = "cp-start --app APP06 --ia 2024-01-01/08.06\n"
+
+
 def path_of(path):
     """The path of a route with a value in each place."""
     return path.replace("{serial}", "7")
@@ -38,7 +49,9 @@ class Routes(desks.Case):
         path = self.room / "tokens"
         path.write_text("".join(f"{hashlib.sha256(token.encode()).hexdigest()} {name} {name}\n"
                                 for name, token in TOKENS.items()), encoding="ascii")
-        return self.desk("--tokens", str(path))
+        desk = self.desk("--tokens", str(path))
+        client.Client(str(desk.socket)).statements(STARTS.encode(), "start", time.monotonic())
+        return desk
 
     @staticmethod
     def status(connection, method, path, body=None, **heads):
@@ -55,11 +68,11 @@ class Routes(desks.Case):
     def test_each_route_asks_for_its_role(self):
         desk = self.desk_with_tokens()
         for route in routes.ROUTES:
-            body = "list cp\n" if route.body else None
+            body = BODIES[route.path] if route.body else None
             for name, token in TOKENS.items():
                 status = self.by_token(desk, token, route.method, route.path, body)
                 self.assertEqual(status in (200, 204), Role[name.upper()] >= route.role, (route.name, name, status))
-            wanted = 200 if route.lesser else 403 if route.is_open else 401
+            wanted = 200 if route.lesser else 401
             for token in (None, "unknown"):
                 self.assertEqual(self.by_token(desk, token, route.method, route.path, body), wanted, route.name)
             if route.method == "GET":
@@ -72,13 +85,54 @@ class Routes(desks.Case):
             self.assertEqual(self.by_token(desk, TOKENS["read"], "GET", path), 404, path)
         self.end(desk)
 
+    def refusal(self, desk, route, method, **heads):
+        """Status, headers (without the length and the moment) and body of an answer."""
+        with contextlib.closing(http.client.HTTPConnection("127.0.0.1", desk.port, timeout=60)) as connection:
+            connection.request(method, path_of(route.path), BODIES.get(route.path), {"X-Opcplan": "desk", **heads})
+            answer = connection.getresponse()
+            found = {name: text for name, text in answer.getheaders() if name not in ("Date", "Content-Length")}
+            return answer.status, found, "" if method == "HEAD" else answer.read().decode()
+
+    def test_401_and_403_are_alike_on_all_routes(self):
+        """A caller without a token that is known gets one 401 everywhere, and one with too small a role one 403, apart
+        from the role that it names: the same headers and a sentence, whichever route and method."""
+        desk = self.desk_with_tokens()
+        server = self.refusal(desk, routes.ROUTES[0], "PATCH")[1]["Server"]
+        heads = {"Content-Type": "text/plain; charset=utf-8", "Cache-Control": "no-store", "Server": server,
+                 "X-Content-Type-Options": "nosniff"}
+        no_token = (401, {**heads, "WWW-Authenticate": "Bearer"},
+                    "the request has no token that this desk knows; send `Authorization: Bearer TOKEN`\n")
+        refused, small = 0, 0
+        for route in routes.ROUTES:
+            for method in (route.method, "HEAD") if route.method == "GET" else (route.method,):
+                body = method != "HEAD"
+                for given in ({}, {"Authorization": "Bearer unknown"}, {"Authorization": "Bearer"},
+                              {"Authorization": f"Basic {TOKENS['plan']}"}, {"Cookie": "opcplan-desk=unknown"}):
+                    if not route.lesser:
+                        self.assertEqual(self.refusal(desk, route, method, **given),
+                                         no_token if body else (*no_token[:2], ""), (route.name, method, given))
+                        refused += 1
+                for role in (one for one in Role if one < route.role):
+                    name, needs = role.name.lower(), route.role.name.lower()
+                    said = f"{name} may not {needs}: that needs the role {needs}\n" if body else ""
+                    found = self.refusal(desk, route, method, Authorization=f"Bearer {TOKENS[name]}")
+                    self.assertEqual(found, (403, heads, said), (route.name, method, role))
+                    small += 1
+        # all but the page and /health, nine of them by HEAD too; /logs by PUT, GET and HEAD, the reports of an agent
+        # and, for two roles, of roll
+        self.assertEqual((refused, small), (5 * (len(routes.ROUTES) - 2 + 9), 6))
+        self.end(desk)
+
     def test_a_user_without_a_role_is_refused(self):
         users = self.room / "users"
         users.write_text("anna operate\n", encoding="ascii")
         desk = self.desk("--users", str(users), "--proxy", desks.own_name(), "--host", "localhost")
+        by_anna = {"X-Forwarded-User": "anna"}
+        self.status(client.BySocket(str(desk.socket), 60), "POST", "/statements", STARTS, **by_anna)
         for route in routes.ROUTES:
-            body = "list cp\n" if route.body else None
-            for name, wanted in (("anna", {200, 204, 401}), ("bert", {200 if route.path == "/health" else 403})):
+            body = BODIES[route.path] if route.body else None
+            as_anna = {200, 204, 401} if route.role <= Role.OPERATE else {403}
+            for name, wanted in (("anna", as_anna), ("bert", {200 if route.path == "/health" else 403})):
                 status = self.status(client.BySocket(str(desk.socket), 60), route.method, route.path, body,
                                      **{"X-Forwarded-User": name})
                 self.assertIn(status, wanted, (route.name, name))
@@ -122,7 +176,7 @@ class Routes(desks.Case):
         """Asks that a route is answered by a status and in a kind that the document has."""
         with contextlib.closing(http.client.HTTPConnection("127.0.0.1", desk.port, timeout=60)) as connection:
             heads = {"X-Opcplan": "desk", "Authorization": f"Bearer {TOKENS['plan']}"}
-            connection.request(route.method, path_of(route.path), "list cp\n" if route.body else None, heads)
+            connection.request(route.method, path_of(route.path), BODIES.get(route.path), heads)
             answer = connection.getresponse()
             kind = (answer.getheader("Content-Type") or "").split(";")[0]
             self.assertIn(kind, message[str(answer.status)].get("content", {"": {}}), route.name)

@@ -5,14 +5,13 @@ Each state of a world is met once. A desk that lacks one of the promises has to 
 desks once were."""
 
 import dataclasses
-import time
 import unittest
 
 from support.desk_worlds import explored, InvariantViolated, Kind, QUESTION, Stream, walked
 
 from opcplan.desk import state
 
-LONGEST = 30  # seconds of the processor for all worlds together
+MOST = 100_000  # states of all worlds together, which stay small
 TWO = (Stream("K", ("a", "b")),), (Stream("L", ("a",)),)
 WORLDS = {
     "a planner that ends": Kind(TWO, looks=1, planner_ends=1, planner_stops=1),
@@ -24,6 +23,10 @@ WORLDS = {
     "a subscriber": Kind(TWO, subscribers=1),
     "a subscriber of a desk that is killed": Kind(((Stream("K", ("a", "b")),),), subscribers=1, desk_ends=1,
                                                   planner_ends=1),
+    "a subscriber, and few entries in memory": Kind(((Stream("K", ("a", "b", "c")),),), subscribers=1, most_recent=1),
+    "a copy": Kind(TWO, copies=1, planner_ends=1),
+    "a copy while opcplan can't be started": Kind(((Stream("K", ("a", "b")),),), copies=1, planner_ends=1,
+                                                  planner_stops=1, desk_ends=1),
     "a key for two streams": Kind(((Stream("K", ("a",)),), (Stream("K", ("a", "b")),)), desk_ends=1, disk_fails=1),
     "a key at another place": Kind(((Stream("K", (QUESTION, "a")),), (Stream("K", ("b",)),)), desk_ends=1),
     "a key for another stream later": Kind(((Stream("K", ("a",)), Stream("K", ("a", "b"))),), desk_ends=1,
@@ -33,7 +36,8 @@ WORLDS = {
 LARGER = Kind((
     (Stream("K", ("a", "b", QUESTION, "c")), Stream("L", ("d", "a"))), (Stream("M", ("b", "e")), Stream("M", ("b",))),
     (Stream("M", ("b", "e")), Stream("N", (QUESTION, "f", "a")), Stream("N", ("f",)))),
-    readers=4, subscribers=1, looks=3, planner_ends=4, planner_stops=2, desk_ends=3, disk_fails=3, answers_lost=4)
+    readers=4, subscribers=1, looks=3, planner_ends=4, planner_stops=2, desk_ends=3, disk_fails=3, answers_lost=4,
+    copies=3, most_recent=2)
 
 
 class Ahead(state.State):
@@ -73,6 +77,33 @@ class Overlooked(state.State):
         return state.Read(last, self.position) if last < self.position else []
 
 
+class Forgetful(state.State):
+    """Memory drops entries whose replies the journal doesn't have yet."""
+
+    def trim(self):
+        over = max(0, len(self.recent) - self.most_recent)
+        del self.recent[:over]
+        del self.chains[:over]
+        self.recent_from += over
+
+    def broken(self):
+        return ""
+
+
+class Restless(state.State):
+    """A copy is made while statements are in flight."""
+
+    def rest(self):
+        return super().rest()._replace(is_exact=True)
+
+
+class RestlessMeanwhile(state.State):
+    """A copy is begun at rest, and statements are sent while it is made."""
+
+    def copied(self, before):
+        return before
+
+
 class ByPlace(state.State):
     """Of streams under one key each statement is compared with that of the same place alone."""
 
@@ -98,15 +129,14 @@ class Overtaking(state.State):
 
 class States(unittest.TestCase):
     def test_every_interleaving_of_small_worlds(self):
-        begun, total = time.process_time(), 0
+        total = 0
         for name, kind in WORLDS.items():
             count = explored(kind)
             self.assertGreater(count, 100, name)
             print(f"{name}: {count:,} states")
             total += count
-        took = time.process_time() - begun
-        print(f"{total:,} states of {len(WORLDS)} worlds in {took:.1f} s")
-        self.assertLess(took, LONGEST)
+        print(f"{total:,} states of {len(WORLDS)} worlds")
+        self.assertLess(total, MOST)
 
     def test_walks_at_random_through_a_larger_world(self):
         for seed in range(100):
@@ -127,6 +157,14 @@ class Mutants(unittest.TestCase):
 
     def test_answered_entries_that_are_on_their_way_to_the_journal(self):
         self.assertIn("subscriber", self.caught(Overlooked, "a subscriber"))
+
+    def test_entries_that_memory_drops_too_early(self):
+        self.assertIn("subscriber", self.caught(Forgetful, "a subscriber, and few entries in memory"))
+
+    def test_a_copy_that_is_ahead_of_its_position(self):
+        for name in ("a copy", "a copy while opcplan can't be started"):
+            for mutant in (Restless, RestlessMeanwhile):
+                self.assertIn("a copy says entry", self.caught(mutant, name))
 
     def test_a_key_for_two_streams(self):
         for name in ("a key for two streams", "a key at another place", "a key for another stream later"):

@@ -46,10 +46,10 @@ class Positions(desks.Case):
         desk = self.desk()
         found = desk.comes(lambda found: found.get("status") == "stopped")
         self.assertEqual(found["position"], 1)
-        for path in ("/snapshot", "/page/data"):
-            status, heads, body = self.got(desk, path)
-            self.assertEqual((status, heads["X-Opcplan-Position"]), (200, "1"), path)
-        self.assertEqual(body["desk"]["position"], 1)
+        status, heads, body = self.got(desk, "/page/data")
+        self.assertEqual((status, heads["X-Opcplan-Position"], body["desk"]["position"]), (200, "1", 1))
+        # opcplan may have done entry 2 before it ended, so nobody may take the file for that of entry 1
+        self.assertEqual(self.got(desk, "/snapshot")[0], 503)
         tag = heads["ETag"]
         self.index("DROP INDEX mine")
         desk.comes(lambda found: found.get("status") == "ok" and found["position"] == 2)

@@ -181,7 +181,7 @@ REFUSED = [
     ("period MONTH add 2027-04-05 2027-04-04", 2, "before its origin"),
     ("period MONTH remove 2027-01-02", 1, "no interval from 2027-01-02"),
     ("period MONTH end 2027-03-01 2027-03-31", 1, "nothing would change"),
-    ("period MONTH remove", 2, "origin"),
+    ("period MONTH remove", 1, "NOT of SALES, MONTHLY of SHOP count in MONTH"),
     ("period MONTH add 2027-13-01", 2, "there is no month 13"),
     ("period MONTH interval=5", 2, "type N"),
     ("period MONTH type=A interval=5", 2, "origin="),
@@ -286,6 +286,27 @@ class Edit(unittest.TestCase):
                 self.assertRegex(message, r"\Aplan: [^\n]+\n\Z")
                 self.assertIn(says, message)
         self.assertEqual(plans.prints(file), before)
+
+    def test_the_last_interval_of_a_period_in_use_stays(self):
+        """Without it the period would be undefined, and run cycles that count in it would have none."""
+        text = BASE + b"""define periods --job 20
+ONE,N,2027-01-01,
+TWO,N,2027-01-01,2027-01-31
+/*
+define run-cycles --job 21
+SALES,FIRST,N,ONE,3,1,2027-01-01,,08.00,0,10.00
+LEDGER,FIRST,N,ONE,3,1,2027-01-01,,08.00,0,10.00
+/*
+"""
+        file = self.written(plans.planner_of(text))
+        before = records(file)
+        self.assertTrue(any(line.startswith("ONE,N,") for line in before))
+        status, text, message = edited(file, "period ONE remove 2027-01-01")
+        self.assertEqual((status, text), (1, ""))
+        self.assertIn("no interval of ONE would be left", message)
+        self.assertIn("FIRST of LEDGER, FIRST of SALES count in it", message)
+        status, text, _ = edited(file, "period TWO remove 2027-01-01")
+        self.assertEqual((status, text.split(" --job")[0]), (0, "undefine periods --name TWO"))
 
     def test_words_of_no_text_are_reported(self):
         file = self.written(plans.planner_of(BASE))

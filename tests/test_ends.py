@@ -18,6 +18,8 @@ from support import journals, plans
 # of each subcommand words with which it prints something, with PLAN, STREAM and OUTPUT for files
 PRINTERS = {
     "page": ["PLAN"],
+    "cancel": ["PLAN", "LEDGER", "2024-01-05", "--dry-run"],
+    "add": ["PLAN", "LEDGER", "2024-01-05/19.00", "--due", "20.00", "--dry-run"],
     "why": ["PLAN", "LEDGER", "2024-01-01/18.00"],
     "why-day": ["PLAN", "LEDGER", "2024-01-01"],
     "late": ["PLAN", "--now", "2024-01-01/12.00"],
@@ -33,6 +35,8 @@ PRINTERS = {
     "status": ["PLAN", "--now", "2024-01-01/12.00"],
     "cal": ["PLAN", "DEFAULT", "2024"],
     "days": ["PLAN", "--from", "2024-01-01"],
+    "next": ["PLAN", "LEDGER", "--now", "2024-01-01/12.00"],
+    "day": ["PLAN", "2024-01-02", "--now", "2024-01-01/12.00"],
     "init": ["COPY", "--stream", "--years", "2024"],
     "explain": ["STREAM", "OUTPUT"],
     "lint": ["SLIP"],

@@ -200,18 +200,31 @@ class Kept(unittest.TestCase):
         self.journal = journal.Journal(self.path)
         self.addCleanup(lambda: self.journal.close())
 
-    def put(self, seq, key=None, text="cp-start --app A --ia 2024-01-01/08.00 --job 5", replies=()):
-        self.journal.put([entry.Entry(seq, MOMENT, "w", key, 5, f"{text}\n".encode())], replies)
+    def put(self, seq, key=None, text="cp-start --app A --ia 2024-01-01/08.00 --job 5", replies=(), at=MOMENT):
+        self.journal.put([entry.Entry(seq, at, "w", key, 5, f"{text}\n".encode())], replies)
 
     def test_it_begins_where_the_plan_does(self):
         self.assertEqual((self.journal.begun(), self.journal.position()), (None, 0))
-        self.journal.begin("one", 700, 5)
-        self.assertEqual((self.journal.begun(), self.journal.position()), (("one", 700, 5, None), 700))
+        self.journal.begin("one", 700, 5, "c", "p")
+        self.assertEqual((self.journal.begun(), self.journal.position()), (
+            ("one", 700, 5, "c", "p", 700, 0, None), 700))
         self.put(701)
-        self.journal.begin("two", 701, 6, "d")
+        self.journal.stop(701)
+        self.assertEqual(self.journal.begun(), ("one", 700, 5, "c", "p", 700, 701, None))
+        self.journal.begin("two", 701, 6, "d", "q")
         self.journal.close()
         self.journal = journal.Journal(self.path)
-        self.assertEqual((self.journal.begun(), self.journal.position()), (("two", 701, 6, "d"), 701))
+        self.assertEqual((self.journal.begun(), self.journal.position()), (
+            ("two", 701, 6, "d", "q", 701, 0, "p"), 701))
+
+    def test_a_journal_of_version_1_0_gets_what_it_lacks(self):
+        self.journal.db.execute("CREATE TABLE begun (log TEXT NOT NULL, seq INTEGER NOT NULL, jobs INTEGER NOT NULL)")
+        self.journal.db.execute("INSERT INTO begun VALUES ('one', 700, 5)")
+        self.journal.close()
+        self.journal = journal.Journal(self.path)
+        self.assertEqual(self.journal.begun(), ("one", 700, 5, None, None, 700, 0, None))
+        self.journal.name_plan("p", "host", "c")
+        self.assertEqual(self.journal.begun(), ("one", 700, 5, "c", "p", 700, 0, "host"))
 
     def test_an_entry_that_comes_again_stays(self):
         self.put(3, "k")
@@ -222,13 +235,22 @@ class Kept(unittest.TestCase):
         self.assertEqual([(one.seq, one.key, one.line[:8], one.reply) for one in self.journal.every()],
                          [(3, "k", "cp-start", "ok serial 1 status S"), (4, None, "cp-start", None)])
 
-    def test_an_old_key_may_be_used_again(self):
+    def test_a_key_stands_for_its_first_entry(self):
         self.put(3, "k")
         self.put(9, "k")
         self.put(12, "other")
-        self.assertEqual([(one.seq, one.key) for one in self.journal.every()], [(3, None), (9, "k"), (12, "other")])
-        self.assertEqual(self.journal.find("w", "k").seq, 9)
+        self.assertEqual([(one.seq, one.key) for one in self.journal.every()], [(3, "k"), (9, None), (12, "other")])
+        self.assertEqual(self.journal.find("w", "k").seq, 3)
         self.assertIsNone(self.journal.find("v", "k"))
+
+    def test_an_old_key_may_be_used_again(self):
+        """After a week; a second before that it stands for its first entry."""
+        self.put(3, "k", at="2024-01-01T08:00:00.000Z")
+        self.put(9, "k", at="2024-01-08T07:59:59.000Z")
+        self.assertEqual(self.journal.find("w", "k").seq, 3)
+        self.put(12, "k", at="2024-01-08T08:00:01.000Z")
+        self.assertEqual([(one.seq, one.key) for one in self.journal.every()], [(3, None), (9, None), (12, "k")])
+        self.assertEqual(self.journal.find("w", "k").seq, 12)
 
 
 if __name__ == "__main__":

@@ -7,7 +7,7 @@ import tempfile
 import unittest
 from pathlib import Path
 
-from support import TOP, plans
+from support import TOP, bare_python, plans
 
 from opcplan.commands import import_ics
 
@@ -87,6 +87,17 @@ class ImportIcs(unittest.TestCase):
                 ran = self.asked(of_calendar, events)
                 self.assertEqual(" ".join(re.findall("(?m)^X,(.*),FREE$", ran.stdout)), days, ran.stderr)
                 self.assertEqual(ran.returncode, 0, ran.stderr)
+
+    def test_a_python_without_the_library_leaves_it_to_debians(self):
+        of_calendar, events, days = CASES[0]
+        python = bare_python.made(self.room)
+        lacks = subprocess.run([python, "-c", "import icalendar"], capture_output=True, check=False)
+        self.assertEqual(lacks.returncode, 1)
+        self.asked(of_calendar, events)
+        words = [python, TOP / "plan", "import", "--ics", self.room / "given.ics", "--calendar", "X", "--new",
+                 "--from", "2015-01-01", "--to", "2028-12-31", self.plan]
+        ran = subprocess.run(words, capture_output=True, encoding="utf-8", check=False)
+        self.assertEqual((" ".join(re.findall("(?m)^X,(.*),FREE$", ran.stdout)), ran.returncode), (days, 0), ran.stderr)
 
     def test_what_is_not_taken_is_reported_with_the_name_of_its_event(self):
         for of_calendar, events, days, says in LEFT:

@@ -76,7 +76,9 @@ class Init(unittest.TestCase):
         self.assertIn("--yes runs it without asking", ran.stderr)
         ran = plans.plan(*words, "--yes", text="")
         self.assertEqual((ran.returncode, ran.stdout.endswith("ok defined 1\nok defined 4\n")), (0, True), ran.stderr)
-        self.assertIn(f"{self.plan}: the file held no plan, so a new one was made in it", ran.stderr)
+        # that the file held no plan is what was asked for; opcplan says it of a name that somebody mistyped
+        self.assertNotIn("the file held no plan", ran.stderr)
+        self.assertTrue(ran.stderr.startswith("plan: `./plan edit"), ran.stderr)
         text = plans.plan_in_here("dump", self.plan).stdout
         self.assertEqual(definitions_of(text), self.made_by(*words[2:-2]))
         before = plans.prints(self.plan)
@@ -96,10 +98,11 @@ class Init(unittest.TestCase):
         ran = plans.plan(*create.split())
         # 21 work days from Monday on, since no holiday is listed
         self.assertEqual((ran.returncode, ran.stdout), (0, "ok made 21 withdrawn 0\n"))
+        # 48 hours ahead is 2027-05-05 08.00, and the daily plan ends at midnight
         ran = plans.plan(*roll.split(), "--reserve", "1d", "--now", "2027-05-03/08.00")
         self.assertEqual(ran.returncode, 0, ran.stderr)
         rows = plans.plan_in_here("rows", self.plan, "cp").stdout.splitlines()
-        self.assertEqual([row.split()[3:5] for row in rows[:-1]], [["DAY", f"2027-05-0{day}"] for day in (3, 4)])
+        self.assertEqual([row.split()[3:5] for row in rows[:-1]], [["DAY", f"2027-05-0{day}"] for day in (3, 4, 5)])
 
     def made_by(self, *words):
         return definitions_of(plans.plan_in_here("init", self.room / "other.db", "--stream", *words).stdout)

@@ -113,7 +113,13 @@ class Installed(unittest.TestCase):
 
     @has("bash")
     def test_bash_completes(self):
+        """Words, files, and names of a plan, in capitals or not; of a file that is no plan none."""
         (self.folder / "a plan.db").touch()
+        plans.copy_of(plans.of_worked("monday"), self.folder, "monday.db")
+        defined = plans.planner_of(plans.stream("monday")).defined
+        names = {name for kind in ("calendars", "periods") for name in defined[kind] if name.startswith("D")}
+        self.assertTrue(names)
+        path = {**os.environ, "PATH": f"{self.prefix / 'bin'}:{os.environ['PATH']}"}
         for line, wanted in (
             (["opcplan-plan", ""], {*self.subcommands, "-h", "--help", "-V", "--version"}),
             (["opcplan-plan", "why-"], {"why-day"}),
@@ -122,13 +128,22 @@ class Installed(unittest.TestCase):
             (["opcplan-plan", "why", "--no"], {"--now"}),
             (["opcplan-plan", "why", "--now", ""], set()),
             (["opcplan-plan", "page", "a "], {"a plan.db"}),
+            (["opcplan-plan", "send", "--db", "a plan.db", "sta"], {"start"}),
+            (["opcplan-plan", "send", "--db", "a plan.db", "cp-c"], {"cp-complete"}),
+            (["opcplan-plan", "rows", "a plan.db", "--status", "in"], {"in-error"}),
+            (["opcplan-plan", "edit", "a plan.db", "calendar", "DEFAULT", "2024-12-24", "f"], {"free"}),
+            (["opcplan-plan", "edit", "monday.db", "predecessor", "LEDGER", "a"], {"add"}),
+            (["opcplan-plan", "why", "monday.db", "l"], {"LEDGER"}),
+            (["opcplan-plan", "rows", "monday.db", "--app", "re"], {"REPORT"}),
+            (["opcplan-plan", "cal", "monday.db", "d"], names),
+            (["opcplan-plan", "why", "a plan.db", "l"], set()),
             (["opcplan", "--db", "a "], {"a plan.db"}),
             (["opcplan", "--su"], {"--sums"}),
         ):
             file = self.prefix / "share/bash-completion/completions" / line[0]
             script = ('. "$1"; shift; COMP_WORDS=("$@"); COMP_CWORD=$(($# - 1)); words=$(complete -p "$1"); '
                       'words=${words#complete -F }; ${words% *}; printf "%s\\n" "${COMPREPLY[@]}"')
-            answered = ran("bash", "-c", script, "bash", file, *line, cwd=self.folder)
+            answered = ran("bash", "-c", script, "bash", file, *line, cwd=self.folder, env=path)
             self.assertEqual((set(answered.stdout.split("\n")) - {""}, answered.stderr), (wanted, ""), line)
 
     @has("fish")
@@ -192,6 +207,27 @@ class Installed(unittest.TestCase):
         self.assertIn("bin/opcplan", below(prefix))
         self.assertEqual(make("uninstall", PREFIX=prefix).returncode, 0)
         self.assertEqual(below(prefix), ["share", "share/man", "share/man/man5"])
+
+    def test_modules_are_compiled_and_taken_as_they_are(self):
+        """A start compiles nothing, and a module that somebody changes counts all the same."""
+        package = self.prefix / "share/opcplan/python/opcplan"
+        modules = {path.relative_to(package) for path in package.rglob("*.py")}
+        compiled = {path.relative_to(package) for path in package.rglob("*.pyc")}
+        self.assertEqual({path.parent.parent / f"{path.name.partition('.')[0]}.py" for path in compiled}, modules)
+        listed = set((self.prefix / "share/opcplan/INSTALLED").read_text(encoding="utf-8").splitlines())
+        self.assertLessEqual({f"share/opcplan/python/opcplan/{path}" for path in compiled}, listed)
+        said = ran("python3", "-v", self.prefix / "share/opcplan/plan", "ready", "--help", cwd=self.folder).stderr
+        taken = [line for line in said.splitlines() if "code object from" in line and str(package) in line]
+        self.assertGreater(len(taken), 5)
+        self.assertEqual([line for line in taken if ".pyc" not in line], [])
+        before = {path: path.stat().st_mtime_ns for path in package.rglob("*.pyc")}
+        path = package / "commands" / "ready.py"
+        text, stat = path.read_text(encoding="utf-8"), path.stat()
+        self.addCleanup(path.write_text, text, encoding="utf-8")
+        path.write_text(text.replace("what may be started now", "what may be STARTED now"), encoding="utf-8")
+        os.utime(path, ns=(stat.st_atime_ns, stat.st_mtime_ns))
+        self.assertIn("STARTED", self.asked("opcplan-plan", "--help").stdout)
+        self.assertEqual({path: path.stat().st_mtime_ns for path in package.rglob("*.pyc")}, before)
 
     def test_destdir_stands_for_the_root(self):
         root = self.folder / "root"
@@ -260,10 +296,14 @@ class Installed(unittest.TestCase):
             self.assertRegex(field, f"(?m)^{line}")
         root = self.folder / "package"
         self.assertEqual(ran("dpkg-deb", "-R", package, root).returncode, 0)
-        self.assertEqual(below(root / "DEBIAN"), ["control", "md5sums", "postinst"])
-        self.assertEqual(ran("sh", "-n", root / "DEBIAN" / "postinst").returncode, 0)
+        self.assertEqual(below(root / "DEBIAN"), ["control", "md5sums", "postinst", "prerm"])
+        for script, does in (("postinst", "py3compile -p opcplan /usr/share/opcplan/python\n"),
+                             ("prerm", "py3clean -p opcplan\n")):
+            self.assertEqual(ran("sh", "-n", root / "DEBIAN" / script).returncode, 0)
+            self.assertIn(does, (root / "DEBIAN" / script).read_text(encoding="utf-8"))
         self.assertIn("systemd-sysusers opcplan.conf", (root / "DEBIAN" / "postinst").read_text(encoding="utf-8"))
-        zsh = {name.replace("site-functions", "vendor-completions") for name in below(self.prefix)}
+        zsh = {name.replace("site-functions", "vendor-completions") for name in below(self.prefix)
+               if "__pycache__" not in name}
         more = {"share/doc/opcplan/changelog.gz", "share/doc/opcplan/copyright"}
         self.assertEqual({name.removesuffix(".gz") if "/man" in name else name for name in below(root / "usr")},
                          zsh - {"share/opcplan/INSTALLED"} | more)

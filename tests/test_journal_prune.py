@@ -143,11 +143,12 @@ class Cuts(Room):
     def test_a_shared_log_is_known_up_to_what_goes(self):
         written(self.path, [(300, serial, status) for serial in (1, 2) for status in RUN])
         with closing(journal.Journal(str(self.path))) as held:
-            held.begin("log", 1, 5, "first")
+            held.begin("log", 4, 5, "first", "p")
+            held.db.execute("UPDATE begun SET seq = 1, since = 1")  # the entries after the first are its own answers
             held.db.execute("UPDATE entry SET digest = 'd' || seq")
         self.prune()
         with closing(journal.Journal(str(self.path))) as held:
-            self.assertEqual(held.begun(), journal.LogStart("log", 3, 5, "d3"))
+            self.assertEqual(held.begun(), journal.LogStart("log", 3, 5, "d3", "p", 1, 0, None))
             self.assertEqual((held.digest_at(3, 3, "d3"), held.digest_at(4, 3, "d3")), ("d3", "d4"))
 
     def test_an_old_job_that_is_answered_again_did_not_happen_again(self):

@@ -8,6 +8,7 @@ import unittest
 from support import data_centre, plans
 from support.plans import plain
 
+from opcplan.acts.resolver import Meant
 from opcplan.cli import words
 from opcplan.commands import keys
 from opcplan.errors import UsageError
@@ -85,12 +86,18 @@ class Keys(unittest.TestCase):
                 self.assertEqual(read(add, *given), keys.Key(123, None, None), given)
 
     def test_no_other_words_are_a_key(self):
-        for given in ([], [""], ["LEDGER"], ["#0"], ["0"], ["1234567890"], ["-1"], ["1.5"], ["#12a"], ["serial"],
+        self.assertIsNone(read(keys.add_key_of_day, "LEDGER"))
+        for given in ([], [""], ["#0"], ["0"], ["1234567890"], ["-1"], ["1.5"], ["#12a"], ["serial"],
                       ["#123", "456"], ["1LEDGER", "2026-07-05/22.00"], ["LEDGER", "2026-07-05", "22.00", "more"],
                       ["LEDGER", "2026-02-29 22.00"], ["A" * 17, "2026-07-05/22.00"]):
             for add in (keys.add_key, keys.add_key_of_day):
                 self.assertIsNone(read(add, *given), given)
-        self.assertIsNone(read(keys.add_key, "LEDGER", "2026-07-05"))
+
+    def test_an_application_with_a_day_or_a_minute_or_neither(self):
+        day = moments.day_of("2026-07-05")
+        for given, wanted in ((["ledger"], (None, None)), (["LEDGER", "2026-07-05"], (day, None)),
+                              (["LEDGER", "22.00"], (None, 1320)), (["LEDGER 22:00"], (None, 1320))):
+            self.assertEqual(read(keys.add_key, *given), keys.Key(None, "LEDGER", None, Meant(None, "LEDGER", *wanted)))
 
     def test_a_day_alone(self):
         wanted = keys.Key(None, "LEDGER", moments.moment_of("2026-07-05/00.00"))

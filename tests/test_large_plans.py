@@ -1,4 +1,5 @@
-"""What ./plan takes over large plans, of 200,000 rows and of 2,000 applications in a chain: processor time, memory."""
+"""What ./plan takes over large plans: memory over 70,000 rows, and what lint looks at of 600 applications in a chain.
+What it takes of a processor over 200,000 rows, `tools/soak/seconds` prints."""
 
 import sqlite3
 import subprocess
@@ -7,59 +8,76 @@ import unittest
 from contextlib import closing
 from pathlib import Path
 
-from support import large_plans, plans, timing
+from support import large_plans, page_reader as read, plans
 
 from opcplan.commands import lint
 from opcplan.plans import plan_file, stream_state
 from opcplan.rules import moments
 
+ROWS_APPS, DAYS = 1000, 70
 NOW = "2026-09-02/08.00"
-APPS, PAIRS = 2000, 300
-MOST_MEMORY = 60  # MB
+APPS, PAIRS = 600, 90
+# in MB; Python alone takes 21, and all rows would take 20 more
+MOST_MEMORY = 36
 # a small process runs the command: what is counted as a process's memory begins with that of the one that made it
 MEASURED = """import resource, subprocess, sys
 status = subprocess.call(sys.argv[1:])
-used = resource.getrusage(resource.RUSAGE_CHILDREN)
-print(status, used.ru_utime + used.ru_stime, used.ru_maxrss / 1024, file=sys.stderr)
+print(status, resource.getrusage(resource.RUSAGE_CHILDREN).ru_maxrss / 1024, file=sys.stderr)
 """
 
 
 def measured(*words):
-    """Status, output, seconds of a processor and MB of a run of ./plan."""
+    """Status, output and MB of a run of ./plan."""
     given = ["/usr/bin/python3", "-c", MEASURED, "/usr/bin/python3", plans.TOP / "plan", *words]
     ran = subprocess.run(list(map(str, given)), capture_output=True, encoding="utf-8", check=True)
-    status, took, memory = ran.stderr.splitlines()[-1].split()
-    return int(status), ran.stdout, float(took), float(memory)
+    status, memory = ran.stderr.splitlines()[-1].split()
+    return int(status), ran.stdout, float(memory)
 
 
-class TwoHundredThousandRows(unittest.TestCase):
+class ManyRows(unittest.TestCase):
     @classmethod
     def setUpClass(cls):
-        cls.plan = large_plans.current()
+        cls.plan = large_plans.current(ROWS_APPS, DAYS)
         with plan_file.opened(cls.plan):
             pass  # it is checked, and that is kept
 
     def test_few_rows_are_read_at_once(self):
         app = large_plans.name(500)
         for words, lines in (("ready", 2), ("late", 1000), (f"why {app} 2026-09-02 11.59", 60),
-                             (f"rows --app {app}", 201)):
+                             (f"rows --app {app}", DAYS + 1)):
             name, *rest = words.split()
             now = [] if name == "rows" else ["--now", NOW]
-            status, out, took, memory = measured(name, self.plan, *rest, *now)
+            status, out, memory = measured(name, self.plan, *rest, *now)
             with self.subTest(name):
                 self.assertEqual(status, 0)
                 self.assertGreaterEqual(out.count("\n"), lines)
-                self.assertLess(took, timing.limit(0.4))
                 self.assertLess(memory, MOST_MEMORY)
 
     def test_what_is_printed_whole_needs_no_memory(self):
         for words in ("export --ics", "export --csv", "export --json", "rows"):
             name, *rest = words.split()
-            status, out, _, memory = measured(name, self.plan, *rest)
+            status, out, memory = measured(name, self.plan, *rest)
             with self.subTest(words):
                 self.assertEqual(status, 0)
-                self.assertGreaterEqual(out.count(large_plans.name(7)), large_plans.DAYS)
+                self.assertEqual(out.count(large_plans.name(7)), DAYS * (2 if "--ics" in words else 1))
                 self.assertLess(memory, MOST_MEMORY)
+
+    def page(self, path, *days):
+        """What a page has, which is no larger than a browser opens where there are as many rows as there may be."""
+        page = read.page_of(path, *days)
+        self.assertLessEqual(len(page.encode()), 100 * ROWS_APPS * DAYS)
+        return read.data_in(page)
+
+    def test_a_page_of_the_current_plan(self):
+        data = self.page(self.plan, "--now", NOW)
+        self.assertEqual(len(data["rows"]["serial"]), ROWS_APPS * DAYS)
+        self.assertEqual(len(read.pairs_in(data)), sum(1 for _ in large_plans.pairs(ROWS_APPS, DAYS)))
+
+    def test_a_page_of_the_long_term_plan(self):
+        path = large_plans.planned(ROWS_APPS, DAYS)
+        self.assertEqual(len(self.page(path, "--now", NOW)["rows"]["serial"]), ROWS_APPS * 61)
+        data = self.page(path, "--from", large_plans.FIRST, "--to", "2027-12-31")
+        self.assertEqual(len(data["rows"]["serial"]), ROWS_APPS * DAYS)
 
 
 class ChainedApplications(unittest.TestCase):
@@ -104,23 +122,41 @@ class ChainedApplications(unittest.TestCase):
         return path
 
     def test_lint_of_pairs_of_define_and_modify(self):
-        _, out, took, _ = measured("lint", self.stream(), "--plan", self.plan())
+        _, out, _ = measured("lint", self.stream(), "--plan", self.plan())
         self.assertIn("drops run cycle WEEKLY", out)
-        self.assertLess(took, timing.limit(2.5))  # the check of the file and the start of Python are in it
 
     def test_what_is_found_is_what_a_look_at_all_finds(self):
+        """Though only the application of each pair is looked at behind it."""
         stream = self.stream().read_bytes().split(b"define")
-        text = b"define".join(stream[: len(stream) // 15])
+        text = b"define".join(stream[: len(stream) // 4])
         with plan_file.opened(self.plan()) as plan:
             found = []
-            for walk in (lint.Walk, WholeWalk):
+            for walk in (NotedWalk, WholeWalk):
                 now = stream_state.of_plan(plan)
                 one = walk(now)
                 for item in plans.items_of(text):
                     one.take(item, lint.reply_of(now, item))
                 found.append({(each.kind, each.about) for each in one.ended()})
+                if walk is NotedWalk:
+                    self.assertGreater(len(one.counts), 20)
+                    self.assertEqual(set(one.counts), {1})
         self.assertEqual(*found)
         self.assertGreater(len(found[0]), 5)
+
+
+class NotedWalk(lint.Walk):
+    """A walk that notes how many applications it looks at each time."""
+
+    counts: list[int]
+
+    def __init__(self, now):
+        super().__init__(now)
+        self.counts = []
+
+    def touched(self):
+        found = super().touched()
+        self.counts.append(APPS if found is None else len(found))
+        return found
 
 
 class WholeWalk(lint.Walk):

@@ -12,9 +12,8 @@ from support.plans import plain
 
 from opcplan.cli import words as module_words
 from opcplan.commands import late
-from opcplan.plans import plan_file, waits
+from opcplan.plans import plan_file, row_model, waits
 from opcplan.rules import moments
-from opcplan.webpage import page_model
 
 
 NAMES = """week-of-daily-plans batch-through-all-sets statuses-carried carried-over-five-days predecessor-fails-and-goes
@@ -33,7 +32,7 @@ def lines_at(plan, now):
     """What is printed of a plan at a moment."""
     found = []
     for rows, pairs in (waits.late_with_waits(plan, now), waits.unfinished(plan)):
-        model = page_model.of_waits(rows, pairs, now)
+        model = row_model.of_waits(rows, pairs, now)
         places = late.in_order(rows, model)
         found.append(late.late_lines(rows, model, places, plain.moment_text(now), now) if places else [])
     assert found[0] == found[1], "what is late and what it waits for is enough"
@@ -50,7 +49,8 @@ class Late(unittest.TestCase):
                 for now in {due + more for due in dues[:: max(1, len(dues) // 8)] for more in (0, 1)}:
                     with self.subTest(name, now=plain.moment_text(now)):
                         seen |= self.check(planner, lines_at(plan, now), now)
-        found = {"nothing", "late", "added by hand", "waits for", "in error", "started", "ready", "blocked"}
+        found = {"nothing", "late", "added by hand", "waits for", "wait for", "in error", "started", "ready",
+                 "blocked"}
         self.assertEqual(seen, found)
 
     def check(self, planner, lines, now):
@@ -62,10 +62,20 @@ class Late(unittest.TestCase):
         count = f"{len(wanted)} {'is' if len(wanted) == 1 else 'are'}"
         self.assertEqual(lines[0], f"{count} late at {plain.moment_text(now)}:")
         parts = [part.split("\n") for part in re.split(r"\n(?=[A-Z0-9@#$])", "\n".join(lines[2:]))]
-        self.assertEqual([int(part[0].rpartition("serial ")[2]) for part in parts], [row[0] for row in wanted])
+        serials = [int(part[0].rpartition("serial ")[2]) for part in parts]
+        by_serial = {row[0]: row for row in wanted}
+        self.assertEqual(sorted(serials), sorted(by_serial))
+        groups = groups_of(serials, parts)
         found = {"late"}
-        for row, part in zip(wanted, parts):
-            found |= self.check_part(planner, unfinished, row, part, now)
+        for serial, part in zip(serials, parts):
+            found |= self.check_part(planner, unfinished, by_serial[serial], part, now)
+        # groups stand in the order of their first rows, as rows of a group do; each cause is told once
+        places = [[wanted.index(by_serial[serial]) for serial in group] for group, _ in groups]
+        self.assertEqual(places, sorted(map(sorted, places)))
+        causes = [cause for _, cause in groups if cause]
+        self.assertEqual(len(causes), len(set(causes)))
+        for group, cause in groups:
+            found |= self.check_cause(planner, unfinished, [by_serial[serial] for serial in group], cause)
         return found
 
     def check_part(self, planner, unfinished, row, part, now):
@@ -82,13 +92,17 @@ class Late(unittest.TestCase):
             "its time is to come" if ia > now else "blocked" if waits else "ready")
         self.assertIn(f"  {state} ", head)
         self.assertEqual("added by hand" in below, cycle is None)
-        self.assertEqual("waits for" in below, bool(waits))
-        if waits:
-            key = re.search(r"waits for ([A-Z0-9@#$]+) ([0-9-]+ [0-9.]+), which is", below).groups()
-            roots = {unfinished[root][1:3] for root in self.roots(planner, unfinished, serial)}
-            self.assertIn((key[0], moments.moment_of(key[1].replace(" ", "/"))), roots)
-            found.add("waits for")
         return found | {state} | ({"added by hand"} if cycle is None else set())
+
+    def check_cause(self, planner, unfinished, rows, cause):
+        """What some rows wait for, each of them, or nothing where one waits for nothing."""
+        for serial, *_ in rows:
+            waits = {last for first, last in planner.pairs if first == serial and last in unfinished}
+            self.assertEqual(bool(cause), bool(waits) and planner.current[serial][1] == "W")
+            if cause:
+                roots = {unfinished[root][1:3] for root in self.roots(planner, unfinished, serial)}
+                self.assertIn(cause, roots)
+        return ({"waits for"} if cause else set()) | ({"wait for"} if cause and len(rows) > 1 else set())
 
     def roots(self, planner, unfinished, serial):
         """What it waits for and what waits for nothing itself."""
@@ -102,6 +116,23 @@ class Late(unittest.TestCase):
             left += waits - seen
             seen |= waits
         return found - {serial}
+
+
+def groups_of(serials, parts):
+    """The serials of the rows that stand together, with the key of what they wait for, or None: it stands below the
+    last, with how many they are."""
+    groups, left = [], []
+    for serial, part in zip(serials, parts):
+        left.append(serial)
+        said = re.search(r"(?:waits|these ([0-9]+) wait) for ([A-Z0-9@#$]+) ([0-9-]+ [0-9.]+), which is",
+                         " ".join(part))
+        if said is None:
+            continue
+        number = int(said[1] or 1)
+        groups += [([serial], None) for serial in left[:-number]]
+        groups.append((left[-number:], (said[2], moments.moment_of(said[3].replace(" ", "/")))))
+        left = []
+    return groups + [([serial], None) for serial in left]
 
 
 def minutes_of(text):

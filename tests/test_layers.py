@@ -13,6 +13,8 @@ LAYERS = {
     "errors": "the one hierarchy of errors",
     "rules": "forms, statements, definitions, refusals, words for them; opens no file",
     "plans": "a plan file and its journal, copies, locks, trials over a copy, and what is made of rows",
+    "needs": "what of a plan needs a person, from facts of the plan, its journal, agents and machines",
+    "acts": "what an operator wants, as a stream with its preview and its inverse",
     "cli": "words, output, signals and version of a command",
     "webpage": "the page that shows a plan",
     "desk": "one planner for many callers, and its client",

@@ -147,9 +147,9 @@ class OfADesk(desks.Case):
         with self.assertRaises(opcplan.Desk.Refused) as refused:
             asked.rows("ltp", status="W")
         self.assertEqual(refused.exception.status, 400)
-        self.assertEqual(asked.log(7), "")
-        client.Client(desk.socket).request("PUT", "/logs/7?try=2", "grün\n".encode())
-        self.assertEqual(asked.log(7), "grün\n")
+        self.assertEqual(asked.log(1), "")
+        client.Client(desk.socket).request("PUT", "/logs/1?try=2", "grün\n".encode())
+        self.assertEqual(asked.log(1), "grün\n")
         self.end(desk)
         self.assertRaises(opcplan.Desk.Away, asked.rows)
 

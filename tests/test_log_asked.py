@@ -46,6 +46,15 @@ class Asked(Case):
             self.assertEqual(body.count("\n"), before + count)
         self.end(first, second)
 
+    def test_a_log_of_a_job_whose_start_another_desk_answered(self):
+        first, second = self.desk("a"), self.desk("b")
+        for place, app in enumerate(desks.APPS[:10:2]):
+            serial = 2 * place + 1
+            self.assertEqual(second.asked("PUT", f"/logs/{serial}", "text", X_Opcplan="desk")[0], 409)
+            first.posted(START.replace("APP00", app).replace("08.00", f"08.{app[3:]}"))
+            self.assertEqual(second.asked("PUT", f"/logs/{serial}", "text", X_Opcplan="desk")[0], 204)
+        self.end(first, second)
+
     def test_a_change_asks_for_the_state_that_another_desk_showed(self):
         first, second = self.desk("a"), self.desk("b")
         tag = first.asked("GET", "/rows?list=cp")[1]["ETag"]

@@ -7,7 +7,7 @@ import unittest
 
 from support import desks, machines, plans
 
-CALLERS, TURNS = 20, 4
+CALLERS, TURNS = 20, 2
 
 
 @unittest.skipIf(machines.why_not(), machines.why_not())
@@ -15,7 +15,7 @@ class Kills(machines.Case):
     def test_nothing_is_lost_and_nothing_doubled(self):
         over = self.machines(plans.of_stream(desks.CENTRE))
         callers = machines.Callers(over.ports, CALLERS, TURNS)
-        self.assertGreater(callers.statements, CALLERS * 80)
+        self.assertGreater(callers.statements, CALLERS * 40)
         callers.start()
         callers.wait(0.1)
         over.kill(0)

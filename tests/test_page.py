@@ -9,8 +9,9 @@ from unittest import mock
 from support import data_centre, page_reader as read, plans
 from support.page_reader import ask, parts_of
 
+from opcplan.plans import plan_file, row_model, waits
 from opcplan.rules import moments
-from opcplan.webpage import page_data, page_html, page_model, page_queries
+from opcplan.webpage import page_data, page_html, page_queries
 from opcplan.webpage.page_queries import Row
 
 
@@ -26,6 +27,15 @@ def lists_in(data):
     each = zip(names, data["lists"], data["limits"], strict=True)
     return {name: {names[other] if isinstance(other, int) else other: within
                    for other, within in zip(listed, limits, strict=True)} for name, listed, limits in each if listed}
+
+
+def held_up(path):
+    """The serials of the rows of the current plan, and their model with what holds others up."""
+    with plan_file.opened(path) as plan:
+        rows, pairs = waits.unfinished(plan)
+    model = row_model.of_waits(rows, pairs, NOW)
+    row_model.find_holds(model, rows)
+    return [row.serial for row in rows], model
 
 
 class Centre(unittest.TestCase):
@@ -109,13 +119,13 @@ class Centre(unittest.TestCase):
             JOIN cp_row s ON s.serial = successor WHERE s.status = 'W' AND (p.status IN ('E', 'S') OR p.status = 'W'
             AND p.ia <= ? AND NOT EXISTS (SELECT 1 FROM dependency d JOIN cp_row b ON b.serial = d.predecessor
                 WHERE d.successor = p.serial AND b.status <> 'C'))"""
-        serials = read.serials_in(self.data)
-        found = [serials[place] for place, *_ in self.data["holds"]]
+        serials, model = held_up(self.path)
+        found = [serials[one.place] for one in model.holds]
         wanted = [serial for serial, in ask(self.path, holders, NOW)]
-        self.assertEqual((sorted(found), self.data["holdCount"]), (sorted(wanted), len(wanted)))
+        self.assertEqual((sorted(found), model.hold_count), (sorted(wanted), len(wanted)))
         errors = {serial for serial, in ask(self.path, "SELECT serial FROM cp_row WHERE status = 'E'")}
         self.assertTrue(errors - set(found), "one in error holds nobody up")
-        for place, number, _, first in self.data["holds"]:
+        for place, number, _, first in model.holds:
             self.assertEqual(number, ask(self.path, text, serials[place])[0][0])
             self.assertGreater(number, 0)
             self.assertEqual(self.shown[serials[first]][3], min(
@@ -215,8 +225,10 @@ class Cut(unittest.TestCase):
         self.assertEqual(data["jobCount"], len(jobs) - last)
 
     def test_what_holds_others_up(self):
-        whole, cut = page_data.data_of(self.path, NOW), self.data(page_model, "MOST_HEADS", 2)
-        self.assertEqual((len(cut["holds"]), cut["holdCount"]), (2, len(whole["holds"])))
+        _, whole = held_up(self.path)
+        with mock.patch.object(row_model, "MOST_HEADS", 2):
+            _, cut = held_up(self.path)
+        self.assertEqual((len(cut.holds), cut.hold_count), (2, len(whole.holds)))
 
     def test_without_a_script(self):
         text = f"SELECT count(*) FROM cp_row WHERE status = 'E' OR status IN ('W', 'S') AND deadline < {NOW}"
@@ -253,14 +265,15 @@ class Roots(unittest.TestCase):
                 rows = sorted({self.WORST_FIRST[first], self.WORST_FIRST[other], self.LAST}, key=lambda row: row.ia)
                 pairs = [(9, row.serial) for row in rows[:-1]]
                 for order in (pairs, pairs[::-1]):
-                    model = page_model.of_rows(rows, order, 100)
+                    model = row_model.of_rows(rows, order, 100)
                     last = len(rows) - 1
                     self.assertEqual(rows[model.roots[last]], self.WORST_FIRST[first])
                     self.assertEqual(model.at_risk, [last] if first < 4 else [])
 
     def test_what_is_complete_is_no_root(self):
         rows = [Row(1, "DONE", 0, 90, None, "C"), Row(2, "OLD", 1, 90, None, "H"), Row(9, "LAST", 2, 500, None, "W")]
-        model = page_model.of_rows(rows, [(9, 1), (9, 2)], 100)
+        model = row_model.of_rows(rows, [(9, 1), (9, 2)], 100)
+        row_model.find_holds(model, rows)
         self.assertEqual((model.states, model.roots, model.holds), (["C", "H", "R"], {}, []))
 
 

@@ -7,13 +7,12 @@ import shutil
 import sqlite3
 import subprocess
 import tempfile
-import time
 import unittest
 from contextlib import closing
 from pathlib import Path
 from unittest import mock
 
-from support import plans, timing
+from support import plans
 
 from opcplan.errors import Unreadable
 from opcplan.plans import page_sums, plan_file
@@ -148,16 +147,23 @@ class PageSums(unittest.TestCase):
         ran = subprocess.run(words, input=b"list ltp\n", capture_output=True, check=False)
         self.assertEqual(ran.returncode, 0)
 
-    def test_two_hundred_megabytes_take_seconds(self):
-        file = self.room / "long.db"
+    def test_pages_are_added_up_by_the_piece(self):
+        """Not one by one. How long 200 MB take, `tools/soak/seconds` prints."""
+        file, pieces = self.room / "long.db", []
         head = bytearray(4096)
         head[16:18], head[20] = b"\x10\x00", 8
         file.write_bytes(bytes(head[:-8]) + tool().sum_of(head[:-8]))
         with open(file, "r+b") as target:
-            target.truncate(200 << 20)
-        began = time.process_time()
-        self.assertIsNone(page_sums.first_wrong(file))
-        self.assertLess(time.process_time() - began, timing.limit(4))
+            target.truncate(5 << 20)
+
+        def first_unlike(pages, size):
+            pieces.append(len(pages))
+            return added_up(pages, size)
+
+        added_up = page_sums.first_unlike
+        with mock.patch.multiple(page_sums, first_unlike=first_unlike, MOST_BYTES=2 << 20):
+            self.assertIsNone(page_sums.first_wrong(file))
+        self.assertEqual(pieces, [2 << 20, 2 << 20, 1 << 20])
 
 
 if __name__ == "__main__":

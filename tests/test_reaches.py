@@ -110,13 +110,17 @@ class Reported(unittest.TestCase):
         program = ("--program", plans.PROGRAM)
         checked = plans.plan("check", self.plan, self.stream(EXTEND), *program)
         self.assertEqual((found_in(checked.stdout), checked.returncode), (sorted(ALL), 1), checked.stderr)
-        self.assertEqual(read.data_in(read.page_of(self.plan))["short"], [])
+        self.assertEqual(self.on_the_page(read.page_of(self.plan)), [])
         ran = plans.plan("run", self.plan, self.stream(EXTEND), "--yes", *program)
         self.assertEqual((found_in(ran.stdout), ran.returncode), (sorted(ALL), 0), ran.stderr)
         page = read.page_of(self.plan)
-        self.assertEqual(sorted(read.data_in(page)["short"]), sorted(ALL))
+        self.assertEqual(sorted(self.on_the_page(page)), sorted(ALL))
         plain = re.search(r"<noscript>(.*?)</noscript>", page, re.S)[1]
-        self.assertTrue(all(f"<p>{text}</p>" in plain for text in ALL))
+        self.assertTrue(all(f"<p>Needs a person: {text}. First: " in plain for text in ALL))
+
+    def on_the_page(self, page):
+        """What the page says of definitions that end."""
+        return [one["text"] for one in read.data_in(page)["needs"]["needs"] if one["kind"] == "definitions"]
 
 
 class Forms(unittest.TestCase):

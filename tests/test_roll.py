@@ -1,6 +1,7 @@
 """./plan roll: what it does is what the plain planner makes of its statements, once, however often and however far it
 is run; and what it doesn't do."""
 
+import json
 import os
 import re
 import sqlite3
@@ -18,8 +19,8 @@ MONDAY = plans.stream("monday")
 NOW = "2024-01-02/05.30"
 WORDS = ("--now", NOW, "--at", "06.00")
 # what is due at that moment: fewer than 60 days are left on January 2, up to March 1, and the current plan has to reach
-# January 3, 05.30
-DUE = ("ltp-extend --to 2024-03-31", "dp-extend --to 2024-01-03/06.00")
+# January 4, 05.30: a roll that is missed leaves a whole day
+DUE = ("ltp-extend --to 2024-03-31", "dp-extend --to 2024-01-04/06.00")
 FAILED = b"cp-start --app REPORT --ia 2024-01-01/20.00 --job 50\ncp-fail --app REPORT --ia 2024-01-01/20.00 --job 51\n"
 
 
@@ -62,7 +63,7 @@ class Roll(unittest.TestCase):
         self.assert_done()
         again = self.roll(*WORDS)
         self.assertEqual((again.returncode, again.stderr, again.stdout), (
-            0, "", "The current plan ends 2024-01-03 06.00, the long-term plan 2024-03-31: nothing is due.\n"))
+            0, "", "The current plan ends 2024-01-04 06.00, the long-term plan 2024-03-31: nothing is due.\n"))
         self.assert_done()
         self.assertEqual(jobs(self.plan), sorted((text, "ok") for text in DUE))
 
@@ -86,6 +87,7 @@ class Roll(unittest.TestCase):
             kind = "error" if what == "in error" else "late"
             self.assertEqual(ran.stderr, "plan: nothing was done: the daily plan is due, but --stop-on "
                                          f"{kind} stops it for {row}, {what}\n")
+            self.assertIn(f"Needs a person: {row} is in error", ran.stdout)
             self.assertEqual(expected.of_file(self.plan), before)
         for words in (["error:LEDGER"], ["late"]):  # its deadline is still to come
             self.assertEqual(self.roll(*WORDS, "--try", "--stop-on", *words).returncode, 0, words)
@@ -129,10 +131,22 @@ class Roll(unittest.TestCase):
         self.assert_done()
         self.assertEqual(jobs(self.plan), sorted((text, "ok") for text in DUE))
 
+    def test_a_fault_in_place_of_the_last_answer_is_reported(self):
+        program = self.room / "faulty"
+        program.write_text(f'#!/bin/sh\ncase "$2" in {self.plan}) head -n 1 | {plans.PROGRAM} "$@"; echo fault 41; '
+                           f'exit 8;; esac\nexec {plans.PROGRAM} "$@"\n')
+        program.chmod(0o755)
+        ran = self.roll(*WORDS, program=program)
+        self.assertEqual(ran.returncode, 8)
+        self.assertIn("plan: the planner answered 1 of 2 statements; run it again, and nothing is done twice\n",
+                      ran.stderr)
+        self.assertEqual(self.roll(*WORDS).returncode, 0)
+        self.assert_done()
+
     def test_a_number_under_which_the_plan_has_a_refusal_is_not_used_again(self):
         """As one that was refused because somebody changed the plan between trial and statement."""
         second = self.numbers()[1]
-        refused = f"dp-extend --to 2024-01-03/06.00 --job {second}\n"
+        refused = f"dp-extend --to 2024-01-04/06.00 --job {second}\n"
         short = plans.copy_of(plans.of_stream(MONDAY.replace(b"--to 2024-01-31", b"--to 2024-01-02")), self.room,
                               "short.db")
         self.runs(refused.encode(), short)
@@ -232,6 +246,35 @@ class ByDesk(desks.Case):
         self.assertEqual(found[0].returncode, 0, found[0].stderr)
         self.end(desk)
         self.assert_done()
+
+    def needs(self, desk):
+        """The needs of the current plan that a desk lists, by kind, and what is said of them."""
+        found = json.loads(desk.asked("GET", f"/status?now={NOW}")[2])["needs"]
+        return {one["kind"]: one["text"] for one in found if one["kind"] in ("error", "roll", "plan-end")}
+
+    def test_what_stops_it_needs_a_person_until_it_is_done(self):
+        desk = self.desk()
+        self.assertEqual(set(self.needs(desk)), {"plan-end"})
+        desk.posted("cp-start --app REPORT --ia 2024-01-01/20.00\ncp-fail --app REPORT --ia 2024-01-01/20.00\n")
+        self.assertEqual(self.roll(desk.socket, "--stop-on", "error", "--try").returncode, 1)
+        self.assertEqual(set(self.needs(desk)), {"error", "plan-end"})
+        ran = self.roll(desk.socket, "--stop-on", "error")
+        self.assertEqual(ran.returncode, 1)
+        self.assertEqual(re.findall(r"^Needs a person: (roll is stopped|REPORT)", ran.stdout, re.M),
+                         ["roll is stopped", "REPORT"])
+        found = self.needs(desk)
+        self.assertEqual(set(found), {"error", "roll"})
+        self.assertEqual(found["roll"], "roll is stopped: the daily plan is due, but --stop-on error stops it for "
+                         "REPORT 2024-01-01 20.00 (serial 2), in error; the current plan ended 2024-01-02 00.00, 5 h "
+                         "30 min ago, and nothing new starts")
+        ran = self.roll(desk.socket)
+        self.assertEqual((ran.returncode, ran.stderr), (0, ""))
+        # what it did itself needs nobody any more
+        self.assertEqual(re.findall(r"^Needs a person: ([a-z]*(?: [a-z]+)*)", ran.stdout, re.M), [""])
+        self.assertEqual(set(self.needs(desk)), {"error"})
+        self.assertRegex(ran.stdout, r"(?m)^Needs a person: REPORT 2024-01-01 20.00 \(serial 2\) is in error; .*"
+                         r"First: read the end of its job's log, ")
+        self.end(desk)
 
     def test_somebody_who_may_not(self):
         tokens = self.room / "tokens"

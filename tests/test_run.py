@@ -1,5 +1,7 @@
 """./plan run: what it shows, when it asks, what it runs, and its exit status."""
 
+import contextlib
+import io
 import os
 import pty
 import re
@@ -14,6 +16,9 @@ from pathlib import Path
 
 from support import desks, expected, plans
 from support.plans import plain
+
+from opcplan.commands import run
+from opcplan.desk import client
 
 from test_check import BASE, HOLIDAY
 from test_what_if import table_shown, table_wanted
@@ -51,8 +56,10 @@ class Run(unittest.TestCase):
         ran = self.asked(HOLIDAY, "--yes")
         self.assertEqual((ran.returncode, ran.stderr), (0, ""))
         self.assertTrue(ran.stdout.startswith("line 1: drops 20 entries of DEFAULT: SAT, SUN, 2026-01-01,"))
-        self.assertIn("    drops 20 entries of DEFAULT: SAT, SUN,", ran.stdout)
-        self.assertIn("    adds 1 entry to DEFAULT: 2026-11-18 FREE\n", ran.stdout)
+        # what a line tells isn't told again, and the name stands once before what it doesn't tell
+        self.assertEqual(ran.stdout.count("drops 20 entries"), 1)
+        self.assertIn("\nDefinitions:\n  calendars changed:\n    DEFAULT: adds 1 entry: 2026-11-18 FREE\n\n",
+                      ran.stdout)
         self.assertRegex(ran.stdout, f"\n *{made}  new -> long-term plan\n")
         self.assertRegex(ran.stdout, f"\n *{withdrawn}  long-term plan -> withdrawn\n")
         wanted = table_wanted(before, after)
@@ -73,6 +80,7 @@ class Run(unittest.TestCase):
         for day, due in (("2026-11-25", "2026-11-26"), ("2026-12-23", "2026-12-24")):
             self.assertIn(f"{day} 08.00  long-term plan  long-term plan  {day} 16.00, then {due} 12.00\n", ran.stdout)
         self.assertIn("2  long-term plan, with another deadline or run cycle\n", ran.stdout)
+        self.assertIn("\nDefinitions:\n  run cycles changed, as above: REPORT\n\n", ran.stdout)
 
     def test_refusals_stand_below_their_answers(self):
         text = "cp-start --app LEDGER --ia 2026-11-03/20.00 --job 20\nlist cp --app SALES\nquit\n"
@@ -231,6 +239,32 @@ class Run(unittest.TestCase):
         self.assertNotIn("\x1b", plain.stdout)
 
 
+class Beside(client.Client):
+    """A client of a desk beside which somebody else changes the plan: behind each copy, and before a stream is sent,
+    six times at most."""
+
+    def __init__(self, desk, others):
+        super().__init__(str(desk.socket))
+        self.desk, self.others, self.done, self.copies, self.sent = desk, list(others), [], 0, 0
+
+    def change(self):
+        if self.others:
+            self.done.append(self.others.pop(0))
+            assert self.desk.posted(self.done[-1])[2].startswith("ok serial"), self.done
+
+    def download(self, path, file):
+        found = super().download(path, file)
+        self.copies += 1
+        self.change()
+        return found
+
+    def statements(self, *given):
+        self.sent += 1
+        if self.sent <= 6:
+            self.change()
+        return super().statements(*given)
+
+
 @unittest.skipIf(desks.why_not(), desks.why_not())
 class ByADesk(desks.Case):
     """A stream that a desk does, once it was tried on a copy of its plan."""
@@ -334,6 +368,33 @@ class ByADesk(desks.Case):
         texts = "".join(f"{text}\n" for text in self.journal())
         self.end(desk)
         self.assertEqual(expected.of_file(self.plan), expected.of_stream(self.TEXT, texts))
+
+    def test_a_change_of_others_before_each_request(self):
+        """What has nothing to do with the stream costs no new trial, and what has, one; all is done once and in
+        order."""
+        own = [f"cp-{what} --app REPORT --ia 2024-01-01/20.00" for what in ("start", "fail", "reset", "start")]
+        own.append("cp-add --app REPORT --ia 2024-01-01/19.00")
+        (self.room / "x.in").write_text("".join(f"{line}\n" for line in own), encoding="ascii")
+        near = "cp-add --app {} --ia 2024-01-01/{:02}.30"
+        for name, app, most, copies in (("apart", "MORE", 30, 1), ("near", "REPORT", 5, 4)):
+            with self.subTest(name):
+                self.plan = plans.copy_of(plans.of_stream(self.TEXT), self.room, f"{name}.db")
+                desk = self.desk()
+                desk.posted("define applications\nMORE,A,\n/*\n")
+                others = [near.format(app, hour) for hour in range(23)][:most]
+                beside, said = Beside(desk, others), io.StringIO()
+                with contextlib.redirect_stdout(io.StringIO()), contextlib.redirect_stderr(said):
+                    status = run.run_by_desk(run.Settings(None, str(self.room / "x.in"), str(plans.PROGRAM),
+                                                          is_agreed=True), beside)
+                self.assertEqual((status, beside.copies), (0, copies), said.getvalue())
+                self.assertEqual(said.getvalue().count("the rest is tried on the plan as it is now"), copies - 1)
+                found = [text.partition(" --job ")[0] for text in self.journal()][1:]
+                self.assertEqual([text for text in found if text in own], own)
+                self.assertEqual([text for text in found if text not in own], beside.done)
+                self.assertGreaterEqual(len(beside.done), 5)
+                texts = "".join(f"{text}\n" for text in self.journal())
+                self.end(desk)
+                self.assertEqual(expected.of_file(self.plan), expected.of_stream(self.TEXT, texts))
 
     def test_wrong_words_and_a_desk_that_is_away(self):
         for words, status in (((), 2), ((self.plan, "--desk", "127.0.0.1:1"), 2),

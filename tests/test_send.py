@@ -76,8 +76,8 @@ class Send(unittest.TestCase):
         ):
             number = max([9, *(number for number, _ in self.jobs())]) + 1
             sent = line if line.startswith("list") or "--job" in line else f"{line} --job {number}"
-            planner = plans.plain.Planner()
-            plans.plain.run(b"\n".join([MONDAY, *(text.encode() for _, text in self.jobs())]), planner)
+            planner = plans.planner_from(MONDAY)
+            plans.plain.run(b"\n".join(text.encode() for _, text in self.jobs()), planner)
             with self.subTest(line):
                 ran = self.send(*words)
                 self.assertEqual(ran.stdout.splitlines(), plans.plain.run(sent.encode(), planner))
@@ -122,8 +122,8 @@ class Send(unittest.TestCase):
             (["ltp-delete", "LEDGER", "2024-01-09/19.00"], "ltp-delete --app LEDGER --ia 2024-01-09/19.00 --job 14"),
         ):
             with self.subTest(words):
-                planner = plans.plain.Planner()
-                plans.plain.run(b"\n".join([MONDAY, *(text.encode() for _, text in self.jobs())]), planner)
+                planner = plans.planner_from(MONDAY)
+                plans.plain.run(b"\n".join(text.encode() for _, text in self.jobs()), planner)
                 ran = self.send(*words)
                 self.assertEqual(ran.stdout.splitlines(), plans.plain.run(line.encode(), planner), ran.stderr)
                 self.assertEqual(self.jobs()[-1][1], line)
@@ -133,12 +133,9 @@ class Send(unittest.TestCase):
 
     def test_a_moment_that_is_none_is_reported(self):
         for words, says in (
-            ("start LEDGER 20.00", "it lacks its day: YYYY-MM-DD/20.00"),
             ("start LEDGER 8:30", "it lacks its day: YYYY-MM-DD/08.30"),
             ("start LEDGER today/20.00", "`today` isn't a day: write it as YYYY-MM-DD"),
             ("cp-start --app LEDGER --ia today", "`today` isn't a day: write it as YYYY-MM-DD"),
-            ("start LEDGER 2027-01-05", "it lacks its time: 2027-01-05/00.00 is the midnight that begins the day"),
-            ("start LEDGER 05.01.2027", "it lacks its time: 2027-01-05/00.00 is the midnight that begins the day"),
             ("start LEDGER 05.01.2027/20.00", "write it as 2027-01-05/20.00"),
             ("start LEDGER 2027-01-05/8.00", "write it as 2027-01-05/08.00"),
         ):
@@ -146,6 +143,24 @@ class Send(unittest.TestCase):
             self.assertEqual((ran.returncode, ran.stdout), (2, ""), words)
             self.assertIn(f": {says}; nothing was sent\n", ran.stderr)
             self.assertNotIn("--job", ran.stderr)
+
+    def test_an_occurrence_that_nothing_fits_is_reported(self):
+        """A minute or a day alone may name one; if none fits, the nearest runs are named. LEDGER arrives at 18.00 on
+        each work day of January 2024."""
+        for words, says in (
+            ("start LEDGER 20.00", "No run of LEDGER arrives then: the last before it is 2024-01-31 18.00"),
+            ("start LEDGER 2027-01-05", "No run of LEDGER arrives then: the last before it is 2024-01-31 18.00"),
+            ("start LEDGER 05.01.2027", "No run of LEDGER arrives then: the last before it is 2024-01-31 18.00"),
+        ):
+            ran = self.send(*words.split())
+            self.assertEqual((ran.returncode, ran.stdout), (2, ""), words)
+            self.assertEqual(f"plan: {says}; nothing was sent\n", ran.stderr)
+
+    def test_an_application_alone_names_its_one_occurrence(self):
+        """REPORT has one occurrence that can be started, on 2024-01-01; the others are in the long-term plan."""
+        ran = self.send("start", "REPORT")
+        self.assertEqual((ran.returncode, ran.stdout.splitlines()), (0, ["ok serial 2 status S"]), ran.stderr)
+        self.assertIn("--app REPORT --ia 2024-01-01/20.00", self.jobs()[-1][1])
 
     def test_a_stream(self):
         text = plans.stream("tuesday")
@@ -217,7 +232,6 @@ class Send(unittest.TestCase):
         for words in (
             ["strt", "REPORT", "2024-01-01/20.00"],
             ["start"],
-            ["start", "REPORT"],
             ["start", "REPORT", "tomorrow"],
             ["start", "REPORT", "2024-01-01/20.00\nltp-modify-all --job 99"],
             ["start", "RÉPORT", "2024-01-01/20.00"],

@@ -53,6 +53,9 @@ SAID = (
     (["late", "plan.db", "--nwo", "06.00"], "there is no option --nwo (did you mean --now?);"),
     (["list", "plan.db"], "there is no subcommand 'list' (did you mean rows?);"),
     (["holidays"], "there is no subcommand 'holidays' (did you mean import?);"),
+    (["gantt", "plan.db"], "there is no subcommand 'gantt': `./plan page PLAN.db` draws each day"),
+    (["history"], "there is no subcommand 'history': `./plan rows PLAN.db history` prints what is complete, and "),
+    (["forecast", "plan.db"], "there is no subcommand 'forecast': `./plan late PLAN.db --journal FILE` says when"),
     (["help", "pgae"], "there is no subcommand 'pgae' (did you mean page?);"),
     (["run", "plan.bd", "base.in"], "plan.bd: there is no such file (did you mean plan.db?); --new makes a new plan "
                                     "there"),

@@ -10,7 +10,7 @@ from pathlib import Path
 
 from support import data_centre, desks, plans
 
-from opcplan.plans import locks
+from opcplan.plans import locks, plan_name
 from opcplan.rules import moments
 
 NAMES = ("monday", "week-of-daily-plans", "statuses-carried", "predecessor-fails-and-goes")
@@ -58,13 +58,14 @@ class Status(unittest.TestCase):
         self.assertEqual(ran.returncode, 1)
         open_rows = sorted((row[3], row[2], row[1], row[0], status) for row, status in planner.current.values()
                            if status in "WSE")
-        groups = {"In error": [one for one in open_rows if one[4] == "E"],
-                  "Late": [one for one in open_rows if one[4] != "E" and one[0] < now],
-                  "Due next": [one for one in open_rows if one[4] != "E" and one[0] >= now]}
-        for title, rows in groups.items():
-            shown = ran.stdout.partition(f"\n{title}")[2].partition("\n\n")[0].splitlines()[1:]
-            serials = [int(re.search("serial ([0-9]+)", line)[1]) for line in shown]
-            self.assertEqual(serials, [one[3] for one in rows[:5]], title)
+        shown = ran.stdout.partition("\nDue next")[2].partition("\n\n")[0].splitlines()[1:]
+        serials = [int(re.search("serial ([0-9]+)", line)[1]) for line in shown]
+        self.assertEqual(serials, [one[3] for one in open_rows if one[4] != "E" and one[0] >= now][:5])
+        shown = ran.stdout.partition("\nNeeds a person:\n")[2].partition("\n\n")[0].splitlines()
+        first = [int(re.search("serial ([0-9]+)", line)[1]) for line in shown if " is in error; it " in line]
+        self.assertEqual(sorted(first), sorted(one[3] for one in open_rows if one[4] == "E"))
+        self.assertTrue(any(" is late by " in line for line in shown))
+        self.assertTrue(any(line.startswith("    First: ") for line in shown))
 
     def test_who_has_the_plan(self):
         path = plans.copy_of(plans.of_worked("monday"), self.room)
@@ -131,7 +132,10 @@ class OfADesk(desks.Case):
     TEXT = plans.stream("monday")
 
     def test_a_desk_reports_the_same(self):
+        """Without a desk nobody knows by which name systemd knows the plan."""
         alone = plans.plan("status", self.plan, "--now", "2024-01-01/12.00").stdout.splitlines()[1:]
+        self.assertTrue(any("`journalctl -u opcplan-roll@NAME`" in line for line in alone))
+        alone = [line.replace("@NAME", f"@{plan_name.of_path(self.plan)}") for line in alone]
         desk = self.desk()
         words = ["status", "--desk", desk.socket, "--now", "2024-01-01/12.00"]
         ran = plans.plan(*words)

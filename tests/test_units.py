@@ -171,7 +171,9 @@ class Units(unittest.TestCase):
         for name in SERVICES - {BACKUP}:
             unit = self.units[name]
             self.assertIn(unit.one("Restart"), ("on-failure", "always"), name)
-            self.assertEqual(unit.one("RestartPreventExitStatus"), str(UsageError.exit_status), name)
+            # what a watch needs to call somebody may come back
+            prevented = "" if name == WATCH else str(UsageError.exit_status)
+            self.assertEqual(unit.one("RestartPreventExitStatus"), prevented, name)
             self.assertEqual(unit.one("StartLimitIntervalSec"), "0", name)
             self.assertGreaterEqual(int(unit.one("RestartSec")), 5, name)
         self.assertNotEqual(roll.StillDue.exit_status, UsageError.exit_status)
@@ -187,7 +189,10 @@ class Units(unittest.TestCase):
             self.assertEqual(self.units[name].one("RestrictAddressFamilies"), "AF_UNIX", name)
         self.assertEqual((self.units[AGENT].one("KillMode"), self.units[AGENT].one("OOMPolicy")),
                          ("process", "continue"))
-        self.assertEqual(self.units[DESK].one("KillMode"), "mixed")
+        for name in (DESK, WATCH):
+            self.assertEqual(self.units[name].one("KillMode"), "mixed", name)
+        self.assertIn("network-online.target", self.units[WATCH].one("Wants"))
+        self.assertIn("network-online.target", self.units[WATCH].one("After"))
 
     def test_timers_have_services(self) -> None:
         for name in TIMERS:

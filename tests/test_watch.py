@@ -2,11 +2,13 @@
 twice and asked to end."""
 
 import contextlib
+import hashlib
 import http.server
 import io
 import json
 import os
 import signal
+import socket
 import subprocess
 import tempfile
 import threading
@@ -17,20 +19,28 @@ from pathlib import Path
 from support import desks, plans
 from support.webhooks import Webhook
 
+from opcplan.needs import need
+from opcplan.rules import moments
 from opcplan.watch import calls, conditions, rulebook, service
 from opcplan.watch.rulebook import Rule, Target
 from opcplan.watch.sightings import Sightings
-from opcplan.watch.state import Call, Mention, State
+from opcplan.watch.state import Call, Event, Mention, State
+from opcplan.watch.workers import Inline
 
 WHO = '[who.me]\ncommand = ["true"]\n'
 GOOD = f'{WHO}[[rule]]\non = "error"\ncall = "me"\n'
-STATUS = {"position": 3, "now": "2024-01-02/12.00", "plan_end": "2024-01-02/18.00", "rows": [], "is_whole": True,
-          "agents": {}, "etcd": [], "trouble": ""}
+STATUS = {"position": 3, "now": "2024-01-02/12.00", "plan_end": "2024-01-02/18.00", "needs": [], "followers": {},
+          "is_whole": True, "agents": {}, "etcd": [], "trouble": ""}
+NOON = moments.moment_of(STATUS["now"])
 
 
-def row(serial, state, deadline="2024-01-02/18.00", **more):
-    return {"serial": serial, "app": "PAY", "ia": "2024-01-02/08.00", "deadline": deadline, "state": state,
-            "late": False, "at_risk": False, "expected": None, "or_later": False, "waits_for": None, **more}
+def listed(name, level=0, since=NOON, **more):
+    """A need as a desk lists it."""
+    kind, _, about = name.partition(":")
+    serial = int(about.partition(":")[0]) if kind in ("error", "unstarted", "unknown", "late", "risk") else None
+    apps = ("PAY",) if serial else ()
+    one = need.Need(name, kind, level, since, f"{name} is the case", "do it", serial=serial, apps=apps)
+    return one._replace(**more).values()
 
 
 class Rules(unittest.TestCase):
@@ -64,20 +74,27 @@ class Rules(unittest.TestCase):
             names = "batch*"
             call = "chat"
             [[rule]]
-            on = "plan-end"
+            on = ["plan-end", "roll"]
             hours = 6
             call = "chat"
+            [[rule]]
+            on = "any"
+            call = "night"
             """
         found = rulebook.of_text(text)
         self.assertEqual(found.sendmail, "/bin/cat")
         self.assertEqual(found.targets["chat"], Target("chat", webhook="https://chat.example.org:8443/hook?x=1",
                                                        secret="/etc/secret"))
         self.assertEqual(found.targets["pager"].command, ("page", "now"))
-        error, late, disk, agent, end = found.rules
+        error, late, disk, agent, end, every = found.rules
         self.assertEqual((error.name, error.apps, error.call), ("error", ("PAY*", "BILL"), ("night", "chat")))
-        self.assertEqual((late.name, late.on, late.minutes, late.call), ("late-1", "late", 15, ("pager",)))
+        self.assertEqual((late.name, late.kinds, late.minutes, late.call), ("late-1", ("late",), 15, ("pager",)))
         self.assertEqual((disk.path, disk.percent), ("/var", 85.5))
         self.assertEqual((agent.minutes, agent.names, end.hours), (2, ("batch*",), 6))
+        self.assertEqual((end.name, end.kinds), ("plan-end", ("plan-end", "roll")))
+        self.assertEqual((every.name, every.kinds), ("any", tuple(rulebook.WORDS)[1:]))
+        self.assertEqual([error.minutes_of("error"), every.minutes_of("late"), every.minutes_of("desk"),
+                          late.minutes_of("late")], [0, 15, 5, 15])
         self.assertEqual(found.calls()["late-1"], ("pager",))
 
     def test_what_is_wrong_is_reported(self):
@@ -86,9 +103,13 @@ class Rules(unittest.TestCase):
             ('rules = 1\n' + GOOD, "did you mean rule?"),
             (GOOD.replace('"me"\n', '"you"\n'), "there is no table [who.you]"),
             (GOOD.replace('"error"', '"errors"'), "did you mean error?"),
-            (GOOD.replace('on = "error"', 'on = "late"'), "lacks the line `minutes`"),
+            (GOOD.replace('"error"', '["error", "lat"]'), "did you mean late?"),
+            (GOOD.replace('"error"', '[]'), "`on` is None"),
+            (GOOD.replace('"error"', '[["late"]]'), "`on` is ['late']"),
+            (GOOD.replace('"error"', '["late", "risk"]') + "minutes = 3\n", "can't have the word `minutes`"),
+            (GOOD.replace('"error"', '"disk"') + "percent = 3\n", "lacks the line `path`"),
             (GOOD.replace('call = "me"\n', ""), "lacks the line `call`"),
-            (GOOD + "minutes = 3\n", "can't have the word `minutes`"), (GOOD + 'apps = []\n', "`apps` must be"),
+            (GOOD + "hours = 3\n", "can't have the word `hours`"), (GOOD + 'apps = []\n', "`apps` must be"),
             (GOOD + 'name = ""\n', "`name` must be a text"), (GOOD + 'name = "a b"\n', "`name` is 'a b'; it must"),
             (GOOD + '[[rule]]\non = "error"\ncall = "me"\n', "another rule has the name 'error'"),
             (GOOD.replace('["true"]', '[]'), "`command` must be"),
@@ -111,95 +132,202 @@ class Rules(unittest.TestCase):
             self.assertIn(reason, str(why.exception))
             self.assertEqual(str(why.exception).count("\n"), 0)
 
+    def test_what_is_wrong_has_its_line(self):
+        text = """sendmail = "/bin/cat"
+[who.me]
+command = ["true"]
+then = "other"
+
+[who.other]
+webhook = "https://chat.example/x"
+
+[[heartbeat]]
+call = "other"
+minutes = 5
+[[rule]]
+on = ["late",
+      "error"]
+minutes = 3
+call = "me"
+
+[[rule]]
+on = "disk"
+path = "/"
+percent = 80
+call = ["me", "other"]
+"""
+        rulebook.of_text(text)
+        for old, new, said in (
+            ('"/bin/cat"', "1", "line 1: the file: `sendmail` must be a text"),
+            ("[who.me]", '[who."m e"]', "line 2: [who.m e]: the name must have"),
+            ('["true"]', "[]", "line 3: [who.me]: `command` must be"),
+            ('then = "other"', 'then = "me"', "line 4: [who.me]: `then` names 'me' itself"),
+            ('then = "other"', 'then = "othr"', "line 4: [who.me]: `then` calls 'othr' (did you mean other?)"),
+            ('then = "other"', "acknowledge = true", "line 4: [who.me]: `acknowledge` needs the line `then`"),
+            ("command", "mail = 'a@b'\ncommand", "line 3: [who.me] must have exactly one of"),
+            ("webhook", "hook", "line 7: [who.other] can't have the word `hook`"),
+            ("https://chat", "https//chat", "line 7: [who.other]: 'https//chat.example/x' is not the address"),
+            ('other"\nminutes', 'me"\nminute', "line 11: heartbeat 1 can't have the word `minute`"),
+            ("minutes = 5", "minutes = 0.5", "line 11: heartbeat 1: `minutes` must be 1 at least"),
+            ('"error"]', '"eror"]', "line 13: rule 1: `on` is 'eror' (did you mean error?)"),
+            ("minutes = 3", "minutes = -3", "line 15: rule 1: `minutes` must be a number"),
+            ('"me"\n\n[[rule]]', '"him"\n\n[[rule]]', "line 16: rule 1 calls 'him', but there is no table [who.him]"),
+            ("percent = 80\ncall", "percent = 80\ncal", "line 22: rule 2 on disk can't have the word `cal`"),
+            ('path = "/"\n', "", "line 20: rule 2 on disk lacks the line `path`"),
+            ('call = ["me", "other"]\n', "", "line 18: rule 2 on disk lacks the line `call`"),
+            ("percent = 80", 'name = "late"', "line 21: rule 2: another rule has the name 'late'"),
+        ):
+            self.assertEqual(text.count(old), 1, old)
+            with self.subTest(new), self.assertRaises(rulebook.InvalidRules) as why:
+                rulebook.of_text(text.replace(old, new))
+            self.assertTrue(str(why.exception).startswith(said), why.exception)
+
 
 class Conditions(unittest.TestCase):
-    def found(self, rule, now=0.0, status=None, sightings=None, disks=None):
+    def found(self, rule, now=0.0, status=None, sightings=None, disks=None, known=()):
         """What a rule finds: levels by event; None where it can't be looked at."""
         seen = conditions.Seen(status, sightings or Sightings(), disks or {})
-        looked = conditions.looked(rule, seen, now)
+        looked = conditions.looked(rule, seen, now, known)
         return None if looked is None else {one.key: one.level for one in looked.found}
 
+    def opened(self, rule, *needs, **more):
+        """The events that a rule opens."""
+        looked = conditions.looked(rule, conditions.Seen({**STATUS, "needs": needs, **more}, Sightings(), {}), 0)
+        return [one.key for one in looked.found if one.opens]
+
+    def test_rules_may_be_on_each_kind_of_needs(self):
+        self.assertEqual(set(rulebook.WORDS), {rulebook.ANY, *need.KINDS})
+
     def test_what_cannot_be_looked_at(self):
-        for on in ("error", "late", "risk", "plan-end", "agent", "etcd"):
-            self.assertIsNone(self.found(Rule("r", on, ())), on)
-        self.assertEqual(self.found(Rule("r", "desk", ())), {})
+        for kind in need.KINDS:
+            if kind != "desk":
+                self.assertIsNone(self.found(Rule("r", (kind,), ())), kind)
+        self.assertEqual(self.found(Rule("r", ("desk",), ())), {})
+        # a desk that is away is found by a rule on more, and nothing else is over
+        seen = Sightings()
+        seen.take(0, {"a": "away"})
+        looked = conditions.looked(Rule("r", ("desk", "error"), ()), conditions.Seen(None, seen, {}), 300)
+        self.assertEqual(([one.key for one in looked.found], looked.is_whole), (["r:desk:a"], False))
 
-    def test_rows(self):
-        status = {**STATUS, "rows": [
-            row(1, "in error"), row(2, "in error", "2024-01-02/10.00", late=True),
-            row(3, "ready", "2024-01-02/11.46", late=True), row(4, "blocked", "2024-01-02/11.00", late=True),
-            row(5, "blocked", at_risk=True), row(6, "in error", app="BILL")]}
-        self.assertEqual(self.found(Rule("e", "error", (), ("P*",)), 0, status), {"e:1": 0, "e:2": 1})
-        self.assertEqual(self.found(Rule("e", "error", (), ("BILL", "X")), 0, status), {"e:6": 0})
-        # late by 120, 14 and 60 minutes
-        self.assertEqual(self.found(Rule("l", "late", (), minutes=15), 0, status), {"l:2": 3, "l:4": 2})
-        self.assertEqual(self.found(Rule("l", "late", (), minutes=60), 0, status), {"l:2": 1, "l:4": 0})
-        self.assertEqual(self.found(Rule("l", "late", (), minutes=0), 0, status), {"l:2": 6, "l:3": 3, "l:4": 5})
-        seen = conditions.Seen(status, Sightings(), {})
-        risks = conditions.looked(Rule("r", "risk", ()), seen, 0).found
-        self.assertEqual([(one.key, one.level, one.opens) for one in risks],
-                         [("r:3", 1, False), ("r:4", 1, False), ("r:5", 0, True)])
-        part = conditions.looked(Rule("e", "error", ()), seen._replace(status={**status, "is_whole": False}), 0)
+    def test_kinds_and_applications(self):
+        needs = [listed("error:1:7", 0), listed("error:2:8", 1), listed("error:6:9", apps=("BILL", "TAX")),
+                 listed("unknown:3:4"), listed("plan-end:2024-01-02/18.00")]
+        status = {**STATUS, "needs": needs}
+        self.assertEqual(self.found(Rule("error", ("error",), (), ("P*",)), 0, status),
+                         {"error:1:7": 0, "error:2:8": 1})
+        self.assertEqual(self.found(Rule("e", ("error",), (), ("TAX", "X")), 0, status), {"e:error:6:9": 0})
+        self.assertEqual(len(self.found(Rule("any", tuple(need.KINDS), ()), 0, status)), 5)
+        part = conditions.looked(Rule("e", ("error",), ()), conditions.Seen({**status, "is_whole": False}, Sightings(),
+                                                                            {}), 0)
         self.assertFalse(part.is_whole)
+        self.assertEqual({one.first for one in part.found}, {"do it"})
 
-    def test_the_end_of_the_plan(self):
-        for end, hours, level in (
-            ("2024-01-02/18.00", 5, None), ("2024-01-02/18.00", 6, 0), ("2024-01-02/18.00", 12, 1),
-            ("2024-01-02/12.01", 6, 8), ("2024-01-02/12.00", 0, 10), ("2024-01-01/12.00", 6, 10),
-        ):
-            found = self.found(Rule("p", "plan-end", (), hours=hours), 0, {**STATUS, "plan_end": end})
-            self.assertEqual(found, {} if level is None else {"p:plan": level}, (end, hours))
-        self.assertEqual(self.found(Rule("p", "plan-end", (), hours=9), 0, {**STATUS, "plan_end": None}), {})
+    def test_minutes_hours_and_days(self):
+        unstarted = listed("unstarted:1:0", since=NOON - 20)
+        self.assertEqual(self.opened(Rule("r", ("unstarted",), (), minutes=20), unstarted), ["r:unstarted:1:0"])
+        self.assertEqual(self.opened(Rule("r", ("unstarted",), (), minutes=21), unstarted), [])
+        to_come = listed("error:1:7", since=NOON + 60)  # the clock was set back since
+        self.assertEqual(self.opened(Rule("r", ("error",), (), minutes=9), to_come), ["r:error:1:7"])
+        late = [listed("late:1", 1, NOON - 14), listed("late:2", 1, NOON - 15)]
+        self.assertEqual(self.opened(Rule("r", ("late",), ()), *late), ["r:late:2"])
+        self.assertEqual(self.opened(Rule("r", ("late",), (), minutes=0), *late), ["r:late:1", "r:late:2"])
+        for hours, opens in ((0, True), (5, False), (6, True)):
+            for kind in ("plan-end", "roll"):
+                one = listed(f"{kind}:2024-01-02/18.00")
+                self.assertEqual(self.opened(Rule(kind, (kind,), (), hours=hours), one), [one["name"]] * opens)
+        for days, opens in ((0, True), (7, False), (8, True)):
+            for name in ("long-term-end:2024-01-10", "definitions:ends:MONTH:2024-01-10"):
+                kind = name.partition(":")[0]
+                self.assertEqual(self.opened(Rule(kind, (kind,), (), days=days), listed(name)), [name] * opens)
+
+    def test_a_chain_at_risk_that_is_late_then(self):
+        """The event of a risk gets worse when it comes true; a rule on risks alone opens none for what is late."""
+        risk, late = listed("late:1", kind="risk"), listed("late:1", 3, NOON - 60)
+        for kinds, found in ((("risk",), [("late:1", 0, True), ("late:1", 1, False)]),
+                             (("late",), [("late:1", 0, False), ("late:1", 3, True)]),
+                             (("risk", "late"), [("late:1", 0, True), ("late:1", 3, True)])):
+            for one, wanted in zip((risk, late), found):
+                seen = conditions.Seen({**STATUS, "needs": [one]}, Sightings(), {})
+                looked = conditions.looked(Rule("late", kinds, ()), seen, 0)
+                first = looked.found[0]
+                self.assertEqual((first.key, first.level, first.opens), wanted, kinds)
+
+    def test_what_another_need_counts_is_not_over(self):
+        status = {**STATUS, "needs": [listed("late:4", 1, NOON - 20, serial=5), listed("agent:etl")],
+                  "followers": {"6": "late:4", "7": "agent:etl"}}
+        rule, seen = Rule("r", ("late", "unstarted"), ()), conditions.Seen(status, Sightings(), {})
+        known = ["r:late:5", "r:late:6", "r:late:9", "r:unstarted:6:0", "r:unstarted:7:0"]
+        looked = conditions.looked(rule, seen, 0, known)
+        self.assertEqual(looked.kept, {"r:late:5", "r:late:6", "r:unstarted:7:0"})
+        watch = State()
+        for key in known:
+            watch.events[key] = Event("r", 0, key, 0)
+        watch.take(1, "r", ("me",), looked)
+        self.assertEqual(set(watch.events), {"r:late:4", *looked.kept})
 
     def test_disks(self):
         for used, level in ((89.9, None), (90, 0), (94.9, 0), (95, 1), (97.6, 2), (100, 6), ("no such file", 0)):
-            found = self.found(Rule("d", "disk", (), path="/x"), disks={"/x": used})
-            self.assertEqual(found, {} if level is None else {"d:/x": level}, used)
+            found = self.found(Rule("disk", ("disk",), (), path="/x"), disks={"/x": used})
+            self.assertEqual(found, {} if level is None else {"disk:/x": level}, used)
+        status = {**STATUS, "needs": [listed("disk:/var")]}
+        self.assertEqual(self.found(Rule("d", ("disk",), ()), 0, status), {"d:disk:/var": 0})
+        self.assertEqual(self.found(Rule("d", ("disk",), (), path="/x"), 0, status, disks={"/x": 1.0}), {})
 
     def test_who_does_not_answer(self):
         seen, down = Sightings(), {**STATUS, "etcd": [{"endpoint": "e1", "answers": False, "why": "gone"},
                                                       {"endpoint": "e2", "answers": True}]}
-        desk, etcd = Rule("d", "desk", (), minutes=2), Rule("e", "etcd", (), minutes=2)
+        desk, etcd = Rule("desk", ("desk",), (), minutes=2), Rule("etcd", ("etcd",), (), minutes=2)
         seen.take(0, {"a": "away", "b": down})
         self.assertEqual(self.found(desk, 119, sightings=seen), {})
-        self.assertEqual(self.found(desk, 120, sightings=seen), {"d:a": 0})
-        self.assertEqual(self.found(etcd, 120, STATUS, seen), {"e:e1": 0})
+        self.assertEqual(self.found(desk, 120, sightings=seen), {"desk:a": 0})
+        self.assertEqual(self.found(etcd, 120, STATUS, seen), {"etcd:e1": 0})
         seen.take(240, {"a": "away", "b": {**STATUS, "trouble": "the disk is full"}})
-        self.assertEqual(self.found(desk, 240, sightings=seen), {"d:a": 1})
-        self.assertEqual(self.found(desk, 360, sightings=seen), {"d:a": 1, "d:b": 0})
+        self.assertEqual(self.found(desk, 240, sightings=seen), {"desk:a": 1})
+        self.assertEqual(self.found(desk, 360, sightings=seen), {"desk:a": 1, "desk:b": 0})
+        # what a desk itself lists of this isn't listed again
+        status = {**STATUS, "needs": [listed("desk:main"), listed("etcd:e9"), listed("agent:x")]}
+        every = Rule("any", tuple(need.KINDS), ())
+        self.assertEqual(self.found(every, 660, status, seen), {"any:desk:a": 1, "any:desk:b": 0})
         seen.take(400, {"a": STATUS, "b": STATUS})
         self.assertEqual((seen.desks, seen.members), ({}, {}))
 
-    def test_agents(self):
-        """One is seen where a desk has counted another look; while no desk answers its time stands still."""
-        rule, seen = Rule("a", "agent", (), minutes=1), Sightings()
+    def test_agents_that_share_a_user(self):
+        status = {**STATUS, "needs": [listed("agent:batch"), listed("agent:batch/etl-2", 1)]}
+        self.assertEqual(self.found(Rule("agent", ("agent",), ()), 0, status), {"agent:batch/etl-2": 1})
+        self.assertEqual(self.found(Rule("agent", ("agent",), (), names=("x*",)), 0, status), {})
 
-        def look(now, **counts):
-            answers = {name: {**STATUS, "agents": {"batch": {"looks": count, "age": 0}}} if count is not None
-                       else "away" for name, count in counts.items()}
-            seen.take(now, answers)
+    def test_agents(self):
+        """One is seen when it contacted a desk, as that desk says; while no desk runs its time stands still."""
+        rule, seen = Rule("agent", ("agent",), (), minutes=1), Sightings()
+
+        def look(now, **contacts):
+            agents = {name: one and {"batch": dict(zip(("looks", "age"), one))} for name, one in contacts.items()}
+            seen.take(now, {name: {**STATUS, "agents": one} if one else "away" for name, one in agents.items()})
             return self.found(rule, now, STATUS, seen)
 
-        self.assertEqual(look(0, a=5), {})
-        self.assertEqual(look(59, a=5), {})
-        self.assertEqual(look(60, a=5), {"a:batch": 0})
-        self.assertEqual(look(120, a=5), {"a:batch": 1})
-        self.assertEqual(look(130, a=6), {})
-        self.assertEqual(look(160, a=0), {})  # the desk was begun again: no look yet
-        self.assertEqual(look(190, a=0), {"a:batch": 0})
-        self.assertEqual(look(200, a=0, b=1), {})  # it asks another desk of the log
+        self.assertEqual(look(0, a=(5, 0)), {})
+        self.assertEqual(look(59, a=(5, 59)), {})
+        self.assertEqual(look(60, a=(5, 60)), {"agent:batch": 0})
+        self.assertEqual(look(120, a=(5, 120)), {"agent:batch": 1})
+        self.assertEqual(look(130, a=(6, 0)), {})
+        self.assertEqual(look(160, a=(0, 30)), {})  # the desk was begun again: no contact yet
+        self.assertEqual(look(190, a=(0, 60)), {"agent:batch": 0})
+        self.assertEqual(look(200, a=(0, 70), b=(1, 0)), {})  # it contacts another desk of the log
         self.assertEqual(look(220, a=None, b=None), {})
         seen.take(820, {"a": "away", "b": "away"})
-        self.assertEqual(look(850, a=0, b=1), {})  # ten minutes of which nothing is known don't count
-        self.assertEqual(look(880, a=0, b=1), {"a:batch": 0})
+        self.assertEqual(look(850, a=(0, 20), b=(0, 30)), {})  # ten minutes in which no desk ran don't count
+        self.assertEqual(look(880, a=(0, 50), b=(0, 60)), {"agent:batch": 0})
         self.assertEqual(self.found(rule._replace(names=("other*",)), 880, STATUS, seen), {})
         again = Sightings.of_kept(json.loads(json.dumps(seen.kept())))
         self.assertEqual(again.kept(), seen.kept())
 
 
 def call_of(kind="new", texts=("PAY is in error",)):
-    return Call("life-1", "me", tuple(Mention(f"e:{place}", "e", kind, 0, text, 60.0, 120.0)
+    return Call("life-1", "me", tuple(Mention(f"e:{place}", "e", kind, 0, text, 60.0, 120.0, "look")
                                       for place, text in enumerate(texts)))
+
+
+FROM = calls.From("main", "the desk", "/state", "/nowhere/sendmail")
 
 
 class Calls(unittest.TestCase):
@@ -209,7 +337,7 @@ class Calls(unittest.TestCase):
         self.room = Path(room.name)
 
     def deliver(self, target, call=None, sendmail="/nowhere/sendmail"):
-        calls.deliver(target, call or call_of(), "the desk", sendmail)
+        calls.deliver(target, call or call_of(), FROM._replace(sendmail=sendmail))
 
     def undelivered(self, target, **how):
         with self.assertRaises(calls.Undelivered) as why:
@@ -219,14 +347,20 @@ class Calls(unittest.TestCase):
     def test_a_command(self):
         script = self.room / "script"
         script.write_text(f'#!/bin/sh\ncat > {self.room}/in\n'
-                          f'echo "$OPCPLAN_CALL $1 $OPCPLAN_TEXT" > {self.room}/words\n')
+                          f'echo "$OPCPLAN_CALL $1 $OPCPLAN_PLAN $OPCPLAN_TEXT" > {self.room}/words\n')
         script.chmod(0o755)
         self.deliver(Target("me", (str(script), "a word")), call_of("over", ("one", "two")))
-        self.assertEqual((self.room / "words").read_text(), "life-1 a word over: one (and 1 more)\n")
+        self.assertEqual((self.room / "words").read_text(), "life-1 a word main main: over: one (and 1 more)\n")
         self.assertEqual(json.loads((self.room / "in").read_text()), {
-            "id": "life-1", "rule": "e", "kind": "over", "desk": "the desk", "text": "over: one (and 1 more)",
-            "events": [{"event": f"e:{place}", "level": 0, "text": text, "since": "1970-01-01T00:01:00.000Z",
-                        "at": "1970-01-01T00:02:00.000Z"} for place, text in enumerate(("one", "two"))]})
+            "id": "life-1", "plan": "main", "rule": "e", "kind": "over", "desk": "the desk",
+            "text": "main: over: one (and 1 more)",
+            "events": [{"event": f"e:{place}", "level": 0, "text": text, "first": "",
+                        "since": "1970-01-01T00:01:00.000Z", "at": "1970-01-01T00:02:00.000Z"}
+                       for place, text in enumerate(("one", "two"))]})
+        self.deliver(Target("me", (str(script), "a word")), call_of("worse", ("one", "two")))
+        self.assertEqual((self.room / "words").read_text(),
+                         "life-1 a word main main: worse: one (and 1 more). First: look\n")
+        self.assertEqual([one["first"] for one in json.loads((self.room / "in").read_text())["events"]], ["look"] * 2)
         self.assertIn("it can't be run: No such file", self.undelivered(Target("me", ("/nowhere/x",))))
         failing = Target("me", ("sh", "-c", "echo no luck >&2; exit 3"))
         self.assertIn("with status 3: no luck", self.undelivered(failing))
@@ -240,6 +374,8 @@ class Calls(unittest.TestCase):
         self.assertEqual((self.room / "words").read_text(), "-i -- ops@example.org\n")
         text = (self.room / "mail").read_text()
         self.assertRegex(text, "(?m)^To: ops@example.org$")
+        self.assertRegex(text, r"(?m)^Subject: \[opcplan main\] worse: ")
+        self.assertRegex(text, "(?m)^First: look$")
         self.assertEqual(text.count("\nSubject: "), 1)
         self.assertNotIn("\x1b", text)
         self.assertIn("it can't be run", self.undelivered(Target("me", mail="a@b")))
@@ -256,7 +392,7 @@ class Calls(unittest.TestCase):
         self.assertIn("it answered with status 503", self.undelivered(target))
         self.assertIn("no complete answer came", self.undelivered(target))
         self.deliver(target)
-        self.assertEqual([body for _, body in [*hook.refused, *hook.taken]], [calls.payload(call_of(), "the desk")] * 3)
+        self.assertEqual([body for _, body in [*hook.refused, *hook.taken]], [calls.payload(call_of(), FROM)] * 3)
         # the HMAC of RFC 2104 over the body, by openssl
         if os.path.exists("/usr/bin/openssl"):
             words = ["openssl", "dgst", "-sha256", "-hmac", "key"]
@@ -302,7 +438,7 @@ NOW = "2024-01-02/09.00"  # REPORT of Monday was due an hour before
 
 @unittest.skipIf(desks.why_not(), desks.why_not())
 class Watches(desks.Case):
-    TEXT = plans.stream("monday")
+    TEXT = plans.stream("monday") + b"cp-start --app REPORT --ia 2024-01-01/20.00 --job 90\n"
 
     def setUp(self):
         super().setUp()
@@ -321,6 +457,12 @@ class Watches(desks.Case):
         sent = map(json.loads, path.read_text().splitlines()) if path.exists() else ()
         return [(one["kind"], event["event"]) for one in sent for event in one["events"]]
 
+    def once(self):
+        """What was called, each id once: a watch that is killed while it calls makes that call again."""
+        path = self.room / "calls"
+        sent = {one["id"]: one for one in map(json.loads, path.read_text().splitlines())} if path.exists() else {}
+        return [(one["kind"], event["event"]) for one in sent.values() for event in one["events"]]
+
     def ids(self):
         return [json.loads(line)["id"] for line in (self.room / "calls").read_text().splitlines()]
 
@@ -328,14 +470,15 @@ class Watches(desks.Case):
         desk = self.desk()
         ran = plans.plan(*self.words(desk.socket, "--try"))
         self.assertEqual((ran.returncode, ran.stderr), (0, ""))
-        self.assertEqual(ran.stdout, "me: run sh\n  REPORT 2024-01-01 20.00 (serial 2) is late by 1 h, ready\n")
+        self.assertEqual(ran.stdout, "me: run sh\n  REPORT 2024-01-01 20.00 (serial 2) is late by 1 h, started\n"
+                         "  First: see with `./plan why` what it waits for, and whether its job hangs\n")
         self.assertEqual((self.calls(), self.state.exists()), ([], False))
         for _ in range(2):
             ran = plans.plan(*self.words(desk.socket, "--once"))
             self.assertEqual(ran.returncode, 0, ran.stderr)
         self.assertEqual(self.calls(), [("new", "late:2")])
         self.assertEqual(plans.plan(*self.words(desk.socket, "--try")).stdout, "Nothing would be sent.\n")
-        desk.posted("cp-start --app REPORT --ia 2024-01-01/20.00\ncp-complete --app REPORT --ia 2024-01-01/20.00\n")
+        desk.posted("cp-complete --app REPORT --ia 2024-01-01/20.00\n")
         plans.plan(*self.words(desk.socket, "--once"))
         self.assertEqual(self.calls(), [("new", "late:2"), ("over", "late:2")])
         self.end(desk)
@@ -373,7 +516,7 @@ class Watches(desks.Case):
         """Killed at each call of what it keeps and sends: nothing is lost, and at most one call comes twice."""
         desk = self.desk()
         given = service.Settings(str(desk.socket), str(self.rules), str(self.state), now=NOW)
-        for stop in range(1, 12):
+        for stop in range(1, 20):
             for path in (self.state, self.room / "calls"):
                 path.unlink(missing_ok=True)
             count = 0
@@ -393,13 +536,18 @@ class Watches(desks.Case):
                     super().keep()
                     self.tick()
 
-                def send(self, call):
+                def begin(self, call):
                     self.tick()
-                    super().send(call)
+                    super().begin(call)
+                    self.tick()
+
+                def take_end(self, done):
+                    self.tick()
+                    super().take_end(done)
                     self.tick()
 
             with contextlib.redirect_stderr(io.StringIO()):
-                watch = Dying(given, service.rules_of(given.rules), None)
+                watch = Dying(given, service.rules_of(given.rules), None, crew=Inline())
                 with contextlib.suppress(Killed):
                     watch.load()
                     watch.step()
@@ -434,17 +582,17 @@ class Watches(desks.Case):
     def test_a_watch_as_a_service(self):
         desk = self.desk()
         watch = self.begun(desk.socket)
-        self.comes(lambda: self.calls() == [("new", "late:2")])
+        self.comes(lambda: self.once() == [("new", "late:2")])
         second = plans.plan(*self.words(desk.socket, "--once"))
         self.assertEqual((second.returncode, second.stdout), (1, ""))
         self.assertIn("another watch uses this state", second.stderr)
         self.end(desk)
-        self.comes(lambda: self.calls()[1:] == [("new", f"desk:{desk.socket}")])
+        self.comes(lambda: self.once()[1:] == [("new", f"desk:{desk.socket}")])
         watch.send_signal(signal.SIGKILL)
         watch.communicate()
         watch = self.begun(desk.socket)
         desk = self.desk()
-        self.comes(lambda: self.calls()[2:] == [("over", f"desk:{desk.socket}")])
+        self.comes(lambda: self.once()[2:] == [("over", f"desk:{desk.socket}")])
         for number in (signal.SIGTERM, signal.SIGINT):
             watch.send_signal(number)
             said = watch.communicate(timeout=60)[1]
@@ -452,7 +600,7 @@ class Watches(desks.Case):
             watch = self.begun(desk.socket)
         watch.send_signal(signal.SIGTERM)
         watch.communicate(timeout=60)
-        self.assertEqual(len(self.calls()), 3)
+        self.assertEqual(len(self.once()), 3)
         self.end(desk)
 
     def test_a_disk_that_takes_nothing_is_no_reason_not_to_call(self):
@@ -478,7 +626,7 @@ class Watches(desks.Case):
             (["--desk", "/x", "--rules", self.rules, "--every", "0"], 2, "is not a number of seconds"),
             (["--desk", "/x", "--rules", self.rules, "--state", self.room / "no" / "x"], 1,
              "the state can't be stored there"),
-            (["--desk", "/x"], 2, "--rules"),
+            (["--desk", "/x"], 2, "give --rules FILE"),
             (["--desk", "/x", "--rules", self.rules, "--try", "--once"], 2, "not allowed"),
         ):
             ran = plans.plan("watch", *words)
@@ -495,9 +643,48 @@ class Watches(desks.Case):
         ran = plans.plan(*self.words("/x", "--once"))
         self.assertEqual((ran.returncode, ran.stderr.count("\n")), (2, 1), ran.stderr)
 
+    def test_desks_hear_of_calls_that_are_not_delivered(self):
+        heard = []
+
+        class Hears(http.server.BaseHTTPRequestHandler):
+            def do_PUT(self):
+                heard.append((self.path, json.loads(self.rfile.read(int(self.headers["Content-Length"])))))
+                self.send_response(204 if len(heard) < 3 else 404)  # an older desk takes no report
+                self.end_headers()
+
+            def do_GET(self):
+                self.send_response(200)
+                self.end_headers()
+                self.wfile.write(json.dumps({**STATUS, "needs": [listed("late:2", 1, NOON - 60)]}).encode())
+
+            def log_message(self, *_):
+                pass
+
+        self.write("exit 1")
+        with http.server.HTTPServer(("127.0.0.1", 0), Hears) as server, contextlib.redirect_stderr(io.StringIO()):
+            threading.Thread(target=server.serve_forever, daemon=True).start()
+            given = service.Settings(f"http://127.0.0.1:{server.server_port}", str(self.rules), str(self.state))
+            watch = service.Watch(given, service.rules_of(given.rules), None)
+            for _ in range(3):
+                watch.step()
+            watch.look()
+            count = len(heard)
+            service.tried(given)  # a trial reports nothing, so no desk takes it for the watch
+            server.shutdown()
+        self.assertEqual(({path for path, _ in heard}, len(heard)), ({"/reports/calls"}, count))
+        name = hashlib.sha256(f"{socket.gethostname()}:{self.state}".encode()).hexdigest()[:16]
+        self.assertEqual({found["watch"] for _, found in heard}, {name})
+        self.assertEqual(heard[0][1]["undelivered"], [])
+        (one,) = heard[-1][1]["undelivered"]
+        self.assertEqual((one["id"], one["target"], one["tries"]), (watch.state.calls["me"].id, "me", 1))
+        self.assertIn("with status 1", one["why"])
+        self.assertLess(abs(one["since"] - time.time()), desks.PATIENCE)
+        self.assertEqual(watch.sightings.desks, {})
+
     def test_answers_that_no_desk_gives(self):
         """Each counts as a desk that doesn't answer, and nothing of the plan is over."""
-        answers = [b"", b"{}", b"[]", b"\xff", json.dumps({**STATUS, "rows": [{}]}).encode(),
+        answers = [b"", b"{}", b"[]", b"\xff", json.dumps({**STATUS, "needs": [{}]}).encode(),
+                   json.dumps({**STATUS, "needs": [{**listed("late:1"), "kind": "x"}]}).encode(),
                    json.dumps({**STATUS, "now": "today"}).encode(), json.dumps({**STATUS, "agents": {"a": 1}}).encode(),
                    json.dumps({**STATUS, "etcd": [1]}).encode()]
 

@@ -1,26 +1,24 @@
 """A weekend by a clock that is handed in: two days in seconds, with a desk, an agent that is killed, three failures,
-one of which holds up a chain until it is late, a timer that extends the plan, and a webhook that refuses twice. Nothing
-is run twice, the daily plan is extended four times, and each call comes once. What is expected is worked out by
-hand."""
+one of which holds up a chain until it is late, and a timer that extends the plan. Nothing is run twice, and the daily
+plan is extended four times. What is expected is worked out by hand.
+
+Nobody is called here. `test_nights_needs` has who is called if a job fails and holds up others (Errors), a chain is
+late (Late), an agent is gone (Unstarted), `roll` doesn't extend the plan (Ends), and the watch begins anew (Away);
+`test_nights_calls` has receivers that refuse at first."""
 
 import collections
 import contextlib
 import dataclasses
-import hashlib
-import hmac
 import io
 import json
-import os
 import time
 import unittest
 
 from support import desks, plans
-from support.webhooks import Webhook
 
 from opcplan.agent import executor
 from opcplan.desk import client
 from opcplan.rules import moments
-from opcplan.watch import rulebook, service
 
 SATURDAY, SUNDAY = "2024-01-06", "2024-01-07"
 STEP = 30  # minutes
@@ -47,56 +45,6 @@ BY_HAND = {f"{SATURDAY}/13.00": f"cp-reset --app PAY --ia {SATURDAY}/08.00\n",
            f"{SUNDAY}/04.00": f"cp-complete --app FEED --ia {SUNDAY}/02.00\n"}
 AGENT_ENDS, AGENT_BEGINS = f"{SUNDAY}/14.00", f"{SUNDAY}/17.00"
 ROLLS = ("05.30", "17.30")
-RULES = """
-sendmail = "%(room)s/sendmail"
-[who.night]
-webhook = "%(url)s"
-secret = "%(room)s/secret"
-[who.ops]
-mail = "ops@example.org"
-[[rule]]
-on = "error"
-call = ["night", "ops"]
-[[rule]]
-on = "late"
-minutes = 15
-call = "night"
-[[rule]]
-on = "risk"
-call = "night"
-[[rule]]
-on = "plan-end"
-hours = 0.5
-call = "night"
-[[rule]]
-on = "agent"
-minutes = 60
-call = "night"
-[[rule]]
-on = "desk"
-minutes = 0
-call = "night"
-"""
-PAY, BILL, REPORT = f"PAY {SATURDAY} 08.00", f"BILL {SATURDAY} 09.00", f"REPORT {SATURDAY} 10.00"
-ERRORS = [
-    ("error", "new", PAY),  # at 08.00
-    ("error", "worse", PAY),  # past its deadline, at 10.30
-    ("error", "over", PAY),  # at 13.00
-    ("error", "new", f"FEED {SUNDAY} 02.00"), ("error", "over", f"FEED {SUNDAY} 02.00"),
-    ("error", "new", f"LOAD {SUNDAY} 20.00"),
-]
-CALLS = [
-    *ERRORS,
-    # late by 30 minutes at 10.30, by 60 at 11.00, by 120 at 12.00, as twice and twice again
-    ("late", "new", PAY), ("late", "worse", PAY), ("late", "worse", PAY), ("late", "over", PAY),
-    ("late", "new", BILL), ("late", "worse", BILL), ("late", "over", BILL),  # 11.30, 12.00, 13.00
-    ("late", "new", REPORT), ("late", "over", REPORT),  # 12.30, 13.00
-    # they wait for PAY, which is in error, from 08.00 on, and are late at 11.30 and at 12.30
-    ("risk", "new", BILL), ("risk", "worse", BILL), ("risk", "over", BILL),
-    ("risk", "new", REPORT), ("risk", "worse", REPORT), ("risk", "over", REPORT),
-    # an hour without it, two hours, and there again
-    ("agent", "new", "the agent"), ("agent", "worse", "the agent"), ("agent", "over", "the agent"),
-]
 
 
 @unittest.skipIf(desks.why_not(), desks.why_not())
@@ -114,32 +62,16 @@ class Weekend(desks.Case):
             path.chmod(0o755)
         (self.room / "runs").write_text("")
         (self.room / "fails").write_text("".join(f"{one}\n" for one in FAILS))
-        (self.room / "secret").write_text("a secret\n")
-        sendmail = self.room / "sendmail"
-        sendmail.write_text(f'#!/bin/sh\ncat > {self.room}/mail.$(ls {self.room} | grep -c "^mail")\n')
-        sendmail.chmod(0o755)
-        self.webhook = Webhook(refuses=2)
-        self.addCleanup(self.webhook.close)
         self.now = moments.moment_of(f"{SATURDAY}/00.00")
         self.served = self.desk()
         self.client = client.Client(str(self.served.socket))
         self.agent = self.new_agent()
-        self.watch = self.new_watch()
 
     def new_agent(self):
         given = executor.Settings(str(self.room / "jobs"), str(self.room / "logs"), now=self.now)
         agent = executor.Agent(given, self.client)
         agent.load()
         return agent
-
-    def new_watch(self):
-        rules = RULES % {"room": self.room, "url": self.webhook.url}
-        (self.room / "rules.toml").write_text(rules)
-        given = service.Settings(str(self.served.socket), str(self.room / "rules.toml"), str(self.room / "state"))
-        watch = service.Watch(given, rulebook.of_text(rules), None, lambda: self.now * 60.0,
-                              lambda: moments.moment_word(self.now))
-        watch.load()
-        return watch
 
     def work(self):
         """Has the agent look until there is nothing more to do at this moment."""
@@ -185,9 +117,6 @@ class Weekend(desks.Case):
             self.begin_and_die()
         elif self.agent is not None:
             self.work()
-        if moment.endswith("/00.00"):  # also a watch that is begun anew, as by an update
-            self.watch = self.new_watch()
-        self.watch.step()
 
     def test_two_days(self):
         said = io.StringIO()
@@ -197,8 +126,6 @@ class Weekend(desks.Case):
                 self.now += STEP
         entries = [json.loads(line) for line in self.served.asked("GET", "/journal")[2].splitlines()]
         self.check_runs(entries)
-        self.check_calls()
-        self.assertEqual(said.getvalue().count("the watch tries again"), 1, said.getvalue())
         self.end(self.served)
 
     def check_runs(self, entries):
@@ -215,26 +142,6 @@ class Weekend(desks.Case):
         longer = [one["statement"].split()[2] for one in entries if one["statement"].startswith("ltp-extend")]
         self.assertEqual(longer, ["2024-01-31"])
         self.assertEqual({one["reply"].split()[0] for one in entries}, {"ok"})
-
-    def check_calls(self):
-        """Each call came once to whom it was for, signed; and the two that were refused came again as they were."""
-        taken = self.webhook.taken_values()
-        found = [(one["rule"], one["kind"], " ".join(event["text"].split()[:3])) for one in taken
-                 for event in one["events"]]
-        named = [(rule, kind, "the agent" if what.startswith("the agent") else what) for rule, kind, what in found]
-        self.assertEqual(sorted(named), sorted(CALLS))
-        self.assertEqual(len({one["id"] for one in taken}), len(taken))
-        self.assertEqual([body for _, body in self.webhook.refused], [self.webhook.taken[0][1]] * 2)
-        for heads, body in [*self.webhook.refused, *self.webhook.taken]:
-            sum_of = hmac.new(b"a secret", body, hashlib.sha256).hexdigest()
-            self.assertEqual(heads["X-Opcplan-Signature"], f"sha256={sum_of}")
-            self.assertEqual(heads["X-Opcplan-Call"], json.loads(body)["id"])
-        mails = sorted((path for path in self.room.iterdir() if path.name.startswith("mail.")), key=os.path.getmtime)
-        subjects = [line for path in mails for line in path.read_text().splitlines() if line.startswith("Subject: ")]
-        self.assertEqual(len(subjects), len(ERRORS))
-        for (_, kind, what), line in zip(ERRORS, subjects):
-            head = "" if kind == "new" else f"{kind}: "
-            self.assertTrue(line.startswith(f"Subject: [opcplan] {head}{what}"), (line, kind, what))
 
 
 if __name__ == "__main__":

@@ -69,6 +69,15 @@ def names_wanted(before, after):
     return sorted(lines)
 
 
+def names_shown(text):
+    """The lines on definitions, with the names of those that are changed behind their heading: each name stands there
+    once, with its changes behind and below it."""
+    names = re.findall("^  [a-z ]+ (?:new|gone): .*", text, re.M)
+    for heading, lines in re.findall("^(  [a-z ]+ changed:)\n((?:    .*\n?)+)", text, re.M):
+        names.append(f"{heading} {', '.join(re.findall('^    ([A-Z0-9@#$]+): ', lines, re.M))}")
+    return sorted(names)
+
+
 def lines_with_answers(text):
     """The number of each line that gets an answer, by the plain planner's reading."""
     lines, found = enumerate(plain.lines_of(text), 1), []
@@ -129,8 +138,7 @@ class WhatIf(unittest.TestCase):
                     self.assertEqual(ran.returncode, 1 if plain.status_of(answers) else 0, ran)
                     table = table_wanted(before, after)
                     self.assertEqual(table_shown(ran.stdout), table)
-                    names = re.findall("^  [a-z ]+ (?:new|changed|gone): .*", ran.stdout, re.M)
-                    self.assertEqual(sorted(names), names_wanted(before, after))
+                    self.assertEqual(names_shown(ran.stdout), names_wanted(before, after))
                     self.assertEqual(f"Occurrences: {len(table)}\n" in ran.stdout, bool(table))
                     shown += len(table)
         self.assertGreater(shown, 1000)

@@ -223,11 +223,14 @@ class Command(unittest.TestCase):
         self.assertIn("a free day (DEFAULT lists Saturdays as free)", self.ask("LEDGER", "2024-01-13/18.00", status=1))
 
     def test_wrong_words_and_files(self):
-        for text in ("", "REPORT", "REPORT 2024-01-02", "REPORT 2024-01-02/24.00", f"{'A' * 17} 2024-01-02/20.00",
+        for text in ("", "REPORT 2024-01-02/24.00", f"{'A' * 17} 2024-01-02/20.00", "REPORT 2024-13-02",
                      "REPORT 2024-01-02/20.00 --now today"):
             given = text.split()
             ran = plans.plan("why", self.file, *given)
             self.assertEqual((ran.returncode, ran.stdout), (2, ""), given)
+        ran = plans.plan("why", self.file, "REPORT")  # two fit: tests/test_resolver.py has which
+        self.assertEqual((ran.returncode, ran.stdout.splitlines()[0]),
+                         (1, "2 occurrences fit REPORT; name one of them:"))
         ran = plans.plan("why", self.file.with_name("none.db"), "REPORT", "2024-01-02/20.00")
         self.assertEqual((ran.returncode, ran.stdout), (1, ""))
 

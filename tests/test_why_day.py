@@ -116,7 +116,7 @@ def longest_free_run(planner, app):
     name = planner.defined["applications"][app][1] or planner.options["default_calendar"]
     key = tuple(sorted(planner.defined["calendars"].get(name, {}).items()))
     if key not in RUNS:
-        runs = itertools.groupby(planner.calendars[key])
+        runs = itertools.groupby(planner.calendars[key].days)
         RUNS[key] = max((sum(1 for _ in run) for is_work, run in runs if not is_work), default=0)
     return RUNS[key]
 

@@ -28,8 +28,12 @@ if TYPE_CHECKING:
             """Does what the words ask for; the exit status."""
 
 GROUPS = {
-    "What is in a plan:": ("status", "page", "late", "ready", "rows", "why", "why-day", "cal", "days", "export"),
+    "What is in a plan:": (
+        "status", "page", "late", "ready", "next", "day", "rows", "why", "why-day", "cal", "days", "export",
+    ),
     "Job streams, before they are run and after:": ("lint", "check", "what-if", "run", "send", "explain", "next-job"),
+    "What an operator does, with a preview:": ("start", "complete", "fail", "reset", "delete", "cancel", "rerun",
+                                               "move", "add", "undo"),
     "Definitions of a plan, as job streams:": ("init", "dump", "edit", "import"),
     "One plan for many callers:": ("desk", "log", "journal", "agent"),
     "An unattended plan:": ("roll", "watch"),
@@ -39,12 +43,20 @@ SUBCOMMANDS = [name for names in GROUPS.values() for name in names]
 # what somebody may call a subcommand
 OTHERWISE = {
     "list": "rows", "show": "rows", "ls": "rows", "jobs": "journal", "new": "init",
-    "create": "init", "start": "send", "complete": "send", "fail": "send", "reset": "send", "delete": "send",
-    "add": "send", "holidays": "import", "holiday": "edit", "crontab": "import", "cron": "import", "html": "page",
+    "create": "init", "restart": "rerun", "repeat": "rerun", "skip": "cancel", "reschedule": "move", "revert": "undo",
+    "holidays": "import", "holiday": "edit", "crontab": "import", "cron": "import", "html": "page",
     "graph": "page", "ics": "export", "csv": "export", "json": "export", "gendays": "days", "calendar": "cal",
     "year": "cal", "copy": "backup", "diff": "what-if", "try": "what-if", "trial": "what-if", "serve": "desk",
     "extend": "roll", "alarm": "watch", "monitor": "watch", "server": "desk", "print": "rows",
     "today": "status", "summary": "status", "overview": "status",
+}
+# what does a thing that somebody asks for by a name, where more has to be said than another name
+DOES = {
+    "gantt": "`./plan page PLAN.db` draws each day, a box for each occurrence from its input arrival to its deadline",
+    "chart": "`./plan page PLAN.db` draws each day, a box for each occurrence from its input arrival to its deadline",
+    "history": "`./plan rows PLAN.db history` prints what is complete, and `./plan journal PLAN.db` who did what",
+    "forecast": "`./plan late PLAN.db --journal FILE` says when the rest is likely to end, and `./plan next PLAN.db "
+                "APP` which runs come",
 }
 WITH_TRACEBACK = "PLAN_TRACEBACK"
 DEFECT = 3
@@ -101,10 +113,12 @@ def parser_of(name: str) -> words.Parser:
 
 
 def meant_text(word: str) -> str:
-    """` (did you mean NAME?)` of a word that is no subcommand, where it is like one or another name for one; else
-    nothing."""
+    """What does the thing that a word names which is no subcommand, or ` (did you mean NAME?)` where it is like one or
+    another name for one; else nothing."""
     from opcplan.rules import naming_words
 
+    if word.lower() in DOES:
+        return f": {DOES[word.lower()]}"
     other = OTHERWISE.get(word.lower())
     return f" (did you mean {other}?)" if other else naming_words.meant_text(word, SUBCOMMANDS)
 
@@ -125,6 +139,11 @@ def main(given: list[str]) -> int:
         from opcplan.cli import version
 
         print("\n".join(version.lines()))
+        return 0
+    if given[:1] == ["--names"] and len(given) == 3:  # which a shell asks that completes words
+        from opcplan.plans import plan_names
+
+        print("\n".join(plan_names.of_file(given[2], given[1].split(","))))
         return 0
     if not given or given[0] not in SUBCOMMANDS:
         problem = f"there is no subcommand {given[0]!r}{meant_text(given[0])}" if given else "the subcommand is missing"

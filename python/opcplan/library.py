@@ -16,9 +16,11 @@ from collections.abc import Iterator, Mapping
 from types import TracebackType
 from typing import Any, Self
 
+from opcplan.acts import loaded, undoing, values, verbs
+from opcplan.acts.verbs import Intention
 from opcplan.commands import ready
-from opcplan.desk import client
-from opcplan.errors import Unreadable
+from opcplan.desk import client, requests
+from opcplan.errors import Error, Unreadable
 from opcplan.plans import plan_definitions, plan_file, waits
 from opcplan.rules import moments, statuses
 from opcplan.rules.definitions import Definitions
@@ -29,6 +31,8 @@ TABLES = {"ltp": "ltp_row", "cp": "cp_row", "history": "history_row", "deletions
 LISTS = tuple(TABLES)
 # the tag of a desk that lacks entries which a reader doesn't have (desk/events.py)
 ANEW = "anew-0"
+# HTTP's status if the plan isn't in the state of a preview, and how often an act is looked at
+CHANGED, MOST_SENT = 412, 9
 
 
 @dataclasses.dataclass(frozen=True)
@@ -83,11 +87,45 @@ class Answer:
         return self.reply.startswith("ok")
 
 
+@dataclasses.dataclass(frozen=True)
+class Act:
+    """What a verb does: the row that it is about (None if it makes one), its statements as a stream without job
+    numbers, all that is to be said of them in sentences, what can't be kept, each changed row as it was (None if it is
+    made) and as it is then, how many rows of the current plan wait for it, and the stream that takes it back (None if
+    there is none: `why_not` says why). `answers` has those of a desk that did it, which are fewer than its statements
+    if somebody else changed the plan in between."""
+
+    verb: str
+    row: Row | None
+    stream: str
+    lines: tuple[str, ...]
+    notes: tuple[str, ...]
+    changes: tuple[tuple[Row | None, Row], ...]
+    waiting: int
+    inverse: str | None
+    why_not: str
+    answers: tuple[Answer, ...] = ()
+
+    @property
+    def ok(self) -> bool:
+        """Whether a desk accepted each of its statements."""
+        count = len(requests.of_stream(self.stream.encode()))
+        return len(self.answers) == count and all(one.ok for one in self.answers)
+
+
+class NotDoable(Error):
+    """Why there is no act: the plan doesn't allow it, or several rows fit (`choices`), or none does."""
+
+    def __init__(self, text: str, choices: tuple[Row, ...] = ()) -> None:
+        super().__init__(text)
+        self.choices = choices
+
+
 class Plan:
     """The file of a plan, as it was when this was made: it reads a private copy, so it doesn't keep the file open.
     Close it by `with` or `close`. Raises Plan.Unreadable."""
 
-    Unreadable = Unreadable
+    Unreadable, NotDoable = Unreadable, NotDoable
 
     def __init__(self, path: str) -> None:
         with contextlib.ExitStack() as stack:
@@ -131,6 +169,14 @@ class Plan:
         return Why(row_of(found[0]), waits.state(found[0], bool(before), at), tuple(map(row_of, before)),
                    tuple(map(row_of, waits.roots(chain, found[0]))))
 
+    def act(self, verb: str, of: str = "", *, to: str | None = None, due: str | None = None, chain: bool = False,
+            followers: bool = False, now: Moment | None = None) -> Act:
+        """What a verb (`rerun`, `move` and so on) would do to an occurrence, named as `PAY 06.00` or by its serial.
+        Nothing is done: its stream is for opcplan. Raises Plan.NotDoable and ValueError."""
+        at = moments.now() if now is None else minutes_of(now)
+        wanted = intention_of(verb, of, to, due, chain, followers)
+        return act_of(values.answer(loaded.world_of(self._plan), wanted, at, [], None))
+
     def definitions(self) -> Definitions:
         """The definitions, as opcplan.rules.definitions has them: days are numbers since 1970-01-01."""
         return plan_definitions.of_plan(self._plan)
@@ -144,6 +190,7 @@ class Desk:
     answer came (`may_be_done` says whether the request may be done all the same)."""
 
     Away, Refused, Wrong = client.DeskUnreachable, client.RequestRefused, client.InvalidAddress
+    NotDoable = NotDoable
 
     def __init__(self, url: str, token: str | None = None) -> None:
         self._client = client.Client(url, client.token() if token is None else token)
@@ -158,15 +205,43 @@ class Desk:
         return [answer_of(json.loads(line)) for line in found.decode().splitlines()]
 
     def rows(self, name: str = "cp", *, app: str | None = None, first: datetime.date | str | None = None,
-             last: datetime.date | str | None = None, status: str | None = None, fresh: bool = False) -> list[Row]:
+             last: datetime.date | str | None = None, status: str | None = None,
+             fresh: bool | int = False) -> list[Row]:
         """The rows of a list, as those of Plan, but `first` and `last` are days. With `fresh`, a desk that shares its
-        log answers with all that any desk of the log has answered till now. Raises ValueError."""
+        log answers with all that any desk of the log has answered till now; with 2, once a majority of them has
+        answered that alike. Raises ValueError."""
         check_list(name)
         asked = {"list": name, "app": app, "from": day_text(first), "to": day_text(last), "status": status,
-                 "fresh": "1" if fresh else None}
+                 "fresh": str(int(fresh)) if fresh else None}
         query = urllib.parse.urlencode({word: value for word, value in asked.items() if value is not None})
         _, found = self._client.request("GET", f"/rows?{query}")
         return [row_of_object(json.loads(line), name) for line in found.decode().splitlines()]
+
+    def act(self, verb: str, of: str = "", *, to: str | None = None, due: str | None = None, chain: bool = False,
+            followers: bool = False, entry: int | None = None, dry_run: bool = False) -> Act:
+        """Does a verb (`rerun`, `move`, `undo` and so on) to an occurrence, named as `PAY 06.00` or by its serial; with
+        `dry_run` it only says what it would do. If somebody else changes the plan, it is done all the same as long as
+        it would do the same. Raises Desk.NotDoable, ValueError, and Desk.Refused with status 412 if others keep
+        changing what it would do."""
+        wanted = intention_of(verb, of, to, due, chain, followers, entry)
+        first: Act | None = None
+        for _ in range(MOST_SENT):
+            _, body = self._client.request("POST", "/acts", json.dumps(values.values_of(wanted)).encode())
+            found = json.loads(body)
+            act = act_of(found)
+            if dry_run:
+                return act
+            if first is not None and act != first:
+                break
+            first = act
+            heads = {"If-Match": found["tag"], "Idempotency-Key": f"{undoing.ACT_KEY}{secrets.token_hex(16)}"}
+            try:
+                _, body = self._client.request("POST", "/acts", json.dumps({"stream": act.stream}).encode(), heads)
+                return dataclasses.replace(act, answers=tuple(map(answer_of, json.loads(body)["answers"])))
+            except client.RequestRefused as why:
+                if why.status != CHANGED:
+                    raise
+        raise client.RequestRefused(CHANGED, "the plan has changed, and the act would now do something else")
 
     def log(self, serial: int) -> str:
         """The ends of the logs of an occurrence's job, one try after the other, as agents sent them to the desk; empty
@@ -184,6 +259,36 @@ class Desk:
                 elif fields.get("tag") == ANEW:
                     raise client.RequestRefused(410, f"the desk doesn't have all entries after {since}: look at the "
                                                      "rows")
+
+
+def intention_of(verb: str, of: str, to: str | None, due: str | None, chain: bool, followers: bool,
+                 entry: int | None = None) -> Intention:
+    """What is wanted. Raises ValueError."""
+    wanted = Intention(verb, of, to, due, chain, followers, entry)
+    try:
+        verbs.check(wanted)
+    except verbs.InvalidIntention as why:
+        raise ValueError(str(why)) from None
+    return wanted
+
+
+def act_of(found: Mapping[str, Any]) -> Act:
+    """The Act of an answer. Raises NotDoable."""
+    act = found["act"]
+    if act is None:
+        choices = found["found"]["choices"] if found["found"] else ()
+        raise NotDoable("\n".join(values.lines_of(found)), tuple(row_of_act(one) for one in choices))
+    changes = tuple((None if one["was"] is None else row_of_act(one["was"]), row_of_act(one["row"]))
+                    for one in act["changes"])
+    row = None if act["row"] is None else row_of_act(act["row"])
+    return Act(act["verb"], row, act["stream"], tuple(act["lines"]), tuple(act["notes"]), changes, act["waiting"],
+               act["inverse"], act["why_not"])
+
+
+def row_of_act(fields: Mapping[str, Any]) -> Row:
+    """The Row of an object in an act."""
+    ia, deadline = (minutes_of(fields[word]) for word in ("ia", "deadline"))
+    return row_of(waits.Row(fields["serial"], fields["app"], ia, deadline, fields["run_cycle"], fields["place"]))
 
 
 def check_list(name: str) -> None:

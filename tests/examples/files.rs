@@ -45,8 +45,8 @@ fn adopted<S: Alter + Drop>(rt: &impl Abort, alloc: Global, conn: Connection<S>)
     let Ok(mut store) = TableStore::adopt(alloc, conn) else {
         return Err(Fail::new("not adopted"));
     };
-    assert!(rt; store.bounds()?.is_none() && store.job(7)?.is_none());
-    let view = store.read_window(Need::LongTerm(None))?;
+    assert!(rt; store.bounds()?.is_none() && store.job(alloc, 7)?.is_none());
+    let view = store.read_window(alloc, Need::LongTerm(None))?;
     assert_eq!(rt; view.issued(), 0);
     // end of the example
     Ok(())
@@ -68,7 +68,7 @@ fn migrated<S: Alter + Drop>(
     let mut conn = conn;
     // example of plan_migrations
     // a plan of the current schema stays as it is
-    assert_eq!(rt; version(&mut conn)?, Some(2));
+    assert_eq!(rt; version(alloc, &mut conn)?, Some(2));
     assert_eq!(rt; migrate(alloc, &mut conn)?, (2, 2));
     // end of the example
     Ok(())

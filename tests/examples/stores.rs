@@ -8,6 +8,7 @@ use occurrences::{Key, Reply, Serial};
 use plan_store::{Content, ListStore, Need, PlanStore, Verdict};
 use plan_store_pairs::{Plan, add};
 use plan_store_soundness::is_sound;
+use planner_answers::{each_stream_has_one_run, exactly_one_answer, kept_content_stays_kept};
 use planner_cli::{exit_status, run_lists};
 use std::test::Fail;
 use work_calendars::{App, Day, Moment};
@@ -32,13 +33,23 @@ fn example_of_plan_store(rt: HostRuntime) -> Result<(), Fail> {
     let alloc = rt.alloc();
     // example of plan_store
     let mut store = ListStore::new(alloc);
-    assert!(rt; store.job(7)?.is_none());
+    assert!(rt; store.job(alloc, 7)?.is_none());
     // what a decision on the long-term plan sees, before there is one
-    let view = store.read_window(Need::LongTerm(None))?;
+    let view = store.read_window(alloc, Need::LongTerm(None))?;
     assert!(rt; view.bounds().is_none() && view.ltp().is_empty());
     assert_eq!(rt; view.issued(), 0);
     // end of the example
     Ok(())
+}
+
+#[test]
+fn example_of_planner_answers() {
+    // example of planner_answers
+    // a law does nothing: what it says of all statements, contents and streams is its contract
+    exactly_one_answer();
+    kept_content_stays_kept();
+    each_stream_has_one_run();
+    // end of the example
 }
 
 #[test]
@@ -51,7 +62,7 @@ fn example_of_plan_store_pairs(rt: HostRuntime) -> Result<(), Fail> {
     let third = Serial::new(3).ok_or("no serial")?;
     // example of plan_store_pairs
     // B is added at 12.00 of the second day, and follows A of 08.00, which is the third row
-    let view = store.read_window(Need::Key(key))?;
+    let view = store.read_window(alloc, Need::Key(key))?;
     let Verdict::Done(change, _reply) = add(alloc, &view, Plan::LongTerm, &key)? else {
         return Err(Fail::new("refused"));
     };
@@ -82,7 +93,7 @@ fn example_of_long_term_plan(rt: HostRuntime) -> Result<(), Fail> {
     let last = Day::from_text("2024-01-02").ok_or("no day")?;
     // example of long_term_plan
     // two applications are named on each of two days
-    let view = store.read_window(Need::LongTerm(None))?;
+    let view = store.read_window(alloc, Need::LongTerm(None))?;
     let Verdict::Done(change, reply) = create(alloc, &view, first, last)? else {
         return Err(Fail::new("refused"));
     };
@@ -100,7 +111,7 @@ fn example_of_daily_planning(rt: HostRuntime) -> Result<(), Fail> {
     let to = Moment::from_text("2024-01-02/00.00").ok_or("no moment")?;
     // example of daily_planning
     // the two rows of the first day move from the long-term plan to the current plan
-    let view = store.read_window(Need::Daily(to))?;
+    let view = store.read_window(alloc, Need::Daily(to))?;
     let Verdict::Done(change, reply) = extend(alloc, &view, to)? else {
         return Err(Fail::new("refused"));
     };

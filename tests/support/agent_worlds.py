@@ -5,11 +5,13 @@ log has and what the jobs did.
 The desk may be behind its log: one that was begun again, or another one of the same log, answers for a while as it was
 some entries before."""
 
-import copy
 import dataclasses
 import random
+import re
 from collections import deque
 from typing import NamedTuple
+
+from support.copies import shallow, with_containers
 
 from opcplan.agent import known_plan, state
 from opcplan.agent.known_plan import Entry, Pair, Row
@@ -22,10 +24,13 @@ ACTS = {"start": ("W", "S"), "complete": ("SE", "C"), "fail": ("S", "E"), "reset
 GOOD, BAD = 0, 1
 OLD_JOB = 20
 ANY = ""
+# of the key of an end, behind that of its start: no other try follows, or one does
+END = re.compile("-(?:end|again0)$")
 ROUNDS = 12
 MOST_STEPS = 150  # of a walk
 # what an agent's state has that decides nothing, or is the same in a world, or follows from the rest
 UNSEEN = ("messages", "said", "rules", "counted")
+PLAIN = (int, str, bool, type(None), tuple, frozenset)  # values that stay as they are
 
 
 class InvariantViolated(Exception):
@@ -103,17 +108,23 @@ class World:
 
     def next(self):
         """A copy that is to change."""
-        found = copy.copy(self)
+        found = shallow(self)
         if self.agent is not None:
-            found.agent = copied(self.agent)
-            found.agent.plan = copied(self.agent.plan)
-            found.agent.fetched = copy.copy(self.agent.fetched)
+            found.agent = with_containers(self.agent)
+            found.agent.plan = with_containers(self.agent.plan)
+            if self.agent.fetched is not None:
+                found.agent.fetched = shallow(self.agent.fetched)
         return found
 
     def frozen(self):
         """What tells this state from others."""
         return (frozen(self.agent), self.left, self.log, self.served, self.begins, self.life, self.disk, self.claimed,
                 self.runners, self.jobs, self.late, self.done, self.keys, self.rested)
+
+    def frozen_when_calm(self):
+        """What decides of a calm world what becomes of it."""
+        return (frozen(self.agent), self.log, self.begins, self.life, self.disk, self.claimed, self.jobs, self.keys,
+                self.rested)
 
     @property
     def rules(self):
@@ -211,24 +222,25 @@ class World:
 Record.__lt__ = lambda one, other: one.serial < other.serial
 
 
-def copied(one):
-    """A copy with containers of its own."""
-    found = copy.copy(one)
-    for name, value in vars(one).items():
-        if isinstance(value, (list, dict, set, deque)):
-            setattr(found, name, value.copy())
-    return found
-
-
 def frozen(one):
     """The values of an agent's state, without what it says."""
-    if isinstance(one, (state.State, known_plan.KnownPlan, state.Fetched)):
-        return tuple(frozen(value) for name, value in vars(one).items() if name not in UNSEEN)
-    if isinstance(one, dict):
-        return tuple(sorted(one.items()))
-    if isinstance(one, set):
-        return frozenset(one)
-    return tuple(one) if isinstance(one, (list, deque)) else one
+    if one is None:
+        return None
+    found = []
+    for name, value in one.__dict__.items():
+        if name in UNSEEN:
+            continue
+        if type(value) not in PLAIN:
+            if isinstance(value, dict):
+                value = tuple(sorted(value.items()))
+            elif isinstance(value, set):
+                value = frozenset(value)
+            elif isinstance(value, (list, deque)):
+                value = tuple(value)
+            elif isinstance(value, (known_plan.KnownPlan, state.Fetched)):
+                value = frozen(value)
+        found.append(value)
+    return tuple(found)
 
 
 # What may come next.
@@ -483,10 +495,10 @@ def check_step(world, one):
     """What the desk accepted of an agent was its turn."""
     serial = int(one.statement.split()[-1])
     before = world.of_serial(serial, one.seq - 1)
-    if one.key.endswith("-end"):
+    if END.search(one.key):
         check_end(world, one)
     elif one.key.endswith("-reset"):
-        failed = f"{start_of(one.key)}-end"
+        failed = f"{start_of(one.key)}-again0"
         if (before[-1].key, before[-1].reply[-1]) != (failed, "E"):
             raise InvariantViolated(f"{one.statement} under {one.key}, and {before[-1]} was in force")
     else:
@@ -506,7 +518,7 @@ def check_start(world, one, serial, before):
 
 def attempt_of(key):
     """Which try a key of a start or an end stands for."""
-    return int(key.removesuffix("-end").partition(".")[2] or 1)
+    return int(END.sub("", key).partition(".")[2] or 1)
 
 
 def start_of(key):
@@ -516,9 +528,11 @@ def start_of(key):
 
 def check_end(world, one):
     """What is told of a job's end happened, and of the start that was in force."""
-    job = next((job for job in world.jobs if f"{job.key}-end" == one.key), None)
+    job = next((job for job in world.jobs if job.key == END.sub("", one.key)), None)
     if job is None or job.outcome != (GOOD if one.reply.endswith(" C") else BAD):
         raise InvariantViolated(f"{one.statement} is told under {one.key}, and the job is {job}")
+    if one.key.endswith("-end") != (job.outcome == GOOD or attempt_of(one.key) >= world.kind.tries):
+        raise InvariantViolated(f"{one.key} doesn't say whether another try follows")
     last = [other for other in world.of_serial(job.serial, one.seq - 1)][-1]
     if last.key != job.key:
         raise InvariantViolated(f"{one.statement} is told under {one.key}, and {last} was in force")
@@ -534,8 +548,15 @@ def check_plan(world, plan):
                 raise InvariantViolated(f"{row} at entry {plan.position} isn't so")
 
 
-def check_outcome(world, kind_of_state=state.State):
-    """Where nothing goes wrong any more, each job that ended is reported, and nothing is left that nobody has."""
+def check_outcome(world, kind_of_state=state.State, met=None):
+    """Where nothing goes wrong any more, each job that ended is reported, and nothing is left that nobody has. What
+    comes of a world doesn't depend on what could still have gone wrong: it is asked once of those that `met` has."""
+    world = calmed(world.next())
+    if met is not None:
+        name = hash(world.frozen_when_calm())
+        if name in met:
+            return
+        met.add(name)
     last = finished(world, kind_of_state)
     for one in last.disk:
         is_unknown = one.began is not None and one.ended is None or last.begins > one.after
@@ -543,7 +564,7 @@ def check_outcome(world, kind_of_state=state.State):
         if not is_unknown and not is_waiting:
             raise InvariantViolated(f"a record is left: {one}")
     for job in last.jobs:
-        found = any(one.key == f"{job.key}-end" and one.reply.startswith("ok") for one in last.log)
+        found = any(END.sub("", one.key or "") == job.key != one.key and one.reply.startswith("ok") for one in last.log)
         kept = last.record(job.serial)
         if not found and last.of_serial(job.serial)[-1].key == job.key and (kept is None or kept.start_key != job.key):
             raise InvariantViolated(f"the end of {job} is never told")
@@ -570,14 +591,20 @@ def is_full(world, upto=None):
     return 0 < world.kind.class_most <= len(started)
 
 
-def finished(world, kind_of_state):
-    """What a world comes to where nothing goes wrong any more, and all jobs end well."""
-    found, before = world.next(), None
+def calmed(found):
+    """A world whose desk is level, whose pauses are over and whose runners end, all jobs well."""
+    found.served = len(found.log)
+    found.rested |= {one.start_key for one in found.resting()}
+    while found.runners:
+        _, found, _ = next(moves(found, found.runners[0]))
+    return found
+
+
+def finished(found, kind_of_state):
+    """What a world, which may change, comes to where nothing goes wrong any more, and all jobs end well."""
+    before = None
     for _ in range(ROUNDS):
-        found.served = len(found.log)
-        found.rested |= {one.start_key for one in found.resting()}
-        while found.runners:
-            _, found, _ = next(moves(found, found.runners[0]))
+        found = calmed(found)
         if found.agent is None:
             found.agent = kind_of_state(found.disk)
         if found.agent.command is None:
@@ -595,18 +622,18 @@ def finished(world, kind_of_state):
 def explored(kind, kind_of_state=state.State):
     """How many states a world has. Raises InvariantViolated, with how it comes to that."""
     first = World(kind, kind)
-    seen, waiting = {hash(first.frozen()): (None, "")}, deque([first])
+    begin = hash(first.frozen())
+    seen, waiting, met = {begin: (None, "")}, deque([(begin, first)]), set()
     while waiting:
-        world = waiting.popleft()
-        number = hash(world.frozen())
+        number, world = waiting.popleft()
         try:
             check(world)
             if world.agent is None or world.agent.command is None:
-                check_outcome(world, kind_of_state)
+                check_outcome(world, kind_of_state, met)
             for label, found in steps(world, kind_of_state):
                 if (other := hash(found.frozen())) not in seen:
                     seen[other] = number, label
-                    waiting.append(found)
+                    waiting.append((other, found))
         except (InvariantViolated, AssertionError) as why:
             raise InvariantViolated(f"{why}\n" + "\n".join(path_to(seen, number))) from None
     return len(seen)

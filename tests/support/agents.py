@@ -2,13 +2,17 @@
 
 import contextlib
 import dataclasses
+import http.server
 import io
 import json
+import socketserver
 import tempfile
+import threading
 import time
 import unittest
 from pathlib import Path
 
+from support import plans
 from support.plans import plain
 
 from opcplan.agent import executor
@@ -38,9 +42,8 @@ class PlainDesk:
     turn = 0
 
     def __init__(self, text):
-        self.planner, self.log, self.keys, self.faults = plain.Planner(), [], {}, []
+        self.planner, self.log, self.keys, self.faults = plans.planner_from(text), [], {}, []
         self.tails = {}  # the ends of logs by serial and try, each with how far the log was
-        plain.run(text.encode(), self.planner)
 
     def request(self, method, path, body=None, heads=()):
         position = len(self.log)
@@ -96,6 +99,56 @@ class PlainDesk:
         return [one["statement"].partition(" --job")[0] for one in self.log]
 
 
+class Served:
+    """A desk behind a socket, for agents that are processes of their own. `heads` has the headers of each request."""
+
+    def __init__(self, desk, path):
+        self.desk, self.path, self.heads = desk, str(path), []
+        self.lock = threading.Lock()
+        served = self
+
+        class Handler(http.server.BaseHTTPRequestHandler):
+            """Answers what `desk` answers."""
+
+            def do_GET(self):
+                body = self.rfile.read(int(self.headers.get("Content-Length", 0)))
+                with served.lock:
+                    served.heads.append(dict(self.headers))
+                    try:
+                        heads, data = served.desk.request(self.command, self.path, body, self.headers)
+                        status = 200
+                    except client.RequestRefused as why:
+                        heads, data, status = {}, str(why).encode(), why.status
+                self.send_response(status)
+                for name, value in {**heads, "Content-Length": str(len(data))}.items():
+                    self.send_header(name, value)
+                self.end_headers()
+                self.wfile.write(data)
+
+            do_POST = do_PUT = do_GET
+
+            def log_message(self, *_):
+                pass
+
+            def address_string(self):
+                return "agent"
+
+        class Server(socketserver.ThreadingMixIn, socketserver.UnixStreamServer):
+            """Listens on a socket."""
+
+            daemon_threads = True
+
+            def handle_error(self, *_):
+                """Who hangs up says nothing."""
+
+        self.server = Server(self.path, Handler)
+        threading.Thread(target=self.server.serve_forever, kwargs={"poll_interval": 0.05}, daemon=True).start()
+
+    def close(self):
+        self.server.shutdown()
+        self.server.server_close()
+
+
 class Room(unittest.TestCase):
     """A folder with jobs, and agents over them."""
 
@@ -105,7 +158,7 @@ class Room(unittest.TestCase):
         self.room = Path(room.name)
         self.jobs, self.logs = self.room / "jobs", self.room / "logs"
         self.jobs.mkdir(mode=0o755)
-        self.logs.mkdir()
+        self.logs.mkdir(mode=0o755)
 
     def job(self, name, text="true"):
         path = self.jobs / name

@@ -1,11 +1,13 @@
 """Small worlds around the state of a desk: callers, a reader, a subscriber, the disk and opcplan. Each step that may
 come next is a state of its own; what the state promises is asked there of what the disk and the plan really have."""
 
-import copy
 import dataclasses
 import random
 from collections import deque
 from typing import NamedTuple
+
+from support.copies import shallow, with_containers
+from support.exploration import path_to
 
 from opcplan.desk import state
 from opcplan.plans import chain
@@ -54,6 +56,8 @@ class Kind(NamedTuple):
     desk_ends: int = 0
     disk_fails: int = 0
     answers_lost: int = 0
+    copies: int = 0
+    most_recent: int = state.MOST_RECENT  # answered entries in memory
 
 
 class Caller(NamedTuple):
@@ -66,6 +70,7 @@ class Caller(NamedTuple):
 
 READER, QUESTION = 9, "?"
 MOST_STEPS = 5000  # of a walk
+PLAIN = (int, str, bool, type(None), tuple)  # values that stay as they are
 
 
 @dataclasses.dataclass
@@ -90,25 +95,24 @@ class World:
     seen: int = 0  # the greatest entry whose reply a desk saw
     look: tuple | None = None
     listed: bool = False
+    copy: tuple | None = None  # what the desk said before a copy, and what the copied file has, once it is made
+    copied: tuple | None = None  # a copy that is exact: its position, and what it has
 
     def next(self):
         """A copy that is to change."""
-        found = copy.copy(self)
+        found = shallow(self)
         if self.core is not None:
-            found.core = copy.copy(self.core)
-            for name, value in vars(self.core).items():
-                if isinstance(value, (list, dict, deque)):
-                    setattr(found.core, name, value.copy())
+            found.core = with_containers(self.core)
         return found
 
     def frozen(self):
         """What tells this state from others."""
-        core = self.core and tuple(
-            tuple(value.items()) if isinstance(value, dict) else tuple(value) if isinstance(value, (list, deque))
-            else value for value in vars(self.core).values())
+        core = self.core and tuple([
+            value if type(value) in PLAIN else tuple(value.items()) if isinstance(value, dict)
+            else tuple(value) if isinstance(value, (list, deque)) else value for value in vars(self.core).values()])
         return (core, self.left, self.journal, self.plan, self.queue, self.writing, self.asked, self.replies,
                 self.is_stopped, self.callers, self.acknowledged, self.cursor, self.heard, self.seen, self.look,
-                self.listed)
+                self.listed, self.copy, self.copied)
 
     def spent(self, name):
         """Notes that something went wrong once more."""
@@ -147,6 +151,7 @@ class World:
             digest = chain.chained(digest, one)
         pending = [Ask(-1, 0, dataclasses.replace(one, reply=None)) for one in self.journal[position:]]
         self.core = kind_of_state(LIFE, position, digest, pending)
+        self.core.most_recent = self.kind.most_recent
         self.queue, self.writing, self.asked, self.replies, self.is_stopped = (), None, (), (), False
 
     def do(self, commands):
@@ -253,7 +258,7 @@ def steps(world, kind_of_state):
         found = world.next()
         found.spent("desk_ends")
         found.core, found.queue, found.writing, found.asked, found.replies = None, (), None, (), ()
-        found.cursor = None
+        found.cursor = found.copy = None
         for number, caller in enumerate(found.callers):
             found.set(number, caller._replace(is_waiting=False, got=()))
         yield "the desk is killed", found
@@ -275,6 +280,8 @@ def steps_of_people(world):
         found.spent("readers")
         found.do(found.core.asked(Ask(READER, found.left.readers)))
         yield "a list is asked", found
+    if world.kind.copies:
+        yield from steps_of_a_copy(world)
     if world.kind.subscribers:
         yield from steps_of_the_subscriber(world)
     if world.left.looks and (world.core.is_idle or world.is_stopped):
@@ -282,6 +289,24 @@ def steps_of_people(world):
         found.spent("looks")
         found.look = found.core.tag, found.content()
         yield "the plan is looked at", found
+
+
+def steps_of_a_copy(world):
+    """A copy begins, the file is copied, and the copy counts if the desk says the same before and after."""
+    found = world.next()
+    if world.copy is None and world.left.copies:
+        found.spent("copies")
+        found.copy = world.core.rest(), None
+        yield "a copy begins", found
+    elif world.copy is not None and world.copy[1] is None:
+        found.copy = world.copy[0], tuple(seq for seq, *_ in world.plan)
+        yield "the file is copied", found
+    elif world.copy is not None:
+        rest, content = world.core.copied(world.copy[0]), world.copy[1]
+        found.copy = None
+        if rest.is_exact:
+            found.copied = rest.position, content
+        yield "the copy ends", found
 
 
 def steps_of_the_subscriber(world):
@@ -408,6 +433,8 @@ def check(world):
     if world.cursor is not None and not core.due(world.cursor, 2) and world.cursor < core.position:
         if world.writing is None and not core.unkept():
             raise InvariantViolated(f"entry {core.position} is never told to one who has {world.cursor}")
+    if world.copied is not None and world.copied[1] != tuple(range(1, world.copied[0] + 1)):
+        raise InvariantViolated(f"a copy says entry {world.copied[0]}, and has {world.copied[1]}")
     if world.look is not None and core.is_idle and core.is_state(world.look[0]) and world.look[1] != world.content():
         raise InvariantViolated(f"{world.look[0]} named {world.look[1]}, and names {world.content()}")
 
@@ -433,28 +460,19 @@ def check_disk(world):
 def explored(kind, kind_of_state=state.State):
     """How many states a world has. Raises InvariantViolated, with how it comes to that."""
     first = World(kind, None, kind, callers=(Caller(),) * len(kind.streams))
-    seen, waiting = {hash(first.frozen()): (None, "")}, deque([first])
+    begin = hash(first.frozen())
+    seen, waiting = {begin: (None, "")}, deque([(begin, first)])
     while waiting:
-        world = waiting.popleft()
-        number = hash(world.frozen())
+        number, world = waiting.popleft()
         try:
             check(world)
             for label, found in steps(world, kind_of_state):
                 if (other := hash(found.frozen())) not in seen:
                     seen[other] = number, label
-                    waiting.append(found)
+                    waiting.append((other, found))
         except (InvariantViolated, state.InvariantBroken) as why:
             raise InvariantViolated(f"{why}\n" + "\n".join(path_to(seen, number))) from None
     return len(seen)
-
-
-def path_to(seen, number):
-    """What happened up to a state."""
-    found = []
-    while number is not None:
-        number, label = seen[number]
-        found.append(label)
-    return found[::-1]
 
 
 def walked(kind, seed, kind_of_state=state.State):

@@ -1,6 +1,7 @@
 """Desks over copies of plans, and callers of them, for tests: each desk listens on a free port and on a socket."""
 
 import contextlib
+import functools
 import http.client
 import json
 import os
@@ -16,7 +17,7 @@ import time
 import unittest
 from pathlib import Path
 
-from support import expected, plans, timing
+from support import expected, plans
 
 from opcplan.desk import client
 
@@ -30,18 +31,24 @@ CENTRE = "\n".join([
                                    for place, app in enumerate(APPS)), "/*",
     "define predecessors --job 4", *(f"{later},{app}" for app, later in zip(APPS[::2], APPS[1::2])), "/*",
     "ltp-create --from 2024-01-01 --to 2024-01-31 --job 5", "dp-extend --to 2024-01-03/00.00 --job 6", ""]).encode()
-# in seconds: what one answer takes at most, and how long a desk that begins or ends is waited for
-QUICK, PATIENCE = timing.limit(1), timing.limit(150)
+# in seconds, ten times what it takes on a busy machine: how long a desk that begins or ends is waited for, and an
+# answer, which is less than a slow reader of a long list has
+PATIENCE, ANSWER = 300, 60
 # a place in memory, so that a busy disk doesn't count
 IN_MEMORY = "/dev/shm" if os.access("/dev/shm", os.W_OK) else None
 LISTENS = re.compile(r"desk: listening on http://127\.0\.0\.1:([0-9]+)")
 
 
+# whether a Python has what a desk needs, without the half second that it takes to import that
+HAS = "import importlib.util, sys; sys.exit(importlib.util.find_spec('aiohttp') is None)"
+
+
+@functools.cache
 def python():
     """The path of a Python that has what a desk needs, or nothing where there is none."""
     for one in (sys.executable, "/usr/bin/python3"):
         with contextlib.suppress(OSError):
-            if not subprocess.run([one, "-c", "import aiohttp"], capture_output=True, check=False).returncode:
+            if not subprocess.run([one, "-c", HAS], capture_output=True, check=False).returncode:
                 return one
     return ""
 
@@ -80,7 +87,7 @@ class Desk:
 
     def asked(self, method, path, body=None, **heads):
         """Status, headers and body of an answer by the address; `heads` have underscores for hyphens."""
-        with contextlib.closing(http.client.HTTPConnection("127.0.0.1", self.port, timeout=60)) as connection:
+        with contextlib.closing(http.client.HTTPConnection("127.0.0.1", self.port, timeout=ANSWER)) as connection:
             named = {name.replace("_", "-"): value for name, value in heads.items() if value is not None}
             connection.request(method, path, body, named)
             answer = connection.getresponse()
@@ -163,6 +170,6 @@ def own_name():
 
 def raw(port, text):
     """A connection over which a text was sent."""
-    found = socket.create_connection(("127.0.0.1", port), timeout=60)
+    found = socket.create_connection(("127.0.0.1", port), timeout=ANSWER)
     found.sendall(text)
     return found

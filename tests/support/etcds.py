@@ -17,10 +17,9 @@ import threading
 import time
 from pathlib import Path
 
-from support import timing
-
-# in seconds: how long a cluster that begins is waited for, one answer, and a process that is to end
-PATIENCE, ANSWER, LAST = timing.limit(60), timing.limit(5), 10
+# in seconds: how long a cluster that begins is waited for, one answer, after which another node is asked, and a process
+# that is to end
+PATIENCE, ANSWER, LAST = 300, 10, 100
 # below those that the system gives to whoever connects: a port that is free for a while is nobody's by chance
 PORTS = range(12_000, 32_000)
 IN_MEMORY = "/dev/shm" if os.access("/dev/shm", os.W_OK) else None
@@ -76,8 +75,8 @@ class Cluster:
             self.start(place)
         self.comes()
 
-    def start(self, place):
-        """Starts a node. It is killed with the thread that starts it, if not sooner."""
+    def start(self, place, state="new"):
+        """Starts a node, of a cluster in a state. It is killed with the thread that starts it, if not sooner."""
         client, peer = self.clients[place], self.peers[place]
         members = ",".join(f"n{number}=http://127.0.0.1:{port}" for number, port in enumerate(self.peers))
         given = ["setpriv", "--pdeathsig", "KILL", "etcd", "--name", f"n{place}",
@@ -85,7 +84,7 @@ class Cluster:
                  "--advertise-client-urls", f"{self.scheme}://127.0.0.1:{client}",
                  "--listen-peer-urls", f"http://127.0.0.1:{peer}",
                  "--initial-advertise-peer-urls", f"http://127.0.0.1:{peer}",
-                 "--initial-cluster", members, "--initial-cluster-state", "new", "--log-level", "warn", *self.words]
+                 "--initial-cluster", members, "--initial-cluster-state", state, "--log-level", "warn", *self.words]
         with open(self.folder / f"n{place}.said", "ab") as said:
             self.processes[place] = subprocess.Popen(given, stdin=subprocess.DEVNULL, stdout=said, stderr=said)
 
@@ -113,6 +112,32 @@ class Cluster:
     def forget(self, place):
         """Takes away what a node that is killed wrote."""
         shutil.rmtree(self.folder / f"n{place}")
+
+    def replace(self, place):
+        """Has an empty node take the place of one that is killed, as another member."""
+        until = time.monotonic() + PATIENCE
+        for ask in (self.remove_member, self.add_member):
+            while True:  # etcd refuses it while it has no leader, or too few nodes are up
+                try:
+                    ask(place)
+                    break
+                except Silent as why:
+                    if time.monotonic() > until:
+                        raise AssertionError(f"{why}; {self.said()}") from None
+                    time.sleep(0.1)
+        self.forget(place)
+        self.start(place, "existing")
+
+    def remove_member(self, place):
+        """Removes a node from the cluster, if it is in it. Raises Silent."""
+        url = f"http://127.0.0.1:{self.peers[place]}"
+        for one in self.asked("/v3/cluster/member/list", {})["members"]:
+            if url in one["peerURLs"]:
+                self.asked("/v3/cluster/member/remove", {"ID": one["ID"]})
+
+    def add_member(self, place):
+        """Adds a node to the cluster. Raises Silent."""
+        self.asked("/v3/cluster/member/add", {"peerURLs": [f"http://127.0.0.1:{self.peers[place]}"]})
 
     def end(self):
         """Kills all that runs, and waits for it."""

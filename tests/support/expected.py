@@ -16,9 +16,9 @@ def of_file(path):
         return asked(plans.copy_of(path, folder), LOOK)[0]
 
 
-def of_stream(*texts):
+def of_stream(first, *texts):
     """The lines of all listings after streams, by the plain planner."""
-    planner = plans.plain.Planner()
+    planner = plans.planner_from(first)
     for text in texts:
         plans.plain.run(plans.as_bytes(text), planner)
     return plans.plain.run(LOOK, planner)
@@ -26,7 +26,7 @@ def of_stream(*texts):
 
 def asked(path, text):
     """The lines that opcplan answers over a file, its exit status and what it says of it."""
-    ran = subprocess.run([plans.PROGRAM, "--db", path], input=text, capture_output=True, check=False, timeout=60)
+    ran = subprocess.run([plans.PROGRAM, "--db", path], input=text, capture_output=True, check=False, timeout=300)
     return ran.stdout.decode("latin-1").splitlines(), ran.returncode, ran.stderr.decode()
 
 

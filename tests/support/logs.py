@@ -89,6 +89,11 @@ class Case(unittest.TestCase):
             self.assertLess(time.monotonic(), until, self.trim(*words))
             time.sleep(0.2)
 
+    def revoke_leases(self):
+        """Ends all leases of etcd, and what they hold."""
+        for one in self.etcd.asked("/v3/lease/leases", {}).get("leases", ()):
+            self.etcd.asked("/v3/lease/revoke", {"ID": one["ID"]})
+
     def caught_up(self, desk, position):
         return desk.comes(lambda found: found.get("status") == "ok" and found["position"] >= position)
 

@@ -16,11 +16,11 @@ import time
 import unittest
 from pathlib import Path
 
-from support import desks, etcds, expected, plans, timing
+from support import desks, etcds, expected, plans
 
 NAME = "plan"
 # in seconds: one answer, after which a caller goes to another desk, and all answers of a caller
-ANSWER, PATIENCE = timing.limit(6), timing.limit(200)
+ANSWER, PATIENCE = 12, 500
 STATUSES = ("start", "fail", "reset", "start", "complete")
 
 
@@ -47,7 +47,7 @@ def stream(caller, turn):
     yield [f"undefine calendars --name {calendar if turn % 2 else 'NONE'}"]
     yield [f"define applications\n{new},X,\n/*"]
     yield ["cp-start --app", f"days --app {app} --from 2024-01-01 --to 2024-01-03"]
-    yield ["dp-extend --days 1 --count A" if (caller, turn) == (0, 3) else
+    yield ["dp-extend --days 1 --count A" if (caller, turn) == (0, 1) else
            f"cp-complete --app {app} --ia 2024-01-01/07.{minute}"]
 
 
@@ -227,7 +227,7 @@ def entries(etcd, name=NAME):
     for key, value in etcd.values(f"/opcplan/{name}/log/"):
         for seq, one in enumerate(json.loads(value)["batch"], int(key.rpartition("/")[2])):
             text = one["text"].encode() if "text" in one else etcds.unb64(one["base64"])
-            found.append(Entry(seq, one["who"], one["key"], one["job"], text))
+            found.append(Entry(seq, one["who"], one.get("key"), one["job"], text))
     return found
 
 
@@ -246,10 +246,10 @@ def joined(first, second):
     return [one for _, one in sorted({one.seq: one for one in (*first, *second)}.items())]
 
 
-def wrong(over, callers, before=()):
+def wrong(over, callers, before=(), after=lambda seq, planner, reply: None):
     """What doesn't hold once the desks are ended, some texts: each answer is that of the log and of the plain planner,
     each key stands once in the log, and all plans are what the log makes of the first one. `before` has Entries that
-    are trimmed."""
+    are trimmed; `after` gets each entry's number, the planner behind it and its reply."""
     found = joined(before, entries(over.etcd))
     seen = []
     if [one.seq for one in found] != list(range(1, len(found) + 1)):
@@ -257,9 +257,11 @@ def wrong(over, callers, before=()):
     by_key = {one.key: one for one in found}
     if len(by_key) != len(found):
         seen.append(f"{len(found) - len(by_key)} keys stand in the log twice")
-    planner = plans.plain.Planner()
-    plans.plain.run(desks.CENTRE, planner)
-    replies = {one.seq: plans.plain.run(one.text, planner)[0] for one in found}
+    planner = plans.planner_from(desks.CENTRE)
+    replies = {}
+    for one in found:
+        replies[one.seq] = plans.plain.run(one.text, planner)[0]
+        after(one.seq, planner, replies[one.seq])
     kept = 0
     for (caller, place), (texts, answers) in callers.answers.items():
         if len(texts) != len(answers):

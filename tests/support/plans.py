@@ -9,6 +9,7 @@ import functools
 import hashlib
 import io
 import os
+import pickle
 import re
 import shutil
 import sqlite3
@@ -64,11 +65,21 @@ def planner_of(text):
     return planner_after(as_bytes(text))
 
 
+def planner_from(text):
+    """A plain planner of one's own that goes on after a stream, which is run once however often this is asked."""
+    return pickle.loads(kept_after(as_bytes(text)))
+
+
 @functools.cache
 def planner_after(text):
     planner = plain.Planner()
     plain.run(text, planner)
     return planner
+
+
+@functools.cache
+def kept_after(text):
+    return pickle.dumps(planner_after(text))
 
 
 def of_stream(text):

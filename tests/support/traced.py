@@ -37,9 +37,8 @@ def stopped_at(number: int, call: Callable[[], object], meanwhile: Callable[[], 
     return entered_at(number, call, lambda _: meanwhile())
 
 
-def entered_at(number: int, call: Callable[[], object], then: Callable[[int], object]) -> bool:
-    """Whether a process that makes a call came to its system call of this number, where `then` is called with its
-    process id; it is waited for."""
+def begun(call: Callable[[], object]) -> int:
+    """The process id of a traced child that stands still before it makes a call."""
     child = os.fork()
     if not child:
         status = 1
@@ -52,6 +51,13 @@ def entered_at(number: int, call: Callable[[], object], then: Callable[[int], ob
             os._exit(status)
     os.waitpid(child, 0)
     traced(SET_OPTIONS, child, MARK_CALLS | DIE_WITH_TRACER)
+    return child
+
+
+def entered_at(number: int, call: Callable[[], object], then: Callable[[int], object]) -> bool:
+    """Whether a process that makes a call came to its system call of this number, where `then` is called with its
+    process id; it is waited for."""
+    child = begun(call)
     entered, is_inside, passed_on = 0, False, 0
     while True:
         with contextlib.suppress(ProcessLookupError):  # it was killed there

@@ -154,7 +154,7 @@ def paper(browser, page, ask):
     browser.media(dark=True, printed=True)
     browser.js("dispatchEvent(new Event('beforeprint'))")
     ask(browser.js("getComputedStyle(document.body).backgroundColor") == "rgb(255, 255, 255)", "paper is white")
-    seen = browser.js("[...document.querySelectorAll('#needs .go, #needs .waits .in')]"
+    seen = browser.js("[...document.querySelectorAll('#needs .go')]"
                       ".filter(x => x.getClientRects().length).map(x => serial[+x.dataset.i])")
     late = {serial for serial, in ask_plan(f"SELECT serial FROM cp_row WHERE {LATE}", NOW)}
     ask(late <= set(seen), "all that is late is on paper", late - set(seen))

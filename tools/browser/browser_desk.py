@@ -27,7 +27,7 @@ STATE = "state(rowOfSerial({}))"
 # what the page holds of the plan, for a comparison
 HELD = """[Array.from(serial), Array.from(ia), Array.from(due), Array.from(D.state).join(''),
     Array.from({length: rowCount}, (_, i) => late.has(i) ? 'l' : risk.has(i) ? 'r' : '.').join(''),
-    [...rootOf].map(([i, root]) => [serial[i], serial[root]]).sort((a, b) => a[0] - b[0]), D.holds, D.holdCount,
+    [...rootOf].map(([i, root]) => [serial[i], serial[root]]).sort((a, b) => a[0] - b[0]),
     Array.from({length: rowCount}, (_, i) => (before.get(i) || []).map(k => serial[k]).sort((a, b) => a - b))]"""
 
 
@@ -96,8 +96,8 @@ class Room:
             file.write(data)
         wanted = made_anew(path)
         held = self.js(HELD)
-        for name, one, other in zip(("serials", "arrivals", "deadlines", "states", "marks", "roots", "holds", "count",
-                                     "pairs"), held, wanted, strict=True):
+        names = "serials", "arrivals", "deadlines", "states", "marks", "roots", "pairs"
+        for name, one, other in zip(names, held, wanted, strict=True):
             self.ask(one == other, f"{what}: {name}", (str(one)[:200], str(other)[:200]))
 
     def complaints(self):
@@ -127,7 +127,6 @@ def made_anew(path):
     pairs, roots = listed(rows["pairs"]), listed(rows["roots"])
     return [serials, arrivals, [ia + due for ia, due in zip(arrivals, rows["due"], strict=True)], data["state"],
             data["marks"], sorted([serials[place], serials[root]] for place, (root,) in roots.items()),
-            json.loads(json.dumps(data["holds"])), data["holdCount"],
             [sorted(serials[other] for other in pairs.get(place, [])) for place in range(len(serials))]]
 
 
@@ -168,8 +167,6 @@ def another_caller(browser, folder, ask):
     tiles = [int(text) for text in room.js("[...document.querySelectorAll('.tiles b')].map(x => x.textContent)")]
     counted = room.js("(n => [n.E, n.late, n.risk, n.hour, n.S, n.R])(countStates(() => true))")
     ask(tiles == counted, "tiles", (tiles, counted))
-    short = room.js("[drawTopAnew(), document.querySelectorAll('#short li').length, D.short.length]")[1:]
-    ask(short[0] == short[1], "each definition that ends is told once", short)
     ask(not room.complaints(), "the console", room.complaints())
     room.end()
 
@@ -216,6 +213,73 @@ def place(browser, folder, ask):
     room.end()
 
 
+def listed(room):
+    """The needs that the desk lists for the moment of the page: their names, and the serials that they count."""
+    heads = {"Authorization": f"Bearer {room.token}"} if room.token else {}
+    found = json.loads(room.desk.asked("GET", f"/status?now={data_centre.NOW}", **heads)[2])
+    return [[one["name"], sorted(int(serial) for serial, name in found["followers"].items() if name == one["name"])]
+            for one in found["needs"]]
+
+
+def needs(browser, folder, ask):
+    """The list is the desk's, whoever changes what; it comes without the rows being fetched again."""
+    room = Room(browser, folder, ask)
+    shown = """(document.querySelector('#needs .more')?.click(),
+        [...document.querySelectorAll('[data-need]')].map(x => {
+        const part = x.querySelector('details');
+        part?.drawLines();
+        return [x.dataset.need, [...part?.querySelectorAll('.go') ?? []].map(y => serial[+y.dataset.i])
+            .sort((a, b) => a - b)];
+    }))"""
+    about = "document.querySelector('#about').textContent"
+    fetched = "performance.getEntriesByType('resource').filter(x => x.name.includes('/page/data')).length"
+
+    def same(what):
+        wanted = listed(room)
+        room.comes(f"JSON.stringify({shown}) === {json.dumps(json.dumps(wanted, separators=(',', ':')))}", what, 10)
+        room.comes(f"{about} === 'As of 06.00.'", f"{what}: it belongs to the rows", 10)
+        return [name for name, _ in wanted]
+
+    room.open()
+    before, whole = same("at first"), room.js(fetched)
+    ready = room.row("state(i) === 'R' && (after.get(i) || []).some(k => state(k) === 'B' || state(k) === 'F')")
+    key = room.key_of(ready)
+    for act in ("start", "fail"):
+        ask(room.post(f"cp-{act} {key}\n").startswith("ok"), f"another caller: {act}")
+        room.comes(f"{about} === 'As of 06.00, before the last change.' || {about} === 'As of 06.00.'", act)
+    names = same("a failure")
+    own = next((name for name in names if name.startswith(f"error:{ready}:")), "")
+    ask(own and own not in before, "a failure is a need", names)
+    ask(room.js(fetched) == whole, "the rows weren't fetched for it", room.js(fetched))
+    room.js(f"document.querySelector('[data-need=\"{own}\"] .go').focus()")
+    browser.key("Enter")
+    ask(room.js("serial[view.pick]") == ready and room.holds("document.querySelector('.acts [data-act=reset]')"),
+        "Enter leads to its row, with buttons")
+    press(room, "reset")
+    room.comes(f"{STATE.format(ready)} === 'R'", "it is reset", 2)
+    ask(own not in same("a reset"), "what is reset is no need")
+    body = json.dumps({"trouble": "jobs.toml: it is <b>missing</b>"})
+    status = room.desk.asked("PUT", "/reports/agent", body, X_Opcplan="desk", X_Opcplan_Agent="etl-1")[0]
+    ask(status == 204, "an agent's report", status)
+    room.js("document.dispatchEvent(new Event('visibilitychange', { bubbles: true }))")
+    ask(any(name.startswith("settings:") for name in same("a report of an agent")), "a report is a need without a row")
+    ask("jobs.toml: it is <b>missing</b>" in room.js("document.querySelector('#needs').innerText"), "texts stay text")
+    faint = browser.js(FAINT.replace("'.hidden", "':disabled, .hidden"))
+    ask(not faint, "contrast", faint[:5])
+    room.desk.ended(signal.SIGKILL)
+    room.js("document.dispatchEvent(new Event('visibilitychange', { bubbles: true }))")
+    room.comes(f"{about}.startsWith('The list can’t be fetched: ')", "a desk that is gone is told", 10)
+    ask(len(room.js(shown)) == len(listed_names(room)), "the list stays", room.js(shown))
+    room.js("window.fetch = async () => new Response('{}'); fetchNeeds()")
+    room.comes("document.querySelector('#needs .empty')?.textContent === OLD_DESK", "an older desk has no list", 15)
+    room.end()
+
+
+def listed_names(room):
+    """The names of the needs that the page has."""
+    return room.js("needed.list.needs.map(one => one.name)")
+
+
 def buttons(browser, folder, ask):
     """By keys alone: a row is chosen, started, failed, reset and deleted, each with its answer in words."""
     room = Room(browser, folder, ask)
@@ -251,6 +315,108 @@ def buttons(browser, folder, ask):
                "who comes second is told in words", 3)
     ask(not room.complaints(), "the console", room.complaints())
     room.end()
+
+
+def final(browser, folder, ask):
+    """What can't be undone, by keys and by pointer: `t`, `a` and Enter reset a row in error and complete none; Complete
+    says who waits, and neither Enter again nor a double click does it."""
+    room = Room(browser, folder, ask)
+    room.open()
+    browser.key("t")
+    number = room.js("serial[view.pick]")
+    ask(room.js(STATE.format(number)) == "E", "t leads to a row in error")
+    browser.key("a")
+    ask(room.js("document.activeElement.dataset.act") == "reset", "a leads to Reset")
+    number = room.row("state(i) === 'E' && behind(i).length > 1")
+    room.js(f"choose(rowOfSerial({number})); document.activeElement.blur()")
+    waiting = room.js("behind(view.pick).length")
+    wanted = f"{waiting} wait for it"
+    told = "document.querySelector('#answer').textContent"
+    press(room, "complete")
+    browser.key("Enter", 3)
+    ask(waiting and room.js(told).startswith(f"{wanted}. "), "Complete says who waits", room.js(told))
+    room.comes(f"{SAID}.includes({json.dumps(wanted)})", "it is said to a screen reader")
+    ask(room.desk.health()["position"] == 0, "Enter again and again completes nothing")
+    room.js("choose(-1)")
+    room.js(f"choose(rowOfSerial({number})); answers.clear(); showCard()")
+    room.js("document.querySelector('[data-act=complete]').scrollIntoView({ block: 'center', behavior: 'instant' })")
+    clicked(room, "complete", 2)
+    ask("once more" in room.js(told), "a double click asks", room.js(told))
+    ask(room.desk.health()["position"] == 0, "a double click completes nothing")
+    apart = room.js("(([a, b]) => b.top - a.bottom)([...document.querySelectorAll('.acts .buttons')]"
+                    ".map(x => x.getBoundingClientRect()))")
+    ask(apart >= 8, "what can't be undone stands apart", apart)
+    clicked(room, "complete")
+    room.comes(f"{STATE.format(number)} === 'C'", "one more click completes it", 2)
+    other = room.row("state(i) === 'E'")
+    room.js(f"choose(rowOfSerial({other}))")
+    browser.key("a")
+    browser.key("Enter")
+    room.comes(f"'RFB'.includes({STATE.format(other)})", "a and Enter reset a row in error", 2)
+    blocked = room.row("state(i) === 'B'")
+    room.js(f"choose(rowOfSerial({blocked}))")
+    position = room.desk.health()["position"]
+    browser.key("a")
+    browser.key("Enter", 2)
+    ask(not room.js("document.activeElement.dataset.act"), "a leads to nothing that can't be undone")
+    ask(room.js(STATE.format(blocked)) == "B" and room.desk.health()["position"] == position, "Enter does nothing")
+    ask(not room.complaints(), "the console", room.complaints())
+    room.end()
+
+
+def verbs(browser, folder, ask):
+    """Verbs of the card: each shows what it would do and changes nothing, and a second press does it as shown."""
+    room = Room(browser, folder, ask)
+    room.open()
+    number = room.row("state(i) === 'R'")
+    app = room.js(f"name(rowOfSerial({number}))")
+    shown = "document.querySelector('#preview')?.textContent ?? ''"
+    ready = "document.querySelector('#preview .do:not(:disabled)')"
+    room.js(f"choose(rowOfSerial({number})); document.querySelector('.verbs [data-verb=cancel]').focus()")
+    browser.key("Enter")
+    room.comes(ready, "a preview of Cancel comes", 4)
+    ask(app in room.js(shown) and room.js("document.activeElement.id") == "preview", "it has the focus", room.js(shown))
+    browser.key("Enter", 2)
+    ask(room.desk.health()["position"] == 0, "a preview changes nothing, nor does Enter again")
+    browser.key("Tab")
+    browser.key("Enter")
+    room.comes(f"{STATE.format(number)} === 'D'", "Tab and Enter do it", 4)
+    room.comes(f"({shown}).startsWith('Done: 1 statement')", "it is told", 4)
+    room.same("cancel")
+    other = room.row("state(i) === 'R'")
+    room.js(f"choose(rowOfSerial({other})); (x => {{ x.value = '05:57'; x.dispatchEvent(new Event('input')); }})"
+            "(document.querySelector('.verbs input[type=time]')); document.querySelector('[data-verb=move]').click()")
+    room.comes(ready, "a preview of Move comes", 4)
+    room.post(f"cp-add --app {app} --ia 2026-11-25/05.51\n")
+    name, position = room.js("name(view.pick)"), room.desk.health()["position"]
+    room.js(f"{ready}.click()")
+    room.comes(f"({shown}).startsWith('Done: ')", "what is shown the same in a later state is done", 6)
+    ask(room.desk.health()["position"] > position, "it is done")
+    room.comes("[...Array(rowCount).keys()].some(i => name(i) === " + json.dumps(name) +
+               " && clock(ia[i]) === '05.57' && 'RBF'.includes(state(i)))", "it is moved", 6)
+    last = room.row("state(i) === 'E'")
+    room.js(f"choose(rowOfSerial({last})); document.querySelector('[data-verb=rerun]').click()")
+    room.comes(ready, "a preview of Rerun comes", 4)
+    room.post(f"cp-reset {room.key_of(last)}\n")
+    position = room.desk.health()["position"]
+    room.js(f"{ready}.click()")
+    room.comes(f"({shown}) && !looked.busy", "another state is told", 6)
+    ask(room.desk.health()["position"] == position, "what would do something else isn't done", room.js(shown))
+    others = [one for one in room.complaints() if "412" not in str(one)]  # those the page expects
+    ask(not others, "the console", others)
+    room.end()
+
+
+def clicked(room, act, times=1):
+    """Clicks a button of the chosen row with the pointer, several times in a row if told."""
+    x, y = room.js(f"(r => [r.x + r.width / 2, r.y + r.height / 2])(document.querySelector('.acts [data-act={act}]')"
+                   ".getBoundingClientRect())")
+    for count in range(1, times + 1):
+        if count == 2:  # the text above the buttons may have moved them: the pointer goes after
+            x, y = room.js("(r => [r.x + r.width / 2, r.y + r.height / 2])(document.querySelector("
+                           f"'.acts [data-act={act}]').getBoundingClientRect())")
+        for kind in ("mousePressed", "mouseReleased"):
+            room.browser.call("Input.dispatchMouseEvent", type=kind, x=x, y=y, button="left", clickCount=count)
 
 
 def logs(browser, folder, ask):
@@ -429,7 +595,7 @@ def looks(browser, folder, ask, pictures=None):
                 "buttons": "choose([...Array(rowCount).keys()].find(i => 'RSE'.includes(state(i)))); "
                            "answers.set(serial[view.pick], { text: ['It is started (ok serial 242 status S).'], "
                            "look: 'is-done' }); showCard()",
-                "sure": "answers.set(serial[view.pick], { sure: 'delete', look: 'is-late', "
+                "sure": "answers.set(serial[view.pick], { sure: 'delete', of: statusOfRow(view.pick), look: 'is-late', "
                         "text: ['Press once more'] }); showCard()",
                 "trial": "choose(-1); document.querySelector('#look').click(); "
                          "new Promise(done => setTimeout(done, 700))",
@@ -490,4 +656,4 @@ def large(browser, folder, ask):
     room.end()
 
 
-OF_DESKS = [another_caller, place, buttons, logs, trials, roles, gone, clock, large]
+OF_DESKS = [another_caller, needs, place, buttons, final, verbs, logs, trials, roles, gone, clock, large]

@@ -140,11 +140,11 @@ def filtered(browser, page, ask):
         tiles = [int(text) for text in browser.js(texts(".tiles b"))]
         ask([tiles[0], tiles[1], tiles[4]] == [errors, late, started], f"tiles of {word}", tiles)
         browser.js("document.querySelectorAll('#needs details').forEach(x => { x.drawLines?.(); x.open = true; })")
-        shown = browser.js("[...document.querySelectorAll('#needs .go, #needs .waits .in')]"
-                           ".filter(x => state(+x.dataset.i) === 'E').length")
+        shown = browser.js("[...document.querySelectorAll('#needs .go')].map(x => +x.dataset.i)"
+                           ".filter(i => isWanted(i) && state(i) === 'E').length")
         ask(shown == errors, f"what is to be mended of {word}", shown)
-        shown = browser.js("[...document.querySelectorAll('#needs .go, #needs .waits .in')]"
-                           ".filter(x => late.has(+x.dataset.i)).length")
+        shown = browser.js("[...document.querySelectorAll('#needs .go')].map(x => +x.dataset.i)"
+                           ".filter(i => isWanted(i) && late.has(i)).length")
         ask(shown == late, f"what is late of {word}", shown)
         for place, number in enumerate(tiles):
             browser.js(f"document.querySelectorAll('.tiles button')[{place}].click()")
@@ -163,11 +163,11 @@ def filtered(browser, page, ask):
 
 
 def distinct_names(browser, page, ask):
-    """Wherever a row is named, its arrival stands beside its name; and what holds others up holds somebody."""
+    """Wherever a row is named, its arrival stands beside its name."""
     browser.open(page)
     browser.js("document.querySelectorAll('#now details').forEach(x => { x.drawLines?.(); x.open = true; })")
     names = browser.js("[...document.querySelectorAll('#now .in')].map(x => x.textContent)")
-    ask(len(names) > 10 and all(name[-3] == "." for name in names), "names in sentences have a time", names[:3])
+    ask(len(names) > 5 and all(name[-3] == "." for name in names), "names in sentences have a time", names[:3])
     heads = browser.js("[...document.querySelectorAll('#now .go')].map(x => x.children[1].textContent)")
     ask(all(head[-3] == "." for head in heads), "names in lists have a time", heads[:3])
     day = browser.js(f"{OPENED}; view.kind = 'all'; drawDay(); [...document.querySelectorAll('.row[data-i]')]"

@@ -1,17 +1,19 @@
-"""What tools/browser/page-in-browser asks of the list of what needs somebody, of runs that are one line, of signs, and
-of what runs into one another: by stock SQLite."""
+"""What tools/browser/page-in-browser asks of the list of what needs a person, by what ./plan status prints; of runs
+that are one line, of signs, and of what runs into one another, by stock SQLite."""
 
 import re
 import sqlite3
 from contextlib import closing
 
-from support import hourly, plans
+import test_page_needs
+from support import data_centre, hourly, plans
 
 from opcplan.rules import moments
+from opcplan.webpage import page_data, page_html
 
 from browser_checks import LATE, NOW, SIZES, ask_plan, row_of, texts
 from browser_keys import focus
-from browser_plans import FAINT, written
+from browser_plans import FAINT, NAMELESS, written
 
 EVENING = moments.moment_of(hourly.NOW)
 # own entries of the list, and the rows of its parts, by serial
@@ -19,8 +21,9 @@ NEEDS = "[...document.querySelectorAll('#needs > .pane > .list > .entry > .go')]
 INSIDE = ("(document.querySelectorAll('#needs details').forEach(x => { x.drawLines?.(); x.open = true; }), "
           "[...document.querySelectorAll('#needs details .go, #needs .waits .in')].map(x => serial[+x.dataset.i]))")
 NEXT = "[...document.querySelectorAll('#next .go')].map(x => serial[+x.dataset.i])"
-HELD = """WITH RECURSIVE held (s) AS (SELECT ? UNION SELECT successor FROM dependency
-    JOIN held ON predecessor = s JOIN cp_row ON serial = successor WHERE status = 'W') SELECT count(*) - 1 FROM held"""
+# of each entry its text, and what to do first or nothing
+SAID = "[...document.querySelectorAll('#needs [data-need]')].map(x => [...x.querySelectorAll(':scope > p')]" \
+    ".map(y => y.textContent.trim()))"
 # which texts of the axis run into one another
 NEAR = """(() => {
   const boxes = [...document.querySelectorAll('.axis span')].map(x => [x.textContent, x.getBoundingClientRect()])
@@ -44,8 +47,8 @@ def ask_hourly(text, *given):
 
 
 def each_once(browser, ask, look, asked, now):
-    """All that is in error or late is in the list or in one of its parts, all that is ready there or beside it, and
-    nothing of these twice."""
+    """All that is in error or late is in the list or counted there, all that is ready there or beside it, and nothing
+    of these twice. Here no failure is tried again."""
     browser.js("document.querySelectorAll('#now .more').forEach(x => x.click())")
     needs, inside, beside = browser.js(NEEDS), browser.js(INSIDE), browser.js(NEXT)
     wanted = {serial for serial, in asked(f"SELECT serial FROM cp_row WHERE status = 'E' OR {LATE}", now)}
@@ -53,46 +56,92 @@ def each_once(browser, ask, look, asked, now):
     ready = {serial for serial, in asked("""SELECT serial FROM cp_row WHERE status = 'W' AND ia <= ? AND NOT EXISTS
         (SELECT 1 FROM dependency JOIN cp_row p ON p.serial = predecessor WHERE successor = cp_row.serial
             AND p.status <> 'C')""", now)}
-    ask(ready <= {*needs, *beside} and not ready & {*inside}, f"{look}: all that is ready", ready - {*needs, *beside})
+    ask(ready <= {*needs, *inside, *beside}, f"{look}: all that is ready", ready - {*needs, *inside, *beside})
     every = [*needs, *inside, *beside]
     twice = sorted(serial for serial in set(every) if every.count(serial) > 1)
     ask(not twice, f"{look}: each row once", twice)
     return needs
 
 
+def as_status_says(browser, ask, look, path, now):
+    """The page has what ./plan status prints, in its order."""
+    printed = plans.plan("status", path, "--now", now).stdout.split("Needs a person:\n")[1].split("\n\n")[0].split("\n")
+    wanted = []
+    for line in printed:
+        if line.startswith("    First: "):
+            wanted[-1].append(line.strip().replace("`", ""))
+        else:
+            wanted.append([line.strip().replace("`", "")])
+    found = browser.js(SAID)
+    is_same = len(found) == len(wanted) and all(
+        len(one) == len(other) and other[0].lower().endswith(one[0].lower()) and one[1:] == other[1:]
+        for one, other in zip(found, wanted, strict=True))
+    ask(is_same, f"{look}: what ./plan status prints", (found, wanted))
+    return len(wanted)
+
+
 def needs_of_a_night(browser, page, ask):
-    """The list of the centre's night: each once, those in error first, then by how many late ones wait; it counts."""
+    """The list of the centre's night is that of ./plan status; a click and the keys lead to rows."""
     browser.open(page)
     day = browser.js("document.querySelector('#day').getBoundingClientRect().top")
     ask(day < 700, "the day begins on the first screen", day)
     needs = each_once(browser, ask, "the centre", ask_plan, NOW)
-    status = dict(ask_plan("SELECT serial, status FROM cp_row"))
-    errors = [status[serial] == "E" for serial in needs]
-    ask(errors == sorted(errors, reverse=True) and any(errors), "those in error come first", errors)
-    ask(len(needs) == 3, "what waits for an entry is no entry", needs)
-    for serial in needs:
-        number = ask_plan(HELD, serial)[0][0]
-        text = browser.js(f"[...document.querySelectorAll('#needs .entry')].find(x => "
-                          f"+x.querySelector('.go').dataset.i === rowOfSerial({serial})).innerText")
-        said = f"{number} wait for it" if number > 1 else "waits for it" if number else "arrived"
-        ask(said in text, f"how many wait for {serial}", text)
+    count = as_status_says(browser, ask, "the centre", plans.of_stream(data_centre.whole()), data_centre.NOW)
     heads = browser.js(texts("#now h3"))
-    ask(heads[0] == f"Needs you {len(needs)}" and heads[1].startswith("Ready, and arriving next "), "headings", heads)
+    ask(heads[0] == f"Needs you {count}" and heads[1].startswith("Ready, and arriving next "), "headings", heads)
+    browser.js("document.querySelectorAll('#needs details').forEach(x => { x.open = false; })")
+    browser.js("document.querySelector('#needs .go').click()")
+    ask(browser.js("serial[view.pick]") == needs[0], "a click leads to the row")
+    browser.js("choose(-1); document.querySelectorAll('#needs > .pane > .list > .entry > .go')[1].focus()")
+    browser.key("Enter")
+    ask(browser.js("serial[view.pick]") == needs[1], "so does Enter")
+    browser.key("Tab")
+    ask(focus(browser)[0] == "SUMMARY", "Tab leads to what it counts", focus(browser))
+    browser.key("Enter")
+    browser.key("Tab")
+    row = browser.js("serial[+document.activeElement.dataset.i]")
+    browser.key("Enter")
+    ask(row not in needs and browser.js("serial[view.pick]") == row, "which Enter opens and chooses", row)
 
 
 def needs_of_an_evening(browser, folder, ask):
-    """The list of a site of hourly jobs: a row that waits for two is put to the worse; runs to come are told once."""
+    """The list of a site of hourly jobs; runs to come are told once."""
     page = hourly_page(folder)
     browser.open(page)
-    needs = each_once(browser, ask, "the site", ask_hourly, EVENING)
-    names = [ask_hourly("SELECT app FROM cp_row WHERE serial = ?", serial)[0][0] for serial in needs]
-    ask(names == ["STOCK", "HEALTH", "MAILRUN"], "the worst first", names)
+    each_once(browser, ask, "the site", ask_hourly, EVENING)
+    as_status_says(browser, ask, "the site", plans.of_stream(hourly.whole()), hourly.NOW)
     text = browser.js("document.querySelector('#next').innerText")
     coming = ask_hourly("SELECT count(*) FROM cp_row WHERE app = 'MAILRUN' AND ia > ?", EVENING)[0][0]
     ask(f"; {coming - 1} more of it later" in text, "runs to come are told once", text)
-    ask("2 more are ready: see “Needs you”." in text, "what is ready elsewhere", text)
+    ready = browser.js("[...document.querySelectorAll('#needs .go')].filter(x => state(+x.dataset.i) === 'R').length")
+    ask(ready and f"{ready} more {'is' if ready == 1 else 'are'} ready: see “Needs you”." in text,
+        "what is ready elsewhere", text)
     pages = len(re.findall(rb"/Type\s*/Page\b(?!s)", browser.pdf()))
     ask(pages <= 2, "a small plan is on two pages of paper", pages)
+
+
+def needs_of_every_kind(browser, folder, ask):
+    """A list that only a desk can have: at each width, light and dark, nothing stands out and all can be read."""
+    path = str(plans.of_stream(data_centre.whole()))
+    data = page_data.data_of(path, NOW)
+    data["needs"] |= test_page_needs.status_of(path, NOW, None, test_page_needs.LIVE)
+    out = f"{folder}/kinds.html"
+    with open(out, "w", encoding="utf-8") as file:
+        file.write(page_html.page_of(data))
+    for width, height in SIZES:
+        for dark in (False, True):
+            browser.open(out, width, height, dark)
+            look = f"every kind at {width}, {'dark' if dark else 'light'}"
+            browser.js("document.querySelector('#needs .more').click()")
+            names = browser.js("[...document.querySelectorAll('[data-need]')].map(x => x.dataset.need)")
+            ask(names == [one["name"] for one in data["needs"]["needs"]] and len(names) > 8, look, names)
+            shown = browser.js("document.querySelector('#needs').innerText")
+            ask("The disk of /var/lib/<b>opcplan</b> is full to 95.0%" in shown, f"{look}: texts stay text", shown)
+            wide = browser.js("document.documentElement.scrollWidth")
+            ask(wide <= width, f"{look}: nothing stands out", wide)
+            for what, question in (("contrast", FAINT), ("names", NAMELESS)):
+                ask(not browser.js(question), f"{look}: {what}", browser.js(question))
+            ask(not browser.complaints(), f"{look}: the console", browser.complaints())
 
 
 def runs(browser, folder, ask):
@@ -209,8 +258,8 @@ def reader(browser, page, ask):
     wanted = {"centre.db", "Now", "Needs you 3", "Day", "Month", "Changes"}
     ask(wanted <= set(named("heading")), "headings", named("heading"))
     ask(is_expanded("Signs and keys") == [False], "the legend is put away", is_expanded("Signs and keys"))
-    inside = [name for name in named("DisclosureTriangle") if " wait for it" in name]
-    ask(inside and "late; first due: " in inside[0], "what waits for an entry", named("DisclosureTriangle"))
+    inside = [name for name in named("DisclosureTriangle") if name.startswith("Counts ")]
+    ask(inside and "late; first due: " in inside[0], "what an entry counts", named("DisclosureTriangle"))
     states = [name for name in named("button") if ", due " in name]
     words = ("in error", "started", "nothing is in its way", "waits for")
     dumb = [name for name in states if not any(word in name for word in words)]
@@ -234,4 +283,4 @@ def axis(browser, folder, ask):
 
 
 OF_NEEDS = [needs_of_a_night, signs, legend, trouble, readable, reader]
-OF_SITE = [needs_of_an_evening, runs, axis]
+OF_SITE = [needs_of_an_evening, needs_of_every_kind, runs, axis]

@@ -138,12 +138,12 @@ def empty(browser, folder, ask):
     browser.js("document.querySelector('#find').value = 'NOSUCH'; find(); new Promise(done => setTimeout(done, 400))")
     text = browser.js("document.body.innerText")
     for said in ("Nothing of “NOSUCH” in these hours", "Nothing of “NOSUCH” runs in this month",
-                 "None of these is in error, is late, or holds up what is late.", "None of these waits to be started",
+                 "None of these needs a person.", "None of these waits to be started",
                  "only applications with “NOSUCH”: 0 of "):
         ask(said in text, f"a search without a match: {said}")
     browser.open(os.path.join(folder, "centre.html"), scripts=False)
     heard = " ".join(name for _, name in browser.names())
-    ask("Without that it shows only what is in error or late." in heard and "POSTLOANS" in heard, "without a script",
+    ask("Without that it shows only this:" in heard and "Needs a person: POSTLOANS" in heard, "without a script",
         heard[:200])
 
 

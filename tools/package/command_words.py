@@ -15,7 +15,8 @@ OPTION = re.compile(r"  (?:(-\w), |    )(--[\w-]+)(?: <(\w+)>)?  +(\S.*)")
 
 @dataclass
 class Word:
-    """An option, with its names, or a word in its place, without; `metavar` is None where no value belongs to it."""
+    """An option, with its names, or a word in its place, without; `metavar` is None where no value belongs to it.
+    `offered` is what a shell completes beside choices, and `kinds` of which kinds the names of a plan."""
 
     names: list
     metavar: str
@@ -24,6 +25,8 @@ class Word:
     is_file: bool
     is_repeated: bool = False
     is_optional: bool = True
+    offered: list = field(default_factory=list)
+    kinds: list = field(default_factory=list)
 
 
 @dataclass
@@ -79,7 +82,10 @@ def word_of(parser, action):
     is_repeated = action.nargs in ("*", "+", argparse.REMAINDER)
     is_optional = bool(action.option_strings) or action.nargs in ("?", "*", argparse.REMAINDER)
     choices = [str(choice) for choice in action.choices or []]
-    return Word(list(action.option_strings), metavar, about, choices, is_file, is_repeated, is_optional)
+    is_application = getattr(action.type, "__name__", "") == "name" and action.type.__module__ == "opcplan.cli.words"
+    kinds = getattr(action, "names", ["applications"] if is_application else [])
+    offered = getattr(action, "offered", [])
+    return Word(list(action.option_strings), metavar, about, choices, is_file, is_repeated, is_optional, offered, kinds)
 
 
 def of_program(program):

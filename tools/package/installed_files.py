@@ -13,8 +13,8 @@ import man_pages
 TOP = Path(__file__).resolve().parents[2]
 DATA = TOP / "crates" / "test_streams" / "data"
 EXAMPLES = ["first-days", "monday", "tuesday"]
-# all pages but those for one who has the sources
-FOR_SOURCES = {"ARCHITECTURE.md", "CLAIMS.md", "CONTRIBUTING.md", "DECISIONS.md", "DEFINITIONS.md", "KIT.md"}
+# not installed, as docs/DECISIONS.md: only somebody who has the sources needs these pages
+FOR_SOURCES = {"ARCHITECTURE.md", "CLAIMS.md", "CONTRIBUTING.md", "DEFINITIONS.md", "KIT.md"}
 # by name, which no two have: all are in one folder where they are installed
 PAGES = {path.name: path for path in sorted((TOP / "docs").glob("*/*.md")) if path.name not in FOR_SOURCES}
 # what is beside a page, for other programs
@@ -40,6 +40,8 @@ OF_TOP = {
     "Type the first line in the top folder of this repository: it makes the new folder, puts both commands there, and":
     "The first line makes the new folder, and",
 }
+# what is compiled of the package is put there with it, and nothing is added later
+WRITES_BYTECODE = re.compile(r"(?m)^# a checkout of one's own keeps [^\n]*\nsys\.dont_write_bytecode = [^\n]*\n")
 STREAM = re.compile(rf"(?<![\w./-])crates/test_streams/data/(?=(?:{'|'.join(EXAMPLES)})\.in\b)")
 
 
@@ -113,6 +115,7 @@ def as_file(text):
 def of_package(prefix, python):
     """./plan and its package in python/, as the repository has them, with the program beside them."""
     text = said((TOP / "plan").read_text(encoding="utf-8"), prefix).partition("\n")[2]
+    text = WRITES_BYTECODE.sub("sys.dont_write_bytecode = True\n", text)
     found = {f"{SHARE}/plan": File(f"#!{python}\n{text}".encode(), True),
              f"{SHARE}/VERSION": File((TOP / "VERSION").read_bytes()),
              f"{SHARE}/release/SOURCES": File((TOP / "release" / "SOURCES").read_bytes()),
@@ -125,6 +128,12 @@ def of_package(prefix, python):
                 place = f"{SHARE}/{path.relative_to(TOP)}"
                 found[place] = File(in_words(path.read_bytes(), prefix), os.access(path, os.X_OK))
     return found
+
+
+def compiled_names(files, tag):
+    """The paths of what Python compiles of these files, by the tag of its version."""
+    return {f"{Path(name).parent}/__pycache__/{Path(name).stem}.{tag}.pyc"
+            for name in files if name.startswith(f"{SHARE}/python/") and name.endswith(".py")}
 
 
 def in_words(data, prefix):

@@ -11,6 +11,8 @@ from opcplan.agent.record import Record
 from opcplan.desk import client
 
 CHANGED = 412  # HTTP's status where the plan isn't in the state that a statement names
+# the header with the name that an agent gives itself
+AGENT = "X-Opcplan-Agent"
 T = TypeVar("T")
 
 
@@ -31,13 +33,17 @@ class Listed(NamedTuple):
 class DeskQueries:
     """Sends requests to a desk. Each method raises DeskUnreachable and RequestRefused."""
 
-    def __init__(self, desk: client.Client) -> None:
-        self.desk = desk
+    def __init__(self, desk: client.Client, name: str = "") -> None:
+        self.desk, self.name = desk, name
+        self.report: str | None = None  # the digest of the last report that the desk has; None if it takes none
 
     def standing(self) -> Standing:
         """The position of the desk and the name of its log."""
         with self.read():
-            health = json.loads(self.desk.request("GET", "/health")[1])
+            heads = {AGENT: self.name} if self.name else {}
+            health = json.loads(self.desk.request("GET", "/health", None, heads)[1])
+            found = health.get("report")
+            self.report = found if isinstance(found, str) else None
             if "position" not in health:  # a caller who may not read gets less; asking for rows raises why
                 self.listed("cp")
             position, tag = health["position"], health.get("tag", "")
@@ -70,7 +76,10 @@ class DeskQueries:
             heads["If-Match"] = f'"{tag}"'
         try:
             with self.read():
-                (answer,) = self.each(known_plan.entry_of, self.desk.request("POST", "/statements", text, heads)[1])
+                found = self.desk.request("POST", "/statements", text, heads)[1]
+                (answer,) = self.each(known_plan.entry_of, found)
+                if fault := client.fault_of(found):
+                    raise client.DeskUnreachable(f"{self.desk.name}: its answer ends with `{fault}`", True)
                 return answer
         except client.RequestRefused as why:
             if why.status != CHANGED:

@@ -3,6 +3,7 @@
 import contextlib
 import dataclasses
 import datetime
+import functools
 import os
 import re
 import secrets
@@ -11,7 +12,8 @@ import subprocess
 import sys
 import time
 
-from opcplan.agent import desk_queries, jobs, record, runner, state, tails
+from opcplan.agent import desk_queries, jobs, needs, record, remembered, reports, runner, state, tails
+from opcplan.agent import trusted_paths
 from opcplan.agent.known_plan import Row
 from opcplan.agent.record import Record
 from opcplan.desk import client
@@ -32,7 +34,8 @@ PAUSE = 30
 class Settings:
     """The options of an agent: its folders; how many jobs run at once; in seconds how long a job may run (None: without
     end) and how long the agent rests between two looks; a moment in place of the clock's, or None; its name; how many
-    bytes of the end of a log the desk gets."""
+    bytes of the end of a log the desk gets; whether jobs.toml may have lost its settings since the last start; the
+    folder of jobs as it was named, perhaps by a link."""
 
     jobs: str
     logs: str
@@ -42,20 +45,28 @@ class Settings:
     now: int | None = None
     name: str = "agent"
     tail: int = 0
+    is_without_jobs_toml: bool = False
+    named_jobs: str = ""
 
 
 class Agent:
-    """Runs the jobs of a folder for a desk. Raises InvalidJobsFile."""
+    """Runs the jobs of a folder for a desk. Raises InvalidJobsFile, JobsFileGone, Unreadable and OSError."""
 
     def __init__(self, given: Settings, desk: client.Client) -> None:
         self.given, self.desk = given, desk
-        self.asking = desk_queries.DeskQueries(desk)
+        self.asking = desk_queries.DeskQueries(desk, given.name)
         self.state = state.State()
         self.jobs = jobs.Jobs(given.jobs, given.name)
+        named = (given.named_jobs or given.jobs) + jobs.TAIL
+        self.remembered = remembered.Remembered(given.logs, self.jobs.path, named)
+        self.remembered.begin(self.jobs.has_settings, given.is_without_jobs_toml)
+        self.needs = needs.Needs()
         self.tails = tails.Tails(desk, given.logs, given.tail, self.print_once)
         self.runners: list[subprocess.Popen[bytes]] = []
         self.logs: dict[int, int] = {}  # open logs whose lock is the agent's, by serial
         self.pauses: dict[int, float] = {}
+        self.refused: dict[int, str] = {}  # by serial why the desk refused a start, or why the agent waits with it
+        self.reports = reports.Reports(desk, given.name, self.print_once)
         self.reported: set[str] = set()
 
     def load(self) -> None:
@@ -72,12 +83,13 @@ class Agent:
         """Looks once. Raises DeskUnreachable and RequestRefused."""
         self.runners = [one for one in self.runners if one.poll() is None]
         is_first = self.state.plan.position is None
-        self.read_jobs()
+        self.look_at_settings()
         now = moments.now() if self.given.now is None else self.given.now
         self.state.look(now, self.given.most, self.jobs.rules)
         try:
             while (command := self.state.command) is not None:
                 self.do(command)
+                self.print_needs()
                 if is_first and self.state.plan.position is not None:
                     is_first = False
                     print_message(f"works for {self.desk.name} on the jobs of {self.given.jobs}")
@@ -90,14 +102,54 @@ class Agent:
         finally:
             for serial in list(self.logs):
                 self.release(serial)
+        if self.needs.found:
+            self.needs.keep_jobs({row.app for row in self.state.plan.ready(now)})
+        self.reports.give(self.asking.report, lambda: self.report(now))
         self.tails.give_running(one for serial, one in self.state.records.items() if serial not in self.state.lost)
 
+    def report(self, now: int) -> bytes:
+        """What the agent reports of its last look."""
+        found = self.state
+        rows = [row for row in found.plan.ready(now) if row.serial not in found.records]
+        ready = {row.serial for row in rows}
+        self.refused = {serial: why for serial, why in self.refused.items() if serial in ready}
+        known = reports.Facts(
+            self.needs, self.refused, {app: self.jobs.of(app).where for app in self.jobs.rules.elsewhere},
+            lambda app: found.running < self.given.most and not found.is_full(app),
+            functools.cache(lambda app: self.program_of(app) is not None))
+        return reports.report(rows, found.lost, known)
+
+    def look_at_settings(self) -> None:
+        """Checks the folders, and reads jobs.toml; what is wrong is a need."""
+        try:
+            for path in (self.given.jobs, self.given.logs):
+                trusted_paths.ask(path, trusted_paths.users())
+            self.needs.end(needs.FOLDER, f"{self.given.jobs}: the agent starts jobs again")
+        except trusted_paths.NotTrusted as why:
+            self.needs.put(needs.FOLDER, f"{why}; until then the agent starts no job")
+        except OSError as error:
+            self.needs.put(needs.FOLDER, f"{path}: the folder can't be opened: {error.strerror}; until it can be, the "
+                           "agent starts no job")
+        self.read_jobs()
+        self.print_needs()
+
     def read_jobs(self) -> None:
-        """Reads jobs.toml if it has changed; a faulty file changes nothing."""
+        """Reads jobs.toml; if it is gone, empty, unreadable or faulty, the settings stay in force, and there is a
+        need."""
         try:
             self.jobs.read()
+            self.remembered.keep(self.jobs.has_settings)
+            self.needs.end(needs.JOBS_TOML, f"{self.jobs.path}: the agent reads this file again")
         except jobs.InvalidJobsFile as why:
-            self.print_once(f"{why}; the agent goes on with what the file had before")
+            self.needs.put(needs.JOBS_TOML, f"{why}; the agent goes on with what the file had before")
+        except OSError as error:
+            self.needs.put(needs.JOBS_TOML, f"{error.filename}: the agent can't note there that jobs.toml has "
+                           f"settings: {error.strerror}; make room, or correct the rights of the folder")
+
+    def print_needs(self) -> None:
+        """Prints each need that is new, and each that is over."""
+        while self.needs.messages:
+            print_message(self.needs.messages.pop(0))
 
     def report_strangers(self) -> None:
         """Reports each occurrence of this agent's jobs that is started and has no record here."""
@@ -170,6 +222,7 @@ class Agent:
         else:
             raise error
         self.pauses[one.serial] = time.monotonic() + PAUSE
+        self.refused[one.serial] = f"{error.filename or 'this machine'}: {error.strerror}"
         self.print_once(f"{one.name}: {error.filename or 'this machine'}: {error.strerror}; the agent tries again")
         if isinstance(command, state.Prepare):
             self.state.prepared(None)
@@ -211,6 +264,7 @@ class Agent:
         print_message(f"{one.name}: {why}")
         if is_refused:
             self.pauses[one.serial] = time.monotonic() + PAUSE
+            self.refused[one.serial] = why
         self.tails.give(one, True)
         self.tails.forget(one.serial)
         record.forget(self.given.logs, one.serial)
@@ -233,8 +287,10 @@ class Agent:
             return None
         log = record.open_log(self.given.logs, row.serial)
         if log is None:
-            self.print_once(f"{row.name}: an earlier run still has its log, so the agent doesn't start it yet")
+            self.refused[row.serial] = "an earlier run still has its log, so the agent doesn't start it yet"
+            self.print_once(f"{row.name}: {self.refused[row.serial]}")
             return None
+        self.refused.pop(row.serial, None)
         self.logs[row.serial] = log
         key = f"agent-{self.given.name}-{secrets.token_hex(12)}"
         one = self.jobs.of(row.app).put_into(
@@ -243,23 +299,30 @@ class Agent:
         return one
 
     def program_of(self, app: str) -> str | None:
-        """The path of an application's job, or None if there is no executable regular file that may be run."""
-        command = self.jobs.of(app).command
-        path = command[0] if command else os.path.join(self.given.jobs, app)
+        """The path of an application's job, or None if there is none that may be run; what is wrong is a need."""
+        job = self.jobs.of(app)
+        path = job.command[0] if job.command else os.path.join(self.given.jobs, app)
+        name = f"{needs.JOB}{app}"
+        if needs.FOLDER in self.needs.found:
+            return None
         try:
-            mode = os.stat(path, follow_symlinks=bool(command)).st_mode
+            mode = os.stat(path, follow_symlinks=bool(job.command)).st_mode
+            if not stat.S_ISREG(mode) or not os.access(path, os.X_OK):
+                self.needs.put(name, f"{path}: this isn't an executable file itself, so {app} isn't run; put the "
+                               "program there, executable, and no link")
+                return None
+            trusted_paths.ask_program(path, job.owner)
+        except trusted_paths.NotTrusted as why:
+            self.needs.put(name, f"{why}; until then {app} isn't run")
+            return None
         except OSError as error:
-            if command:
-                self.print_once(f"{path}: {error.strerror}, so {app} isn't run; correct `command` in {self.jobs.path}")
+            if job.command:
+                self.needs.put(name, f"{path}: {error.strerror}, so {app} isn't run; correct `command` in "
+                               f"{self.jobs.path}")
+            else:
+                self.needs.end(name)
             return None
-        if not stat.S_ISREG(mode) or not os.access(path, os.X_OK):
-            self.print_once(f"{path}: this isn't an executable file itself, so {app} isn't run; put the program there, "
-                            "executable, and no link")
-            return None
-        if mode & stat.S_IWOTH:
-            self.print_once(f"{path}: everybody may write this file, so {app} isn't run; remove that right with "
-                            "`chmod o-w`")
-            return None
+        self.needs.end(name)
         return path
 
     def print_once(self, text: str) -> None:

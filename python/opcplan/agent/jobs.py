@@ -1,5 +1,8 @@
 """The file jobs.toml beside the folder of jobs: how the job of an application is run, how often it is tried, on which
-agents, and how many of a class run at once. It is read again when it changes."""
+agents, and how many of a class run at once.
+
+Its content is compared at each look. Settings that are in force stay in force until another valid file with settings
+replaces them: a file that is gone, empty, unreadable or faulty, or that others may write, changes nothing."""
 
 import dataclasses
 import fnmatch
@@ -7,20 +10,23 @@ import math
 import os
 import pwd
 import re
-import stat
 import tomllib
 from collections.abc import Callable, Mapping
 from typing import Any
 
+from opcplan.agent import trusted_paths
 from opcplan.agent.record import Record
 from opcplan.agent.state import Rules
 from opcplan.cli import words
 from opcplan.errors import Unreadable
 from opcplan.rules import amounts
+from opcplan.rules.toml_lines import Lines
 
 TAIL = ".toml"
 CLASSES = "classes"
 MOST_TRIES, MOST_OF_A_CLASS, MOST_STATUS = 99, 1000, 255
+# of the file, in bytes
+MOST_BYTES = 1 << 20
 VARIABLE = re.compile("[A-Za-z_][A-Za-z0-9_]*")
 CLASS = re.compile("[A-Za-z0-9_.-]{1,60}")
 OWN = "OPCPLAN_"
@@ -31,6 +37,18 @@ SPAN = "must be a number of seconds above 0, or a span like \"10m\" or \"2h\""
 
 class InvalidJobsFile(Unreadable):
     """What is wrong with the file."""
+
+
+class FaultyJobsFile(InvalidJobsFile):
+    """What is wrong with the text of the file, on whatever machine."""
+
+
+class Fault(Unreadable):
+    """What is wrong with a value of the file, and its place (`toml_lines`)."""
+
+    def __init__(self, why: str, *place: str) -> None:
+        super().__init__(why)
+        self.place = place
 
 
 @dataclasses.dataclass(frozen=True)
@@ -47,6 +65,11 @@ class Job:
     complete: tuple[int, ...] = (0,)
     group: str | None = None  # its class
     where: str = "*"  # on which agents, by their names
+
+    @property
+    def owner(self) -> str | None:
+        """The user to whom its program may belong too: the one as whom a `command` runs."""
+        return self.user if self.command else None
 
     def put_into(self, one: Record) -> Record:
         """A record of an occurrence, with how its job is run; without a limit here that of the record stays."""
@@ -66,34 +89,55 @@ class Jobs:
 
     def __init__(self, folder: str, agent: str) -> None:
         self.folder, self.path, self.agent = folder, folder + TAIL, agent
-        self.stamp: tuple[int, int, int] | None = None  # differs once the file has changed
+        self.text: bytes | None = None  # of the file when its settings came into force
+        self.faulty: tuple[bytes, InvalidJobsFile] | None = None  # the last text that isn't valid, and why
         self.found: dict[str, Job] = {}
         self.rules = Rules()
         self.read()
 
+    @property
+    def has_settings(self) -> bool:
+        """Whether settings are in force."""
+        return bool(self.found or self.rules.limits)
+
     def read(self) -> None:
-        """Reads the file if it has changed; a faulty one changes nothing. Raises InvalidJobsFile."""
-        try:
-            found = os.stat(self.path)
-        except FileNotFoundError:
-            self.stamp, self.found, self.rules = None, {}, Rules()
+        """Reads the file, and puts its settings into force if it has others. Raises InvalidJobsFile, and then nothing
+        has changed."""
+        text = self.content()
+        if text is None or text == self.text:
             return
-        except OSError as error:
-            raise InvalidJobsFile(f"{self.path}: it can't be read: {error.strerror}") from None
-        stamp = found.st_mtime_ns, found.st_size, found.st_ino
-        if stamp == self.stamp:
-            return
-        self.stamp = stamp
-        if not stat.S_ISREG(found.st_mode):
-            raise InvalidJobsFile(f"{self.path}: this isn't a regular file, so the agent doesn't read it")
-        if found.st_mode & stat.S_IWOTH:
-            raise InvalidJobsFile(f"{self.path}: everybody may write this file, so the agent doesn't read it; remove "
-                                  "that right with `chmod o-w`")
-        jobs, limits = of_file(self.path)
-        self.check_users(jobs)
+        jobs, limits = self.tables(text)
+        if self.has_settings and not jobs and not limits:
+            raise InvalidJobsFile(f"{self.path}: the file is empty; put its settings back, or restart the agent once "
+                                  "with --without-jobs-toml to run the jobs without settings")
+        self.check_users(jobs, text)
         elsewhere = frozenset(app for app, job in jobs.items() if not self.is_here(job))
         classes = {app: job.group for app, job in jobs.items() if job.group is not None}
-        self.found, self.rules = jobs, Rules(elsewhere, classes, limits)
+        self.text, self.found, self.rules = text, jobs, Rules(elsewhere, classes, limits)
+
+    def tables(self, text: bytes) -> tuple[dict[str, Job], dict[str, int]]:
+        """What `of_text` returns; a faulty text is parsed once. Raises InvalidJobsFile."""
+        if self.faulty is not None and self.faulty[0] == text:
+            raise self.faulty[1]
+        try:
+            return of_text(self.path, text)
+        except InvalidJobsFile as why:
+            self.faulty = text, why
+            raise
+
+    def content(self) -> bytes | None:
+        """What the file has; None if there is no file and there are no settings in force. Raises InvalidJobsFile."""
+        try:
+            return trusted_paths.content(self.path, trusted_paths.users(), MOST_BYTES)
+        except FileNotFoundError:
+            if not self.has_settings:
+                return None
+            raise InvalidJobsFile(f"{self.path}: the file is gone; put it back, or restart the agent once with "
+                                  "--without-jobs-toml to run the jobs without settings") from None
+        except OSError as error:
+            raise InvalidJobsFile(f"{self.path}: it can't be read: {error.strerror}") from None
+        except trusted_paths.NotTrusted as why:
+            raise InvalidJobsFile(str(why)) from None
 
     def is_here(self, job: Job) -> bool:
         """Whether this agent may run a job, by its `where`."""
@@ -103,66 +147,71 @@ class Jobs:
         """How the job of an application is run."""
         return self.found.get(app, USUAL)
 
-    def check_users(self, jobs: Mapping[str, Job]) -> None:
-        """Checks that this agent can run each of its jobs as the user that the file names. Raises InvalidJobsFile."""
+    def check_users(self, jobs: Mapping[str, Job], text: bytes) -> None:
+        """Checks that this agent can run each of its jobs as the user that the file with this text names. Raises
+        InvalidJobsFile."""
         for app, job in jobs.items():
             if job.user is None or not self.is_here(job):
                 continue
-            try:
-                user = pwd.getpwnam(job.user)
-            except KeyError:
-                raise InvalidJobsFile(f"{self.path}: {app}: `user` names {job.user!r}, whom this machine doesn't "
-                                      "have; name another user, or create this one") from None
-            if user.pw_uid != os.geteuid() and os.geteuid():
-                raise InvalidJobsFile(f"{self.path}: {app}: `user` names {job.user}, and only an agent of root can run "
-                                      "a job as another user; remove the line, or run the agent as root or that user")
+            if wrong := wrong_user(job.user):
+                lines = Lines(text.decode("utf-8"))
+                raise InvalidJobsFile(f"{self.path}: {lines.told(f'{app}: `user` names {wrong}', app, 'user')}")
 
 
-def of_file(path: str) -> tuple[dict[str, Job], dict[str, int]]:
-    """The jobs by application, and the limits by class. Raises InvalidJobsFile."""
+def wrong_user(name: str) -> str:
+    """Why this process can't run a job as a user of a name, beginning with the name; empty if it can."""
     try:
-        with open(path, "rb") as file:
-            tables = tomllib.load(file)
-    except OSError as error:
-        raise InvalidJobsFile(f"{path}: it can't be read: {error.strerror}") from None
+        user = pwd.getpwnam(name)
+    except KeyError:
+        return f"{name!r}, whom this machine doesn't have; name another user, or create this one"
+    if user.pw_uid == os.geteuid() or not os.geteuid():
+        return ""
+    return f"{name}, and only an agent of root can run a job as another user; remove the line, or run the agent as " \
+        "root or that user"
+
+
+def of_text(path: str, text: bytes) -> tuple[dict[str, Job], dict[str, int]]:
+    """The jobs by application, and the limits by class, of the text of the file at a path. Raises FaultyJobsFile."""
+    try:
+        tables = tomllib.loads(text.decode("utf-8"))
     except (ValueError, RecursionError) as error:
-        raise InvalidJobsFile(f"{path}: the file isn't valid TOML: {error}") from None
+        raise FaultyJobsFile(f"{path}: the file isn't valid TOML: {error}") from None
     try:
         limits = limits_of(tables.pop(CLASSES, {}))
         jobs = {app: job_of(app, value) for app, value in tables.items()}
         for app, job in jobs.items():
             if job.group is not None and job.group not in limits:
-                raise ValueError(f"{app}: `class` names {job.group!r}, which has no limit; add a line like "
-                                 f"`{CLASSES}.{job.group} = 2` at the top")
-    except ValueError as why:
-        raise InvalidJobsFile(f"{path}: {why}") from None
+                raise Fault(f"{app}: `class` names {job.group!r}, which has no limit; add a line like "
+                            f"`{CLASSES}.{job.group} = 2` at the top", app, "class")
+    except Fault as why:
+        raise FaultyJobsFile(f"{path}: {Lines(text.decode('utf-8')).told(why, *why.place)}") from None
     return jobs, limits
 
 
 def limits_of(table: Any) -> dict[str, int]:
-    """How many jobs of each class may run at once, by its name. Raises ValueError."""
+    """How many jobs of each class may run at once, by its name. Raises Fault."""
     if not isinstance(table, dict):
-        raise ValueError(f"`{CLASSES}` must have lines like `{CLASSES}.db = 2`")
+        raise Fault(f"`{CLASSES}` must have lines like `{CLASSES}.db = 2`", CLASSES)
     for name, value in table.items():
         if not CLASS.fullmatch(name) or not is_number(value, 1, MOST_OF_A_CLASS):
-            raise ValueError(f"`{CLASSES}.{name}` must be a number from 1 to {MOST_OF_A_CLASS}")
+            raise Fault(f"`{CLASSES}.{name}` must be a number from 1 to {MOST_OF_A_CLASS}", CLASSES, name)
     return dict(table)
 
 
 def job_of(app: str, table: Any) -> Job:
-    """The job that a table of the file describes. Raises ValueError."""
+    """The job that a table of the file describes. Raises Fault."""
     if not words.NAME.fullmatch(app) or not isinstance(table, dict):
-        raise ValueError(f"{app}: this is no application; write a table like [PAY] for the job of one, and lines like "
-                         f"`{CLASSES}.db = 2` for the limits of classes")
+        raise Fault(f"{app}: this is no application; write a table like [PAY] for the job of one, and lines like "
+                    f"`{CLASSES}.db = 2` for the limits of classes", app)
     given: dict[str, Any] = {"environment": ()}
     for name, value in table.items():
         if name not in READERS:
-            raise ValueError(f"{app}: there is no key `{name}`; the keys are {', '.join(READERS)}")
+            raise Fault(f"{app}: there is no key `{name}`; the keys are {', '.join(READERS)}", app, name)
         field, read = READERS[name]
         try:
             given[field] = read(value)
         except ValueError as why:
-            raise ValueError(f"{app}: `{name}` {why}") from None
+            raise Fault(f"{app}: `{name}` {why}", app, name) from None
     return Job(**given)
 
 

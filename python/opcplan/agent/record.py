@@ -11,15 +11,20 @@ import contextlib
 import dataclasses
 import fcntl
 import json
+import math
 import os
 import re
 from collections.abc import Iterator
 from typing import Any
 
+from opcplan.agent import trusted_paths
 from opcplan.errors import Unreadable
+from opcplan.plans import atomic_files
 
 FILE = re.compile(r"([0-9]{9})\.run")
 RESET = re.compile(r".*\.([0-9]{1,3})-reset")
+# the longest pause that a key names, in seconds
+LONGEST = 999_999_999
 # the fields that are lists in the file
 OF_LISTS = ("command", "complete", "pauses")
 
@@ -70,8 +75,13 @@ class Record:
 
     @property
     def end_key(self) -> str:
-        """The key under which the end of this try is sent."""
-        return f"{self.start_key}-end"
+        """The key under which the end of this try is sent. If another try follows, it says after how many seconds."""
+        pause = min(math.ceil(self.pause), LONGEST)
+        return f"{self.start_key}-again{pause}" if self.is_tried_again else f"{self.start_key}-end"
+
+    def is_end_key(self, key: str | None) -> bool:
+        """Whether the end of this try has this key; before, the keys of all ends were alike."""
+        return key in (self.end_key, f"{self.start_key}-end")
 
     @property
     def reset_key(self) -> str:
@@ -125,30 +135,16 @@ def log_of(folder: str, serial: int) -> str:
 
 def write(folder: str, one: Record) -> None:
     """Replaces the file of a record, atomically and synced. Raises OSError."""
-    path = path_of(folder, one.serial)
-    part = f"{path}.part"
-    number = os.open(part, os.O_WRONLY | os.O_CREAT | os.O_TRUNC | os.O_NOFOLLOW | os.O_CLOEXEC, 0o600)
-    with open(number, "w", encoding="utf-8") as file:
-        json.dump(dataclasses.asdict(one), file)
-        file.flush()
-        os.fsync(number)
-    os.replace(part, path)
-    sync(folder)
-
-
-def sync(folder: str) -> None:
-    """Syncs a folder's list of files to the disk. Raises OSError."""
-    number = os.open(folder, os.O_RDONLY | os.O_DIRECTORY | os.O_CLOEXEC)
-    try:
-        os.fsync(number)
-    finally:
-        os.close(number)
+    atomic_files.replace(path_of(folder, one.serial), json.dumps(dataclasses.asdict(one)).encode())
 
 
 def read(folder: str, serial: int) -> Record:
     """The record of a serial. Raises InvalidRecord and OSError."""
     path = path_of(folder, serial)
-    with open(path, encoding="utf-8") as file:
+    number = os.open(path, trusted_paths.READ)
+    with open(number, encoding="utf-8") as file:
+        if why := trusted_paths.objection(path, os.fstat(number), trusted_paths.users()):
+            raise InvalidRecord(why)
         try:
             one = of_json(json.load(file))
         except (ValueError, TypeError, AttributeError):
@@ -183,7 +179,7 @@ def remove_log(folder: str, serial: int) -> bool:
 def forget(folder: str, serial: int) -> None:
     """Deletes a record. Raises OSError."""
     os.remove(path_of(folder, serial))
-    sync(folder)
+    atomic_files.sync_folder(folder)
 
 
 def open_log(folder: str, serial: int) -> int | None:

@@ -15,11 +15,11 @@ import time
 from collections.abc import Sequence
 from typing import NamedTuple
 
-from opcplan.agent import record
+from opcplan.agent import record, trusted_paths
 from opcplan.agent.record import Record
 
-# seconds between SIGTERM and SIGKILL
-GRACE = 10
+# seconds between SIGTERM and SIGKILL, and between two looks whether the processes are still there
+GRACE, POLL = 10, 0.05
 # variables that no job sees; systemd puts the file of the token into the folder of the last one
 PRIVATE = ("OPCPLAN_TOKEN", "OPCPLAN_TOKEN_FILE", "CREDENTIALS_DIRECTORY")
 REST = 1
@@ -50,6 +50,7 @@ def outcome(one: Record, jobs: str, log: str) -> tuple[int | None, str | None]:
     words = one.command or (os.path.join(jobs, one.app), one.app, one.ia, str(one.serial))
     try:
         user = switched(one.user)
+        trusted_paths.ask_program(words[0], one.user if one.command else None)
         with open(log, "ab") as output:
             job = subprocess.Popen(
                 words, stdin=subprocess.DEVNULL, stdout=output, stderr=output, cwd=one.folder or jobs,
@@ -57,6 +58,8 @@ def outcome(one: Record, jobs: str, log: str) -> tuple[int | None, str | None]:
                 extra_groups=user.groups)
     except KeyError:
         return None, f"it can't be run: this machine has no user {one.user}"
+    except trusted_paths.NotTrusted as why:
+        return None, f"it can't be run: {why}"
     except OSError as error:
         return None, f"it can't be run: {error.filename or words[0]}: {error.strerror}"
     try:
@@ -78,7 +81,7 @@ def switched(name: str | None) -> Switch:
     if name is None:
         return Switch()
     found = pwd.getpwnam(name)
-    if found.pw_uid == os.geteuid():
+    if found.pw_uid == os.geteuid() and os.geteuid():  # only root can change its groups
         return Switch()
     return Switch(found.pw_uid, found.pw_gid, os.getgrouplist(name, found.pw_gid))
 
@@ -120,17 +123,24 @@ def user_of(name: str | None) -> User:
 
 
 def stopped(job: subprocess.Popen[bytes]) -> int:
-    """Ends a job and all of its process group; its status."""
-    os.killpg(job.pid, signal.SIGTERM)
-    try:
-        job.wait(GRACE)
-    except subprocess.TimeoutExpired:
-        pass
-    try:
-        os.killpg(job.pid, signal.SIGKILL)
-    except ProcessLookupError:
-        pass
+    """Ends a job and all of its process group; its status. Each process of the group has GRACE seconds to end."""
+    until = time.monotonic() + GRACE
+    is_left = signaled(job.pid, signal.SIGTERM)
+    while is_left and time.monotonic() < until:
+        time.sleep(POLL)
+        job.poll()
+        is_left = signaled(job.pid, 0)
+    signaled(job.pid, signal.SIGKILL)
     return job.wait()
+
+
+def signaled(group: int, number: int) -> bool:
+    """Sends a signal to a process group; whether it has a process that takes it."""
+    try:
+        os.killpg(group, number)
+    except (ProcessLookupError, PermissionError):
+        return False
+    return True
 
 
 def keep(folder: str, one: Record) -> None:

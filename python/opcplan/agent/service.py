@@ -4,14 +4,14 @@ import dataclasses
 import os
 import signal
 import socket
-import stat
 import sys
 import threading
 
-from opcplan.agent import executor, jobs, record
+from opcplan.agent import executor, record, remembered, trusted_paths
 from opcplan.agent.executor import Settings
+from opcplan.agent.jobs import FaultyJobsFile
 from opcplan.desk import client
-from opcplan.errors import Error, UsageError
+from opcplan.errors import Error, Unreadable, UsageError
 
 LOCK = ".agent"
 # the prefix of the file of a token that an agent passes to itself
@@ -45,11 +45,21 @@ def run(name: str | None, given: Settings) -> int:
     except OSError as error:
         raise AgentNotStarted(f"agent: {error.filename}: {error.strerror}") from None
     try:
-        return watch(given, executor.Agent(given, desk))
-    except jobs.InvalidJobsFile as why:
-        raise AgentNotStarted(f"agent: {why}") from None
+        return watch(given, agent_of(given, desk))
     finally:
         os.close(number)
+
+
+def agent_of(given: Settings, desk: client.Client) -> executor.Agent:
+    """An agent with these settings. Raises UsageError and AgentNotStarted."""
+    try:
+        return executor.Agent(given, desk)
+    except (remembered.JobsFileGone, FaultyJobsFile) as why:
+        raise UsageError(f"agent: {why}") from None
+    except Unreadable as why:
+        raise AgentNotStarted(f"agent: {why}") from None
+    except OSError as error:
+        raise AgentNotStarted(f"agent: {error.filename}: {error.strerror}") from None
 
 
 def private_token() -> str | None:
@@ -78,17 +88,19 @@ def own_name() -> str:
 
 
 def with_folders(given: Settings) -> Settings:
-    """The settings with absolute paths; makes the folder of logs if it doesn't exist. Raises AgentNotStarted and
-    OSError."""
+    """The settings with absolute paths of folders that nobody else may write; makes the folder of logs if it doesn't
+    exist. Raises AgentNotStarted and OSError."""
     jobs = os.path.realpath(given.jobs)
     if not os.path.isdir(jobs):
         raise AgentNotStarted(f"{jobs}: there is no such folder; make it, or name another one with --jobs")
-    if os.stat(jobs).st_mode & stat.S_IWOTH:
-        raise AgentNotStarted(f"{jobs}: everybody may write into this folder, so the agent runs no job from it; remove "
-                              "that right with `chmod o-w`")
-    logs = os.path.realpath(given.logs or os.path.join(jobs, "log"))
-    os.makedirs(logs, mode=0o750, exist_ok=True)
-    return dataclasses.replace(given, jobs=jobs, logs=logs)
+    try:
+        trusted_paths.ask(os.path.join(os.getcwd(), given.jobs), trusted_paths.users())
+        logs = given.logs or os.path.join(jobs, "log")
+        os.makedirs(logs, mode=0o750, exist_ok=True)
+        trusted_paths.ask(os.path.join(os.getcwd(), logs), trusted_paths.users())
+    except trusted_paths.NotTrusted as why:
+        raise AgentNotStarted(f"{why}; until then the agent doesn't start") from None
+    return dataclasses.replace(given, jobs=jobs, logs=os.path.realpath(logs), named_jobs=os.path.abspath(given.jobs))
 
 
 def locked(folder: str) -> int:

@@ -151,7 +151,7 @@ class State:
         self.plan = KnownPlan()
         self.life = ""  # the name of the log to which the position belongs
         self.records = {one.serial: one for one in records}  # of runs whose end isn't reported yet
-        self.lost: set[int] = set()  # serials of runs whose outcome nobody knows
+        self.lost: dict[int, str] = {}  # by serial what is known of runs whose outcome nobody knows
         self.keys: set[str] = set()  # keys of the runs' starts, ends and resets that the desk has
         self.messages: list[str] = []
         self.said: set[str] = set()
@@ -306,7 +306,9 @@ class State:
         """Notes that the desk has the start of a try, its end, or the reset after it."""
         found = STATUS.fullmatch(one.reply)
         run = self.records.get(int(found[1])) if found else None
-        if run is not None and one.key is not None and one.key in (run.start_key, run.end_key, run.reset_key):
+        if run is not None and run.is_end_key(one.key):
+            self.keys.add(run.end_key)
+        elif run is not None and one.key is not None and one.key in (run.start_key, run.reset_key):
             self.keys.add(one.key)
 
     # What becomes of a run.
@@ -360,7 +362,7 @@ class State:
 
     def lose(self, one: Record, what: str) -> None:
         """Reports once that nobody knows the outcome of a run."""
-        self.lost.add(one.serial)
+        self.lost[one.serial] = what
         self.say(f"{one.name} {what}. {LEFT}")
         self.skip()
 
@@ -388,10 +390,15 @@ class State:
             return None
         return latest is not None and (latest.status, latest.key) == ("S", one.start_key)
 
-    def is_given(self, one: Record, status: str, key: str) -> bool:
+    def is_given(self, one: Record, status: str, key: str | None) -> bool:
         """Whether an occurrence has a status that the entry of a key gave it."""
         latest = self.plan.latest.get(one.serial)
         return self.status_of(one) == status and latest is not None and (latest.status, latest.key) == (status, key)
+
+    def is_failed(self, one: Record) -> bool:
+        """Whether an occurrence is in error by the end of this try."""
+        latest = self.plan.latest.get(one.serial)
+        return latest is not None and one.is_end_key(latest.key) and self.is_given(one, "E", latest.key)
 
     def report(self, one: Record, is_rested: bool) -> None:
         """Reports how a job ended, and decides what follows."""
@@ -415,7 +422,7 @@ class State:
         assert self.plan.position is not None
         if self.is_given(one, "W", one.reset_key):
             self.command = Again(one.next_try(self.plan.position))
-        elif one.reset_key in self.keys or not self.is_given(one, "E", one.end_key):
+        elif one.reset_key in self.keys or not self.is_failed(one):
             how = f"ended: {one.ended_text}; the agent doesn't try again"
             self.command = Forget(one, f"{how}, because it is {self.status_text(one)} by now, and not by this agent")
         elif is_rested and self.running < self.most and not self.is_full(one.app):
@@ -514,7 +521,7 @@ class State:
         assert isinstance(self.command, Forget)
         one = self.command.record
         self.records.pop(one.serial, None)
-        self.lost.discard(one.serial)
+        self.lost.pop(one.serial, None)
         self.keys -= {one.start_key, one.end_key, one.reset_key}
         self.skip()
 

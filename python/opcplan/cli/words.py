@@ -7,7 +7,7 @@ import os
 import re
 import shlex
 import sys
-from collections.abc import Callable, Sequence
+from collections.abc import Callable, Iterable, Sequence
 from typing import Any, NoReturn
 
 from opcplan.cli import bare_words
@@ -197,6 +197,12 @@ class Again(argparse.Action):
 def add_stream(parser: argparse.ArgumentParser) -> None:
     """The word that names a job stream, as `words.stream`."""
     parser.add_argument("stream", metavar="STREAM", type=file, help="a file with a job stream, or - for standard input")
+
+
+def offer(action: argparse.Action, texts: Iterable[str] = (), names: Iterable[str] = ()) -> None:
+    """Notes what a shell completes where a word is expected: texts, and names of the plan by their kinds."""
+    setattr(action, "offered", list(texts))
+    setattr(action, "names", list(names))
 
 
 def add_now(parser: argparse.ArgumentParser) -> None:

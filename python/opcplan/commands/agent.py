@@ -38,6 +38,9 @@ def add_words(parser: words.Parser) -> None:
                         "for nothing)")
     parser.add_argument("--every", type=seconds, default=USUAL_EVERY, metavar="SECONDS",
                         help=f"how long it rests between two looks (else {USUAL_EVERY:g})")
+    parser.add_argument("--without-jobs-toml", action="store_true",
+                        help="begin although FOLDER.toml, which had settings for the jobs, is gone or empty: the jobs "
+                        "run without them, as the agent's user")
     words.add_now(parser)
 
 
@@ -84,5 +87,5 @@ def run(given: argparse.Namespace) -> int:
     from opcplan.agent import executor, service
 
     settings = executor.Settings(given.jobs, given.logs or "", given.most, given.limit, given.every, given.now,
-                                 given.name or "", given.tail)
+                                 given.name or "", given.tail, given.without_jobs_toml)
     return service.run(given.desk, settings)

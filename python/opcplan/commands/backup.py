@@ -4,13 +4,19 @@ import argparse
 import contextlib
 import os
 import sqlite3
+import time
 
 from opcplan.cli import output, words
-from opcplan.errors import Error, Unwritable, UsageError
-from opcplan.plans import atomic_files, checked_copy, locks, plan_file, tempfiles
+from opcplan.errors import Error, Unreadable, Unwritable, UsageError
+from opcplan.plans import atomic_files, checked_copy, copy_mark, journal, locks, own_runs, plan_file, tempfiles
+from opcplan.plans.program import is_own
 from opcplan.rules import moments, printable
 
 SUMMARY = "a copy of a plan in one file, checked; a run may go on meanwhile"
+
+
+# seconds for which the journal may lack the answer to the copy's last entry, and between two looks
+PATIENCE, REST = 5.0, 0.25
 
 
 class CopyRefused(Error):
@@ -22,11 +28,15 @@ def add_words(parser: words.Parser) -> None:
     parser.description = (
         "Copies PLAN.db into FILE, with what is in its log, and has opcplan check the copy: each page and its sum, "
         "each row, the plan as a whole. FILE is there whole then, or not at all. PLAN.db stays as it is, and a run "
-        "over it may go on: what it answered so far is in the copy. The exit status is 1 if there is no copy."
+        "over it may go on: what it answered so far is in the copy. If the plan shares a log with others, the copy "
+        "says which entry of the log it has, so that a desk can begin with it. The exit status is 1 if there is no "
+        "copy."
     )
     words.add_plan(parser)
     parser.add_argument("file", metavar="FILE", type=words.file, help="the copy")
     parser.add_argument("--force", action="store_true", help="replace a FILE that exists")
+    parser.add_argument("--journal", type=words.file, metavar="JOURNAL",
+                        help="the journal of a plan that shares a log (else PLAN.db.journal beside it)")
     add_program(parser)
 
 
@@ -39,14 +49,58 @@ def run(given: argparse.Namespace) -> int:
         check_link(given.file)
         check_place(target, given.force)
         with tempfiles.folder("backup-") as folder:
-            copy, meta = checked_copy.made(given.plan, folder, given.program)
+            mark = Mark(given.plan, given.journal or journal.beside(given.plan))
+            copy, meta = checked_copy.made(given.plan, folder, given.program, mark.put)
             put(copy, target, os.path.realpath(given.plan), given.force)
+            if given.program is None or is_own(given.program):
+                own_runs.keep_equal(target, copy)
     except (CopyRefused, locks.FileLocked) as why:
         raise Unwritable(f"{given.file}: {why}") from None
     except OSError as error:
         raise Unwritable(f"{given.file}: it can't be written: {error.strerror}") from None
-    print(printable.fit(f"{given.file} is a copy of {given.plan}, checked: {extent_text(meta)}."))
+    print(printable.fit(f"{given.file} is a copy of {given.plan}, checked: {extent_text(meta)}.{mark.why_not}"))
     return 0
+
+
+class Mark:
+    """The mark of a copy of a plan that shares a log with others: which entry it has, and the digest of the log up to
+    it, by the plan's journal. `why_not` says why the copy has none although the plan shares a log."""
+
+    def __init__(self, plan: str, path: str) -> None:
+        self.plan, self.path, self.why_not = plan, path, ""
+
+    def put(self, copy: str) -> None:
+        """Puts the mark into a copy. Raises Unreadable."""
+        if not os.path.isfile(self.path) or not os.path.getsize(self.path):
+            return
+        try:
+            with contextlib.closing(sqlite3.connect(copy)) as db:
+                seq = journal.position_in(db)
+            until = time.monotonic() + PATIENCE
+            while not self.put_digest(copy, seq):  # a desk writes replies within half a second
+                if time.monotonic() > until:
+                    self.why_not = (f" No desk of the log can begin with it, because {self.path} lacks the answer to "
+                                    f"entry {seq}: start the plan's desk once more, and then make a copy.")
+                    return
+                time.sleep(REST)
+        except sqlite3.Error as error:
+            raise Unreadable(f"{self.plan}: its copy can't be marked: {error}") from None
+
+    def put_digest(self, copy: str, seq: int) -> bool:
+        """Puts the mark into a copy that has an entry; False if the journal doesn't have the digest yet. Raises
+        Unreadable."""
+        with journal.opened(self.path) as record:
+            begun = record.begun()
+            if begun is None:
+                return True
+            if begun.stopped:
+                self.why_not = (f" No desk can begin with it, because the plan's desk stopped at entry {begun.stopped} "
+                                "of the log: it answered differently from a majority of the desks.")
+                return True
+            digest = begun.digest if seq == begun.seq else record.digests_at([seq]).get(seq)
+        if digest is not None:
+            copy_mark.put(copy, begun.log, seq, digest)
+        return digest is not None
 
 
 def extent_text(meta: sqlite3.Row) -> str:

@@ -30,7 +30,8 @@ def add_words(parser: words.Parser) -> None:
         "such calendar and no such period."
     )
     words.add_plan(parser)
-    parser.add_argument("name", metavar="NAME", type=edit_words.name, help="the calendar, or the period")
+    action = parser.add_argument("name", metavar="NAME", type=edit_words.name, help="the calendar, or the period")
+    words.offer(action, names=["calendars", "periods"])
     parser.add_argument("year", metavar="YEAR", type=year, nargs="?", help="the year (else that of the clock)")
     parser.add_argument("--period", action="store_true", help="the period, even if a calendar has the same name")
     colours.add_words(parser)

@@ -8,10 +8,11 @@ import contextlib
 import importlib.util
 import ipaddress
 import os
+import re
 import sys
 from typing import NoReturn
 
-from opcplan.cli import interpreter, words
+from opcplan.cli import interpreter, signals, words
 from opcplan.desk import log_words
 from opcplan.desk.settings import Address, Settings
 from opcplan.errors import Error, Unreadable, UsageError
@@ -19,6 +20,8 @@ from opcplan.plans.program import built_program
 
 SUMMARY = "serves one plan to many callers at once, by HTTP, with a journal"
 USUAL = "127.0.0.1:7411"
+USUAL_LOGS = 1024  # MiB
+NAME = re.compile("[A-Za-z0-9._-]{1,60}")
 # the Python for which Debian has the package
 DEBIAN = "/usr/bin/python3"
 LACKING = "it needs aiohttp for Python 3, which Debian's package python3-aiohttp has: apt-get install python3-aiohttp"
@@ -58,6 +61,13 @@ def add_words(parser: words.Parser) -> None:
     parser.add_argument("--limit", type=seconds, default=60.0, metavar="SECONDS",
                         help="how long opcplan may print nothing while an answer is due; then the desk kills it and "
                              "asks again (else 60)")
+    parser.add_argument("--job-logs", type=mebibytes, default=USUAL_LOGS, metavar="MIB",
+                        help=f"how many MiB of jobs' logs the desk stores (else {USUAL_LOGS:,})")
+    parser.add_argument("--name", type=name, help="the name of the plan, for calls and metrics (else that of its file "
+                        "without the ending, or of its folder if the file is plan.db)")
+    parser.add_argument("--no-usual-deadlines", action="store_true",
+                        help="in what needs a person, count a run that was added by hand as due a day after it arrives "
+                             "(else by the usual deadline of its application)")
     parser.add_argument("--program", type=words.file, metavar="FILE",
                         help="the planner (else the one that is built here)")
 
@@ -82,8 +92,30 @@ def seconds(text: str) -> float:
     raise argparse.ArgumentTypeError(f"{text!r} is not a number of seconds, 0.1 at least")
 
 
+def mebibytes(text: str) -> int:
+    """A number of MiB, for `type=`."""
+    if re.fullmatch("[1-9][0-9]{0,6}", text):
+        return int(text)
+    raise argparse.ArgumentTypeError(f"{text!r} is not a number of MiB from 1 to 9,999,999")
+
+
+def name(text: str) -> str:
+    """The name of a plan, for `type=`."""
+    if not NAME.fullmatch(text):
+        raise argparse.ArgumentTypeError(f"{text!r} is not a name of 1 to 60 letters, digits, hyphens, dots and "
+                                         "underscores")
+    return text
+
+
 def run(given: argparse.Namespace) -> int:
-    """Does what the words ask for; the exit status."""
+    """Does what the words ask for; the exit status. A signal ends a desk with 0 while it starts, too."""
+    with contextlib.suppress(signals.SignalReceived):
+        serve(given)
+    return 0
+
+
+def serve(given: argparse.Namespace) -> None:
+    """Runs a desk until a signal. Raises Error."""
     if importlib.util.find_spec("aiohttp") is None:
         by_debian()
     from opcplan.desk import server, snapshot_fetch
@@ -99,19 +131,19 @@ def run(given: argparse.Namespace) -> int:
         server.serve(settings, program)
     except OSError as error:
         raise Unreadable(f"{error.filename or settings.plan}: {error.strerror}") from None
-    return 0
 
 
 def settings_of(given: argparse.Namespace) -> Settings:
     """The words as Settings."""
-    from opcplan.plans import journal
+    from opcplan.plans import journal, plan_name
 
     return Settings(
         plan=given.plan, journal=os.path.realpath(given.journal or journal.beside(given.plan)), log=given.log,
         source=given.source, listen=address(USUAL) if given.listen is None and given.socket is None else given.listen,
         socket=given.socket, users=given.users, tokens=given.tokens, hosts=tuple(given.host), proxy=given.proxy,
         limit=given.limit, etcd_ca=given.etcd_ca, etcd_cert=given.etcd_cert, etcd_key=given.etcd_key,
-        etcd_user=given.etcd_user)
+        etcd_user=given.etcd_user, name=given.name or plan_name.of_path(given.plan),
+        job_logs=given.job_logs, by_usual=not given.no_usual_deadlines)
 
 
 def wrong_words(given: Settings) -> str | None:

@@ -3,8 +3,12 @@
 - Let a stream have the statements 1 to n, of which 1 to k are done, and let C be a copy of the plan in a state T. The
   whole stream is sent under one key with the tag of T. The desk answers 1 to k as it did, does the next change only if
   the plan is in T, and each further one only if the plan is as the one before it left it.
-- So each statement is done at most once, in the order of the stream, over a plan on which exactly it was tried.
-- If somebody changes the plan in between, the answer ends there, and what is left is tried on a new copy.
+- So each statement is done at most once, in the order of the stream, over a plan on which exactly it was tried, but for
+  changes that have nothing to do with it.
+- If somebody changes the plan in between, the answer ends there. If all entries after the copy are the stream's own or
+  have nothing to do with what is left (`opcplan.rules.apart`), it is sent again at once, with the tag of that state:
+  what was tried still holds, and a short time without a change is enough. Otherwise what is left is tried on a new
+  copy.
 - A list isn't held to a state: it shows the plan as it is when its turn comes."""
 
 import io
@@ -16,15 +20,18 @@ from typing import NamedTuple
 from opcplan.desk import client, requests
 from opcplan.errors import Unreadable
 from opcplan.rules import stream
+from opcplan.rules.apart import Apart
 
 CHANGED = 412  # HTTP's status where the plan isn't in the state that a statement names
+MOST_SENT = 100  # how often a stream is sent again before it is tried on a new copy
 
 
 class Copy(NamedTuple):
-    """A copy of a desk's plan, and the tag of the state that it has."""
+    """A copy of a desk's plan, the tag of the state that it has, and the last entry."""
 
     path: str
     tag: str
+    position: int
 
 
 def copied(desk: client.Client, path: str) -> Copy:
@@ -34,7 +41,10 @@ def copied(desk: client.Client, path: str) -> Copy:
             heads = desk.download("/snapshot", file)
     except (client.DeskUnreachable, client.RequestRefused) as why:
         raise Unreadable(str(why) if str(why).startswith(desk.name) else f"{desk.name}: {why}") from None
-    return Copy(path, heads.get("ETag", ""))
+    position = heads.get("X-Opcplan-Position", "")
+    if not position.isdigit():
+        raise Unreadable(f"{desk.name}: it doesn't answer as a desk does: its copy has no position")
+    return Copy(path, heads.get("ETag", ""), int(position))
 
 
 def parts(text: bytes) -> list[bytes]:
@@ -65,6 +75,35 @@ def answers(desk: client.Client, text: bytes, used: str, tag: str) -> list[bytes
         raise Unreadable(f"{why}; {advice_of(desk, used) if why.may_be_done else 'nothing was sent'}") from None
     except (ValueError, KeyError, TypeError):
         raise Unreadable(f"{desk.name}: it doesn't answer as a desk does; {advice_of(desk, used)}") from None
+
+
+def answers_beside(desk: client.Client, text: bytes, used: str, copy: Copy, apart: Apart) -> list[bytes]:
+    """The same, beside others: the stream is sent again while all that they changed after a copy is apart from it.
+    Raises Unreadable."""
+    count, tag = len(requests.of_stream(text)), copy.tag
+    found = answers(desk, text, used, tag)
+    for _ in range(MOST_SENT):
+        if len(found) >= count or not (now := tag_beside(desk, used, copy, apart)) or now == tag:
+            return found
+        tag = now
+        found = max(found, answers(desk, text, used, tag), key=len)
+    return found
+
+
+def tag_beside(desk: client.Client, used: str, copy: Copy, apart: Apart) -> str:
+    """The tag of the state that a desk has now, if all its entries after a copy are those of a stream, or are apart
+    from it; else nothing."""
+    try:
+        health = json.loads(desk.request("GET", "/health")[1])
+        tag, position = str(health["tag"]), int(health["position"])
+        lines = desk.request("GET", f"/journal?from={copy.position + 1}")[1].splitlines()
+        entries = [one for one in map(json.loads, lines) if one["seq"] <= position]
+        if [one["seq"] for one in entries] != list(range(copy.position + 1, position + 1)):
+            return ""
+        others = [one for one in entries if str(one["key"]).partition("#")[0] != used]
+        return tag if all(apart.is_apart(one["statement"]) for one in others) else ""
+    except (client.DeskUnreachable, client.RequestRefused, ValueError, KeyError, TypeError):
+        return ""  # a new copy settles it
 
 
 def answer_of(line: bytes) -> bytes:

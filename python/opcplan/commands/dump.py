@@ -10,8 +10,7 @@ from opcplan.cli import words
 from opcplan.errors import Error
 from opcplan.plans import job_numbers, plan_definitions, plan_file
 from opcplan.plans.plan_file import Plan
-from opcplan.rules import definitions, moments
-from opcplan.rules.definitions import Application, Calendar, Period, RunCycle
+from opcplan.rules import record_texts
 
 SUMMARY = "the definitions of a plan, as a job stream that gives them again"
 MOST_BYTES = 262_144
@@ -77,12 +76,12 @@ def kinds_of(plan: Plan) -> Iterator[Kind]:
     """Each kind that the plan defines something of."""
     found = plan_definitions.of_plan(plan)
     limits = [within for listed in found.predecessors.values() for within in listed.values()]
-    predecessor_records = without_limits if limits.count(None) == len(limits) else with_limits
+    predecessor_records = record_texts.without_limits if limits.count(None) == len(limits) else record_texts.with_limits
     kinds: tuple[tuple[str, dict[str, Any], Callable[[str, Any], list[str]]], ...] = (
-        ("calendars", found.calendars, calendar_records),
-        ("periods", found.periods, period_records),
-        ("applications", found.applications, application_records),
-        ("run-cycles", found.run_cycles, run_cycle_records),
+        ("calendars", found.calendars, record_texts.calendar_records),
+        ("periods", found.periods, record_texts.period_records),
+        ("applications", found.applications, record_texts.application_records),
+        ("run-cycles", found.run_cycles, record_texts.run_cycle_records),
         ("predecessors", found.predecessors, predecessor_records),
     )
     for kind, names, records_of in kinds:
@@ -108,53 +107,3 @@ def blocks_of(kind: str, records: dict[str, list[str]]) -> list[str]:
         blocks[-1].append(text)
         size += len(text)
     return ["".join(texts) for texts in blocks]
-
-
-# The records of each kind, by name, in the order in which they are printed.
-
-
-def date_text(day: int | None) -> str:
-    """A day, or nothing where there is none."""
-    return "" if day is None else moments.day_text(day)
-
-
-def calendar_records(name: str, calendar: Calendar) -> list[str]:
-    """The records of a calendar."""
-    entries = [(definitions.WEEKDAYS[day], is_work) for day, is_work in calendar.weekdays.items()]
-    entries += [(moments.day_text(day), is_work) for day, is_work in calendar.dates.items()]
-    return [f"{name},{entry},{'WORK' if is_work else 'FREE'}" for entry, is_work in entries]
-
-
-def period_records(name: str, period: Period) -> list[str]:
-    """The records of a period."""
-    if period.kind == "N":
-        return [f"{name},N,{moments.day_text(first)},{date_text(end)}" for first, end in period.entries]
-    return [f"{name},{period.kind},{moments.day_text(period.origin)},{period.interval}"]
-
-
-def application_records(name: str, application: Application) -> list[str]:
-    """The record of an application."""
-    return [f"{name},{'A' if application.is_active else 'P'},{application.calendar or ''}"]
-
-
-def run_cycle_records(app: str, cycles: dict[str, RunCycle]) -> list[str]:
-    """The records of an application's run cycles."""
-    return [run_cycle_record(app, cycle) for cycle in cycles.values()]
-
-
-def run_cycle_record(app: str, cycle: RunCycle) -> str:
-    """The record of a run cycle."""
-    days = [moments.day_text(cycle.in_effect), date_text(cycle.out_effect)]
-    due = ["", ""] if cycle.due is None else [str(cycle.due.days), moments.minute_text(cycle.due.minute)]
-    offsets, time = " ".join(map(str, cycle.offsets)), moments.minute_text(cycle.time)
-    return ",".join([app, cycle.name, cycle.kind, cycle.period, cycle.rule, offsets, *days, time, *due])
-
-
-def without_limits(app: str, listed: dict[str, int | None]) -> list[str]:
-    """The records of a list of predecessors none of which has a limit."""
-    return [f"{app},{predecessor}" for predecessor in listed]
-
-
-def with_limits(app: str, listed: dict[str, int | None]) -> list[str]:
-    """The records of a list of predecessors."""
-    return [f"{app},{predecessor},{'' if within is None else within}" for predecessor, within in listed.items()]

@@ -4,13 +4,13 @@ import argparse
 import contextlib
 import functools
 import sys
-from collections.abc import Sequence
+from collections.abc import Callable, Sequence
 from typing import Any, Protocol, TypeVar
 
 from opcplan.cli import words
 from opcplan.commands import (
     edit_application, edit_calendar, edit_change, edit_options, edit_period, edit_predecessor, edit_run_cycle,
-    edit_words,
+    edit_whole, edit_words,
 )
 from opcplan.errors import Unreadable
 from opcplan.plans import plan_definitions, plan_file
@@ -40,6 +40,9 @@ class Kind(Protocol[SettingsT]):
 
 # what somebody may call a change, by its first word without an s
 MEANT = {
+    "remove": "application NAME remove` removes an application; run-cycle, calendar and period have it too",
+    "rename": "application NAME rename NEW` renames an application; run-cycle, calendar and period have it too",
+    "copy": "application NEW like OTHER` copies an application; run-cycle, calendar and period have it too",
     "holiday": "calendar DEFAULT 2027-12-24 free` makes a day a holiday",
     "day": "calendar DEFAULT 2027-12-24 free` makes a day free",
     "app": "application NAME ..` changes an application",
@@ -66,9 +69,10 @@ def add_words(parser: words.Parser) -> None:
     parser.description = (
         "Prints the job stream that makes one change of the definitions of PLAN.db: the whole block of what changes, "
         "as the plan has it, with that change in it. Standard error says what changes, what stays, and which statement "
-        "puts it into the long-term plan. The plan itself stays as it is: `./plan edit PLAN.db .. | ./opcplan --db "
-        "PLAN.db` changes it. The exit status is 1 if a name isn't known, nothing would change, or planning would be "
-        "refused; 2 if a value is wrong. Then nothing is printed."
+        "puts it into the long-term plan. `remove`, `rename NEW` and `like OTHER` are about a whole application, run "
+        "cycle, calendar or period, with each place that names it. The plan itself stays as it is: `./plan edit "
+        "PLAN.db .. | ./opcplan --db PLAN.db` changes it. The exit status is 1 if a name isn't known, a thing is in "
+        "use, nothing would change, or planning would be refused; 2 if a value is wrong. Then nothing is printed."
     )
     words.add_plan(parser)
     parser.likely = kind_meant
@@ -103,14 +107,19 @@ def name_lacked(parser: words.Parser, module: Kind[SettingsT], typed: Sequence[s
 
 def run(given: argparse.Namespace) -> int:
     """Does what the words ask for; the exit status."""
+    if (whole := edit_whole.asked(given.what, given)) is not None:
+        return edited(given.plan, edit_whole.change, whole, given.job)
     kind = KINDS[given.what]
-    return edited(given.plan, kind, kind.settings_of(given), given.job)
+    return edited(given.plan, kind.change, kind.settings_of(given), given.job)
 
 
-def edited(path: str, kind: Kind[SettingsT], settings: SettingsT, first_job: int | None) -> int:
+def edited(
+    path: str, change_of: Callable[[Plan, Definitions, SettingsT], edit_change.Change], settings: SettingsT,
+    first_job: int | None,
+) -> int:
     """Prints the job stream of a change; the exit status."""
     with plan_file.opened(path) as plan:
-        change = kind.change(plan, plan_definitions.of_plan(plan), settings)
+        change = change_of(plan, plan_definitions.of_plan(plan), settings)
         changes = [change, *change.also]
         text, job = edit_change.stream_of(plan, changes, first_job)
         sentences = [*(sentence for one in changes for sentence in one.sentences),

@@ -4,6 +4,7 @@ import argparse
 import dataclasses
 from typing import Any
 
+from opcplan.cli import words
 from opcplan.cli.words import Parser
 from opcplan.commands import edit_run_cycle, edit_words
 from opcplan.commands.edit_change import Change, ChangeRefused
@@ -11,7 +12,7 @@ from opcplan.plans.plan_file import Plan
 from opcplan.rules.definitions import Application, Definitions
 from opcplan.rules.naming_words import count_text, few, meant_text
 
-SUMMARY = "makes an application active or pending, gives it another calendar, or makes a new one"
+SUMMARY = "makes an application active or pending, gives it another calendar, makes, removes, renames, copies one"
 
 
 @dataclasses.dataclass(frozen=True)
@@ -24,12 +25,15 @@ class Settings:
 
 def add_words(parser: Parser) -> None:
     """Adds its words to a parser."""
-    parser.add_argument("name", metavar="NAME", type=edit_words.name, help="the application")
-    parser.add_argument("changes", metavar="CHANGE", type=change_of, nargs="+",
-                        help="active, pending, calendar=NAME, or calendar= for the default one; `new` for an "
-                             "application that doesn't exist yet, and then also period=, ia=, deadline=, rule=, "
-                             "offsets= and other fields of its run cycle, which gets the name of cycle=NAME (else that "
-                             "of its period)")
+    words.offer(parser.add_argument("name", metavar="NAME", type=edit_words.name, help="the application"),
+                names=["applications"])
+    action = parser.add_argument(
+        "changes", metavar="CHANGE", nargs="+",
+        help="active, pending, calendar=NAME, or calendar= for the default one; `new` for an "
+             "application that doesn't exist yet, and then also period=, ia=, deadline=, rule=, "
+             "offsets= and other fields of its run cycle, which gets the name of cycle=NAME (else that "
+             "of its period); remove, rename NEW, or like OTHER for one that doesn't exist yet")
+    words.offer(action, ["active", "pending", "calendar=", "new", "remove", "rename", "like"])
 
 
 def change_of(text: str) -> tuple[str, bool | str | None]:
@@ -44,13 +48,17 @@ def change_of(text: str) -> tuple[str, bool | str | None]:
     if key.lower() == "cycle" and equals:
         return "cycle", edit_words.short_name(value)
     if not equals or not edit_run_cycle.is_field(key):
-        raise argparse.ArgumentTypeError(f"{text!r} is not one of active, pending, new and calendar=NAME")
+        raise argparse.ArgumentTypeError(f"{text!r} is not one of active, pending, new, calendar=NAME, remove, rename "
+                                         "NEW and like OTHER")
     return key.lower(), value
 
 
 def settings_of(given: argparse.Namespace) -> Settings:
     """The words as Settings."""
-    return Settings(given.name, given.changes)
+    try:
+        return Settings(given.name, [change_of(word) for word in given.changes])
+    except argparse.ArgumentTypeError as wrong:
+        raise ChangeRefused(f"{wrong}; ./plan edit PLAN.db application --help says more", 2) from None
 
 
 def change(plan: Plan, found: Definitions, given: Settings) -> Change:

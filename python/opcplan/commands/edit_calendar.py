@@ -5,6 +5,7 @@ import dataclasses
 import re
 from typing import NamedTuple
 
+from opcplan.cli import words
 from opcplan.cli.words import Parser
 from opcplan.commands import edit_words
 from opcplan.commands.edit_change import Change, ChangeRefused
@@ -13,7 +14,7 @@ from opcplan.rules.definitions import Calendar, Definitions, WEEKDAYS, weekday_o
 from opcplan.rules.moments import DAY, day_text, moment_text
 from opcplan.rules.naming_words import SHOWN, count_text, few
 
-SUMMARY = "lists days or a weekday as free or work, or unlists them"
+SUMMARY = "lists days or a weekday as free or work, unlists them, or removes, renames or copies a calendar"
 STATUSES = {"free": False, "work": True, "unlist": None}
 
 
@@ -38,11 +39,14 @@ class Settings:
 
 def add_words(parser: Parser) -> None:
     """Adds its words to a parser."""
-    parser.add_argument("name", metavar="NAME", type=edit_words.name, help="the calendar")
-    parser.add_argument("entries", metavar="ENTRY", type=entries,
-                        help="a day like 2026-12-24, days like 2026-12-24..2026-12-31, or a weekday, MON to SUN")
-    parser.add_argument("status", metavar="STATUS", type=status,
-                        help="free, work, or unlist; with unlist the weekday decides")
+    words.offer(parser.add_argument("name", metavar="NAME", type=edit_words.name, help="the calendar"),
+                names=["calendars"])
+    action = parser.add_argument(
+        "changes", metavar="CHANGE", nargs="+",
+        help="ENTRY STATUS: a day like 2026-12-24, days like 2026-12-24..2026-12-31, or a weekday, MON "
+             "to SUN, and then free, work, or unlist (the weekday decides); or remove, rename NEW, or "
+             "like OTHER for a calendar that doesn't exist yet")
+    words.offer(action, [*WEEKDAYS, *STATUSES, "remove", "rename", "like"])
 
 
 def name_lacked(found: Definitions, typed: list[str]) -> str:
@@ -76,7 +80,17 @@ def status(text: str) -> str:
 
 def settings_of(given: argparse.Namespace) -> Settings:
     """The words as Settings."""
-    return Settings(given.name, given.entries, given.status)
+    entry, *more = given.changes
+    try:
+        found = entries(entry)
+        if not more:
+            raise argparse.ArgumentTypeError(f"STATUS is missing behind {entry}: free, work or unlist")
+        wanted = status(more[0])
+        if len(more) > 1:
+            raise argparse.ArgumentTypeError(f"one word too many: {more[1]}")
+    except argparse.ArgumentTypeError as wrong:
+        raise ChangeRefused(f"{wrong}; ./plan edit PLAN.db calendar --help says more", 2) from None
+    return Settings(given.name, found, wanted)
 
 
 def change(plan: Plan, found: Definitions, given: Settings) -> Change:

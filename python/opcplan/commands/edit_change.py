@@ -8,7 +8,7 @@ from opcplan.commands import dump
 from opcplan.errors import Error, Unreadable
 from opcplan.plans import job_numbers, printed_numbers
 from opcplan.plans.plan_file import Plan
-from opcplan.rules import blocks
+from opcplan.rules import blocks, record_texts
 from opcplan.rules.moments import moment_text
 
 
@@ -72,15 +72,15 @@ def data_of(plan: Plan, kind: str, defined: dict[str, Any]) -> list[str]:
 def records_of(kind: str, defined: dict[str, Any]) -> dict[str, list[str]]:
     """The records of each name."""
     makers: dict[str, Callable[[str, Any], list[str]]] = {
-        "calendars": dump.calendar_records,
-        "periods": dump.period_records,
-        "applications": dump.application_records,
-        "run-cycles": dump.run_cycle_records,
-        "predecessors": dump.without_limits,
+        "calendars": record_texts.calendar_records,
+        "periods": record_texts.period_records,
+        "applications": record_texts.application_records,
+        "run-cycles": record_texts.run_cycle_records,
+        "predecessors": record_texts.without_limits,
     }
     make = makers[kind]
     if kind == "predecessors" and any(within for listed in defined.values() for within in listed.values()):
-        make = dump.with_limits
+        make = record_texts.with_limits
     return {name: make(name, value) for name, value in defined.items()}
 
 

@@ -3,6 +3,7 @@
 import argparse
 import dataclasses
 
+from opcplan.cli import words
 from opcplan.cli.words import Parser
 from opcplan.commands import edit_words
 from opcplan.commands.edit_change import Change, ChangeRefused
@@ -23,8 +24,9 @@ class Settings:
 
 def add_words(parser: Parser) -> None:
     """Adds its words to a parser."""
-    parser.add_argument("pairs", metavar="KEY=VALUE", type=edit_words.pair, nargs="+",
-                        help="default_calendar=NAME or max_extension_hours=1 to 504")
+    action = parser.add_argument("pairs", metavar="KEY=VALUE", type=edit_words.pair, nargs="+",
+                                 help="default_calendar=NAME or max_extension_hours=1 to 504")
+    words.offer(action, ["default_calendar=", "max_extension_hours="])
 
 
 def settings_of(given: argparse.Namespace) -> Settings:

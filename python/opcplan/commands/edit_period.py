@@ -2,19 +2,23 @@
 
 import argparse
 import dataclasses
+import re
 from collections.abc import Callable
 
+from opcplan.cli import words as cli_words
 from opcplan.cli.words import Parser
 from opcplan.commands import edit_words
 from opcplan.commands.edit_change import Change, ChangeRefused
 from opcplan.plans.plan_file import Plan
-from opcplan.rules import horizons, record_fields
+from opcplan.rules import horizons, moments, nth_weekday, record_fields
 from opcplan.rules.definitions import Definitions, Entry, Interval, Period
 from opcplan.rules.moments import day_text
 from opcplan.rules.naming_words import count_text, few
+from opcplan.rules.nth_weekday import Month
 
-SUMMARY = "adds or removes an origin or an interval's end, or changes type, origin or interval"
+SUMMARY = "adds or removes an origin or an interval's end, changes type, origin or interval, removes, renames, copies"
 KEYS = ("type", "origin", "interval")
+WEEKDAY = "weekday"
 
 
 @dataclasses.dataclass(frozen=True)
@@ -30,15 +34,22 @@ def add_words(parser: Parser) -> None:
     parser.description = (
         f"{parser.description} Of type N: `add ORIGIN [END]` lists another interval, `remove ORIGIN` removes one, `end "
         "ORIGIN [END]` sets or removes the end of one. `months FIRST..LAST` lists each month from one YYYY-MM to "
-        "another, `quarters` each quarter, `weeks` each week from one day to another; without FIRST they go on after "
-        "the last interval. With `new` before these, or before type=, origin= and interval=, the period is a new one. "
+        "another, `quarters` each quarter, `weeks` each week from one day to another, and `weekday 3FRI FIRST..LAST` "
+        "each third Friday from one year or month to another (`-1FRI` is the last Friday), each to the day before the "
+        "next; without FIRST they go on after the last interval. `remove` alone, `rename NEW` and `like OTHER` are "
+        "about the period as a whole. With `new` before these, or before type=, origin= and interval=, the period is a "
+        "new one. "
         "Otherwise type=, origin= and interval= change a period of type A or W; with type=N, origin= lists a first "
         "interval."
     )
-    parser.add_argument("name", metavar="NAME", type=edit_words.short_name, help="the period")
-    parser.add_argument("changes", metavar="CHANGE", nargs="+",
-                        help="add ORIGIN [END], remove ORIGIN, end ORIGIN [END], months, quarters or weeks "
-                        "[FIRST]..LAST, or KEY=VALUE ..")
+    parser._negative_number_matcher = re.compile("-[0-9]")  # -1FRI is no option
+    cli_words.offer(parser.add_argument("name", metavar="NAME", type=edit_words.short_name, help="the period"),
+                    names=["periods"])
+    action = parser.add_argument(
+        "changes", metavar="CHANGE", nargs="+",
+        help="add ORIGIN [END], remove ORIGIN, end ORIGIN [END], months, quarters or weeks "
+             "[FIRST]..LAST, weekday NTH [FIRST]..LAST, KEY=VALUE .., remove, rename NEW, or like OTHER")
+    cli_words.offer(action, [*LISTED, *horizons.NEXT, WEEKDAY, "new", "rename", "like", *(f"{key}=" for key in KEYS)])
 
 
 def settings_of(given: argparse.Namespace) -> Settings:
@@ -49,17 +60,17 @@ def settings_of(given: argparse.Namespace) -> Settings:
 def change(plan: Plan, found: Definitions, given: Settings) -> Change:
     """The change that is asked for."""
     name, (verb, *more) = given.name, given.changes
-    if verb == "new":
-        return new_period(found, name, more)
+    if verb == "new" or verb == WEEKDAY and name not in found.periods:
+        return new_period(found, name, more if verb == "new" else given.changes)
     if name not in found.periods:
         raise ChangeRefused(f"{edit_words.lack('period', name, found.periods)}; `period {name} new ..` makes one")
     before = found.periods[name]
-    if verb in LISTED or verb in horizons.NEXT:
+    if verb in LISTED or verb in horizons.NEXT or verb == WEEKDAY:
         if before.kind != "N":
             raise ChangeRefused(f"{name} is of type {before.kind}, which lists no intervals; change it with type=, "
                                 "origin=, interval=")
-        entries = with_span(before, verb, more) if verb in horizons.NEXT else \
-            LISTED[verb](name, before.entries, *days_of(verb, more))
+        entries = with_span(before, verb, more) if verb in horizons.NEXT else with_weekdays(before, more) \
+            if verb == WEEKDAY else LISTED[verb](name, before.entries, *days_of(verb, more))
         after = dataclasses.replace(before, entries=entries)
     else:
         after = with_fields(name, before, given.changes)
@@ -81,12 +92,15 @@ def new_period(found: Definitions, name: str, words: list[str]) -> Change:
     if name in found.periods:
         raise ChangeRefused(f"{name} exists already; leave `new` away to change it")
     if not words:
-        raise ChangeRefused("`new` needs months, quarters or weeks FIRST..LAST, or type=, origin= and interval=", 2)
+        raise ChangeRefused("`new` needs months, quarters or weeks FIRST..LAST, weekday NTH FIRST..LAST, or type=, "
+                            "origin= and interval=", 2)
     verb, *more = words
     if verb in horizons.NEXT:
         if more and more[0].startswith(".."):
             raise ChangeRefused(f"a new period has no last interval to go on from; `{verb}` needs FIRST..LAST", 2)
         after = Period("N", entries=with_span(Period("N"), verb, more))
+    elif verb == WEEKDAY:
+        after = Period("N", entries=with_weekdays(Period("N"), more))
     elif verb == "add":
         after = Period("N", entries=added(name, [], *days_of(verb, more)))
     else:
@@ -167,6 +181,33 @@ def with_span(before: Period, verb: str, words: list[str]) -> list[Entry]:
     return sorted(found, key=lambda entry: entry.origin)
 
 
+def with_weekdays(before: Period, words: list[str]) -> list[Entry]:
+    """The entries of a period with each third Friday, or another weekday, of a span that it doesn't list yet."""
+    nth = nth_weekday.of_text(words[0]) if words else None
+    first, dots, last = words[1].partition("..") if len(words) == 2 else ("", "", "")
+    if nth is None or not last:
+        raise ChangeRefused("`weekday` needs 1 to 5 or -1 to -5 and a weekday, and FIRST..LAST, as 3FRI 2027..2030 or "
+                            "-1FRI 2027-01..2027-06; without FIRST it goes on after the last interval", 2)
+    if not first and not before.entries:
+        raise ChangeRefused("a new period has no last interval to go on from; `weekday` needs FIRST..LAST", 2)
+    begin = nth_weekday.month_of(nth.after(before.entries[-1].origin)) if not first else month_of(first, 1)
+    end = month_of(last, 12)
+    listed = {entry.origin for entry in before.entries}
+    found = nth_weekday.entries(nth, begin, end)
+    if not found:
+        raise ChangeRefused(f"{words[1]} lists nothing: there is no {nth.text} from {begin.year}-{begin.month:02} to "
+                            f"{end.year}-{end.month:02}", 2)
+    return sorted([*before.entries, *(entry for entry in found if entry.origin not in listed)])
+
+
+def month_of(text: str, month: int) -> Month:
+    """The month that somebody typed; of a year its month of this number."""
+    day = moments.day_of(f"{text}-{month:02}-01" if re.fullmatch("[0-9]{4}", text) else f"{text}-01")
+    if day is None:
+        raise ChangeRefused(f"{text!r} is neither a year such as 2027 nor a month such as 2027-01", 2)
+    return nth_weekday.month_of(day)
+
+
 def begin_of(verb: str, text: str) -> int:
     """The day on which a month, or a week, begins that somebody typed."""
     try:
@@ -182,7 +223,7 @@ def with_fields(name: str, before: Period, words: list[str]) -> Period:
     try:
         pairs = [edit_words.pair(word) for word in words]
     except argparse.ArgumentTypeError as wrong:
-        raise ChangeRefused(f"{wrong}, nor one of {', '.join([*LISTED, *horizons.NEXT])}", 2) from None
+        raise ChangeRefused(f"{wrong}, nor one of {', '.join([*LISTED, *horizons.NEXT, WEEKDAY])}", 2) from None
     wanted = {key.lower(): value for key, value in pairs}
     strange = [key for key in wanted if key not in KEYS]
     if strange or len(wanted) < len(pairs):

@@ -3,6 +3,7 @@
 import argparse
 import dataclasses
 
+from opcplan.cli import words
 from opcplan.cli.words import Parser
 from opcplan.commands import edit_words
 from opcplan.commands.edit_change import Change, ChangeRefused
@@ -28,8 +29,11 @@ class Settings:
 
 def add_words(parser: Parser) -> None:
     """Adds its words to a parser."""
-    parser.add_argument("app", metavar="APP", type=edit_words.name, help="the application that waits")
-    parser.add_argument("verb", metavar="add|remove", type=verb, help="add (also for another limit), or remove")
+    words.offer(parser.add_argument("app", metavar="APP", type=edit_words.name, help="the application that waits"),
+                names=["applications"])
+    action = parser.add_argument("verb", metavar="add|remove", type=verb, help="add (also for another limit), or "
+                                                                               "remove")
+    words.offer(action, ["add", "remove"])
     parser.add_argument("other", metavar="P", type=edit_words.name, help="the application that it waits for")
     parser.add_argument("hours", metavar="HOURS", type=edit_words.hours, nargs="?",
                         help="how many hours before APP an occurrence of P may arrive at most (else without a limit)")

@@ -4,17 +4,18 @@ import argparse
 import dataclasses
 from collections.abc import Iterable
 
+from opcplan.cli import words
 from opcplan.cli.words import Parser
-from opcplan.commands import dump, edit_words
+from opcplan.commands import edit_words
 from opcplan.commands.edit_change import Change, ChangeRefused
 from opcplan.errors import Unreadable
 from opcplan.plans import stream_state
 from opcplan.plans.plan_file import Plan
-from opcplan.rules import lint_checks, moments, record_fields
+from opcplan.rules import lint_checks, moments, record_fields, record_texts
 from opcplan.rules.definitions import FIRST_DAY, Definitions, Period, RunCycle
 from opcplan.rules.naming_words import few, meant_text
 
-SUMMARY = "changes fields of a run cycle, or gives an application a new one"
+SUMMARY = "changes fields of a run cycle, gives an application a new one, removes, renames or copies one"
 NEW = "new"
 NAMES, TAKE = record_fields.KINDS["run-cycles"]
 FIELDS = {field.replace(" ", "-"): field for field in NAMES[2:]}
@@ -34,13 +35,19 @@ class Settings:
 
 def add_words(parser: Parser) -> None:
     """Adds its words to a parser."""
-    parser.add_argument("app", metavar="APP", type=edit_words.name, help="its application")
-    parser.add_argument("name", metavar="NAME", type=edit_words.short_name, help="the run cycle")
-    parser.add_argument("pairs", metavar="FIELD=VALUE", type=field_of, nargs="+",
-                        help="`new` for a run cycle that doesn't exist yet, and then period=, ia= and deadline=. "
-                             f"Else {', '.join(FIELDS)}; offset and ia for short. deadline=DAYS/HH.MM sets both of its "
-                             "fields, deadline=HH.MM the time alone. Blanks or commas separate offsets; an empty value "
-                             "is none")
+    words.offer(parser.add_argument("app", metavar="APP", type=edit_words.name, help="its application"),
+                names=["applications"])
+    words.offer(parser.add_argument("name", metavar="NAME", type=edit_words.short_name, help="the run cycle"),
+                names=["run-cycles"])
+    action = parser.add_argument(
+        "changes", metavar="FIELD=VALUE", nargs="+",
+        help="`new` for a run cycle that doesn't exist yet, and then period=, ia= and deadline=. "
+             f"Else {', '.join(FIELDS)}; offset and ia for short. deadline=DAYS/HH.MM sets both of its "
+             "fields, deadline=HH.MM the time alone. Blanks or commas separate offsets; an empty value "
+             "is none. Or remove, rename NEW, or, for one that doesn't exist yet, like OTHER or like "
+             "APP/OTHER, and then fields that are different")
+    words.offer(action, [*(f"{field}=" for field in [*FIELDS, "deadline", *OTHER_WORDS]), NEW, "remove", "rename",
+                         "like"])
 
 
 def name_lacked(found: Definitions, typed: list[str]) -> str:
@@ -56,7 +63,10 @@ def name_lacked(found: Definitions, typed: list[str]) -> str:
 
 def settings_of(given: argparse.Namespace) -> Settings:
     """The words as Settings."""
-    return Settings(given.app, given.name, given.pairs)
+    try:
+        return Settings(given.app, given.name, [field_of(word) for word in given.changes])
+    except argparse.ArgumentTypeError as wrong:
+        raise ChangeRefused(f"{wrong}; ./plan edit PLAN.db run-cycle --help says more", 2) from None
 
 
 def change(plan: Plan, found: Definitions, given: Settings) -> Change:
@@ -85,7 +95,7 @@ def change(plan: Plan, found: Definitions, given: Settings) -> Change:
 
 
 def field_of(text: str) -> tuple[str, str]:
-    """A field and its value, or `new`, for `type=`."""
+    """A field and its value, or `new`."""
     return (NEW, "") if text.lower() == NEW else edit_words.pair(text)
 
 
@@ -116,7 +126,7 @@ def new_cycle(
     if after.period not in found.periods:
         raise ChangeRefused(edit_words.lack("period", after.period, found.periods))
     then = {**cycles, name: after}
-    fields = dump.run_cycle_record(app, after).split(",")
+    fields = record_texts.run_cycle_record(app, after).split(",")
     shown = ", ".join(f"{key} {value}" for key, value in zip(NAMES[2:], fields[2:]) if value)
     sentences = [f"{name} of {app} is new: {shown}."]
     sentences += [f"Its other run cycles stay: {few(cycles)}."] if cycles else []
@@ -166,7 +176,7 @@ def parts_of(key: str, value: str) -> dict[str, str]:
 
 def fields_of(plan: Plan, app: str, cycle: RunCycle) -> dict[str, str]:
     """The fields of a run cycle's record, by name."""
-    fields = dump.run_cycle_record(app, cycle).split(",")
+    fields = record_texts.run_cycle_record(app, cycle).split(",")
     if len(fields) != len(NAMES):
         raise Unreadable(f"{plan.path}: its rows are no sound plan: a run cycle of {app} has an impossible name")
     return dict(zip(NAMES, fields))

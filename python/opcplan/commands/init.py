@@ -12,7 +12,7 @@ from opcplan.cli import colours, words
 from opcplan.commands import dump, edit_period, edit_words, import_csv, import_forms, import_ics, run as run_command
 from opcplan.errors import Unreadable
 from opcplan.plans import stream_file, tempfiles
-from opcplan.rules import moments
+from opcplan.rules import moments, record_texts
 from opcplan.rules.definitions import WEEKDAYS, Calendar, Period, weekday_of
 from opcplan.rules.stream import Bounds
 
@@ -169,8 +169,8 @@ def stream_of(span: Years, free: tuple[int, ...], files: list[str]) -> str:
     }
     if not calendar.weekdays and not calendar.dates:
         calendar.weekdays[0] = True  # a calendar lists something
-    records = {"calendars": {"DEFAULT": dump.calendar_records("DEFAULT", calendar)},
-               "periods": {name: dump.period_records(name, period) for name, period in periods.items()}}
+    records = {"calendars": {"DEFAULT": record_texts.calendar_records("DEFAULT", calendar)},
+               "periods": {name: record_texts.period_records(name, period) for name, period in periods.items()}}
     return "".join(f"define {kind} --job {number}\n{data}/*\n"
                    for number, (kind, data) in enumerate(((kind, "".join(dump.blocks_of(kind, found)))
                                                           for kind, found in records.items()), 1))

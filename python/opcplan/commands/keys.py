@@ -7,6 +7,8 @@ import shlex
 from collections.abc import Callable, Sequence
 from typing import Any, NamedTuple
 
+from opcplan.acts import resolver
+from opcplan.acts.resolver import Meant
 from opcplan.cli import words
 from opcplan.errors import UsageError
 from opcplan.plans import waits
@@ -15,14 +17,17 @@ from opcplan.plans.waits import Row
 from opcplan.rules import hints, moments
 
 HELP = "APP D/HH.MM or APP D HH.MM, or its serial: 123, or '#123' in quotes, because # begins a comment in a shell"
+SHORTER = "APP, APP D or APP HH.MM if one fits"
 
 
 class Key(NamedTuple):
-    """An occurrence by its serial, or by application and input arrival; the other fields are None."""
+    """An occurrence by its serial, or by application and input arrival; the other fields are None. `meant` names one
+    by its application alone, or also by its day or minute."""
 
     serial: int | None
     app: str | None
     ia: int | None
+    meant: Meant | None = None
 
 
 class Found(NamedTuple):
@@ -38,7 +43,7 @@ Read = Callable[[list[str]], Key]
 
 def add_key(parser: words.Parser) -> None:
     """The words that name an occurrence, as `given.key`."""
-    add(parser, key_of, f"the occurrence: {HELP}")
+    add(parser, key_of, f"the occurrence: {HELP}; {SHORTER}")
 
 
 def add_key_of_day(parser: words.Parser) -> None:
@@ -48,7 +53,8 @@ def add_key_of_day(parser: words.Parser) -> None:
 
 def add(parser: words.Parser, read: Read, help_text: str) -> None:
     """The words of a key, with how they are read and what the help says."""
-    parser.add_argument("key", metavar="KEY", nargs="+", action=Reading, read=read, help=help_text)
+    action = parser.add_argument("key", metavar="KEY", nargs="+", action=Reading, read=read, help=help_text)
+    words.offer(action, names=["applications"])
     parser.is_mixed = True
 
 
@@ -74,6 +80,10 @@ class Reading(argparse.Action):
 
 def key_of(given: list[str]) -> Key:
     """The key that words spell."""
+    with contextlib.suppress(resolver.UnknownForm):
+        meant = resolver.read(given)
+        if meant.app is not None and (meant.day is None or meant.minute is None):
+            return Key(None, meant.app, None, meant)
     return serial_key(given) or app_key(given, words.moment)
 
 

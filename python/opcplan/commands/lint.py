@@ -10,7 +10,9 @@ from opcplan.cli import words
 from opcplan.commands import explain
 from opcplan.plans import progress, stream_file, stream_state
 from opcplan.plans.stream_state import Known
-from opcplan.rules import blocks, changes, definitions, horizons, lint_checks, moments, printable, stream
+from opcplan.rules import (
+    blocks, changes, definitions, explanations, horizons, lint_checks, moments, printable, stream,
+)
 from opcplan.rules.lint_checks import Finding
 from opcplan.rules.stream import Item
 
@@ -29,7 +31,9 @@ def add_words(parser: words.Parser) -> None:
         "then also reports what each block drops or changes of it, and "
         + "; ".join(lint_checks.KINDS_BY_PLAN.values())
         + ". If stream or plan say how far the long-term plan goes, it reports " + "; ".join(horizons.KINDS.values())
-        + ". `./plan check` and `./plan explain` report what is refused. The exit status is 1 if it finds something. "
+        + ". It also reports what is refused in any plan: a line that is no statement, data without an end, and a "
+        "faulty record. `./plan check` and `./plan explain` report what else is refused. The exit status is 1 if it "
+        "finds something. "
         + stream.BOUND
     )
     words.add_stream(parser)
@@ -39,34 +43,36 @@ def add_words(parser: words.Parser) -> None:
 def run(given: argparse.Namespace) -> int:
     """Does what the words ask for; the exit status."""
     with explain.known_at_first(given.plan) as now, stream_file.opened(given.stream) as source:
-        unread: list[int] = []
+        unread: list[Finding] = []
         size = os.path.getsize(given.stream) if os.path.isfile(given.stream) else 0
         with progress.of(f"looks through {given.stream}") as far:
             items = progress.along(stream.items(source), far, lambda: source.size / size if size else 0)
-            found = findings(noted(items, unread), now)
+            likely = findings(noted(items, now, unread), now)
+    found = sorted([*unread, *likely], key=lambda finding: finding.line or 0)
     for finding in found:
         print("\n".join(finding_lines(finding)))
     if not found:
-        words.print_message(f"{given.stream}: no likely mistakes{unread_text(unread)}")
+        words.print_message(f"{given.stream}: no likely mistakes")
     return 1 if found else 0
 
 
-def noted(items: Iterable[Item], unread: list[int]) -> Iterator[Item]:
-    """The items, of which those that are refused for their own sake are noted by their lines."""
+def noted(items: Iterable[Item], now: Known, unread: list[Finding]) -> Iterator[Item]:
+    """The items, of which those that are refused for their own sake are noted, with the reason."""
     for item in items:
-        if item.statement is None or item.has_data and not is_sound(item):
-            unread.append(item.line)
+        if (reply := own_refusal(item)) is not None:
+            text = "; ".join(explanations.refusal_sentences(item, reply, now))
+            unread.append(Finding("refused", (), item.line, f"{reply}: {text}"))
         yield item
 
 
-def unread_text(lines: list[int]) -> str:
-    """What is said of lines that are refused for their own sake, where there are any."""
-    if not lines:
-        return ""
-    if len(lines) == 1:
-        return f"; line {lines[0]} is refused in any plan; `./plan check` says why"
-    many = f"{len(lines):,} statements, the first at line {lines[0]}, are refused in any plan"
-    return f"; {many}; `./plan check` says why"
+def own_refusal(item: Item) -> str | None:
+    """The answer to an item that is refused for its own sake, in any plan; or None."""
+    if item.statement is None:
+        return "refused 10"
+    if not item.has_data or is_sound(item):
+        return None
+    fault = block.fault if (block := block_of(item)) is not None else None
+    return f"refused 11 {fault.record if fault else 0}"
 
 
 def finding_lines(finding: Finding) -> list[str]:
@@ -203,10 +209,9 @@ def losses(now: Known, item: Item) -> Iterator[Finding]:
 
 def reply_of(now: Known, item: Item) -> str:
     """How the reply begins that an item will have, where the item shows that by itself, and what is known of bounds."""
-    if item.statement is None:
-        return "refused 10"
-    if item.has_data and not is_sound(item):
-        return "refused 11"
+    if (refusal := own_refusal(item)) is not None:
+        return refusal
+    assert item.statement is not None, "what is no statement is refused for its own sake"
     return "refused 21" if item.statement.name == "ltp-create" and now.bounds is not None else "ok"
 
 

@@ -23,6 +23,7 @@ class Settings:
     trim: bool
     version: bool
     begin: str | None
+    distrust: str | None
     keep: int
     forget: list[str]
     program: str | None
@@ -38,17 +39,20 @@ def add_words(parser: words.Parser) -> None:
     parser.description = (
         "Shows what etcd has of the log that several desks share (`./plan desk --log`): its last entry and its first, "
         "which opcplan answers it, how far the desks are, how full etcd is. With --trim it removes old entries and has "
-        "etcd give the room back; entries stay that a desk which reported its position hasn't applied. With --version "
-        "another opcplan answers from the next entry on: each desk applies what is before, and goes on once it is "
+        "etcd give the room back; entries stay that a desk which reported its position hasn't applied, and those from "
+        "the first one on that has a caller's key and is younger than eight days. With --version another opcplan "
+        "answers from the next entry on: each desk applies what is before, and goes on once it is "
         "started with that program. With --begin it makes a new log after a plan: the plan that is the furthest if "
-        "etcd is lost, or one that had a desk of its own. The exit status is 1 if there is no such log, or it can't be "
-        "done, and 2 if the words are wrong."
+        "etcd is lost, or one that had a desk of its own. With --distrust a desk has no vote any more, so desks that "
+        "are held because two answered an entry differently go on or stop. The exit status is 1 if there is no such "
+        "log, or it can't be done, and 2 if the words are wrong."
     )
     parser.add_argument("log", metavar="LOG", type=log_words.address, help=log_words.EXAMPLE)
     does = parser.add_mutually_exclusive_group()
     does.add_argument("--trim", action="store_true", help="remove old entries, and compact and defragment etcd")
     does.add_argument("--version", action="store_true", help="have --program answer from the next entry on")
     does.add_argument("--begin", metavar="PLAN.db", type=words.file, help="make the log after this plan")
+    does.add_argument("--distrust", metavar="DESK", help="take the vote of a desk away that is wrong or gone")
     parser.add_argument("--keep", type=kept, default=USUAL_KEPT, metavar="N",
                         help=f"how many of the last entries --trim keeps at least (else {USUAL_KEPT:,})")
     parser.add_argument("--forget", metavar="DESK", action="append", default=[],

@@ -1,16 +1,19 @@
 """./plan ready: what may be started at a moment, for whatever starts it."""
 
+from __future__ import annotations
+
 import argparse
-import json
 import sys
+from typing import TYPE_CHECKING
 
 from opcplan.cli import colours, words
 from opcplan.cli.colours import Paint
-from opcplan.commands import export, late
-from opcplan.plans import plan_file, waits
-from opcplan.plans.plan_file import Plan
+from opcplan.plans import waits
 from opcplan.plans.waits import Row
 from opcplan.rules import moments
+
+if TYPE_CHECKING:  # what --help doesn't need is imported where it is needed
+    from opcplan.plans.plan_file import Plan
 
 USUAL = "usual"  # the form by which it prints where none is named
 SUMMARY = "what may be started now: it has arrived and waits for nothing"
@@ -48,9 +51,11 @@ def add_words(parser: words.Parser) -> None:
 
 def run(given: argparse.Namespace) -> int:
     """Does what the words ask for; the exit status."""
+    from opcplan.plans import plan_file
+
     now = moments.now() if given.now is None else given.now
     found, notes = plan_file.answer(
-        given.plan, lambda plan: (of_plan(plan, now, given.app), late.notes_on(plan, now)))
+        given.plan, lambda plan: (of_plan(plan, now, given.app), waits.notes_on(plan, now)))
     is_table = given.form is None or given.form == USUAL and sys.stdout.isatty()
     if is_table:
         print("\n".join(table_lines(found, now, Paint(given.color))))
@@ -98,6 +103,10 @@ def null_text(row: Row) -> str:
 
 def json_text(row: Row) -> str:
     """An object on a line."""
+    import json
+
+    from opcplan.commands import export
+
     app, ia, _ = parts(row)
     values = {"serial": row.serial, "application": app, "ia": ia, "arrives": export.iso(row.ia),
               "due": export.iso(row.deadline), "run_cycle": row.cycle, "added": row.cycle is None}

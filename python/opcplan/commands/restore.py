@@ -16,7 +16,8 @@ from collections.abc import Iterator
 from opcplan.cli import output, words
 from opcplan.commands import backup
 from opcplan.errors import Unwritable, UsageError
-from opcplan.plans import atomic_files, checked_copy, locks, plan_file, tempfiles
+from opcplan.plans import atomic_files, checked_copy, locks, own_runs, plan_file, tempfiles
+from opcplan.plans.program import is_own
 from opcplan.rules import printable
 
 SUMMARY = "puts a backup in the place of a plan, and keeps what was there"
@@ -45,7 +46,7 @@ def run(given: argparse.Namespace) -> int:
     if os.path.lexists(path) and not os.path.isfile(path):
         raise Unwritable(f"{given.plan}: it is not a file")
     with tempfiles.folder("restore-") as folder:
-        copy, meta = checked_copy.made(given.backup, folder, given.program)
+        copy, meta = checked_copy.made(given.backup, folder, given.program, is_anew=True)
         try:
             aside = put_back(copy, path, os.path.realpath(given.backup))
         except locks.FileLocked:
@@ -55,6 +56,8 @@ def run(given: argparse.Namespace) -> int:
         except OSError as error:
             raise Unwritable(f"{given.plan}: the backup can't be put there: {error.strerror}; repair that, and type "
                              "the same again") from None
+        if given.program is None or is_own(given.program):
+            own_runs.keep_equal(path, copy)
     lines = [f"{given.plan} is {given.backup} now: {backup.extent_text(meta)}."]
     lines += [f"What was there is now {' and '.join(aside)}, in the same folder."] if aside else []
     lines.append("What opcplan answered since the backup isn't in it: run the streams since then again, in their "

@@ -16,9 +16,10 @@ from collections.abc import Iterator
 from typing import NamedTuple
 
 from opcplan.cli import words
-from opcplan.commands import desk_plan, send, trial_words
+from opcplan.commands import desk_plan, roll_report, send, trial_words
 from opcplan.desk import client
 from opcplan.errors import Error, UsageError
+from opcplan.needs.facts import DONE, FAILED, STOPPED
 from opcplan.plans import job_numbers, locks, plan_file, tempfiles, trial, waits
 from opcplan.plans.plan_file import Plan
 from opcplan.plans.program import built_program
@@ -28,7 +29,7 @@ from opcplan.rules.rolling import Reach, Rule
 from opcplan.rules.stream import Item, Source
 
 SUMMARY = "extends the daily and the long-term plan as far as a rule says, for a timer"
-AHEAD, RESERVE, WAIT = "24h", "60d", 60.0
+AHEAD, RESERVE, EVERY, WAIT = "48h", "60d", "24h", 60.0
 MOST_AHEAD, MOST_RESERVE = 60 * moments.DAY, 1000 * moments.DAY
 MINUTES = {"m": 1, "h": 60, "d": moments.DAY}
 # statements of one stream, and streams of one run
@@ -42,6 +43,10 @@ class StillDue(Error):
     """A statement that the planner refused, and that is due still."""
 
     exit_status = 4
+
+
+class RollStopped(Error):
+    """Why --stop-on keeps the daily plan from being extended."""
 
 
 class Stop(NamedTuple):
@@ -65,10 +70,11 @@ def add_words(parser: words.Parser) -> None:
         "Extends the current plan so far that it ends at the first of the times --at that is --ahead from now or more. "
         "If fewer days than --reserve are left of the long-term plan, it first extends that to the end of a month. It "
         "shows what it is going to do and what a trial on a copy of the plan answers, and does it; if nothing is due, "
-        "it does nothing. Each statement has a job number that is made from the statement, 800000001 to 899999999: run "
-        "twice, it does the same thing once. The exit status is 0 if the plan reaches so far. It is 1 if --stop-on or "
-        "the trial forbids it or the plan can't be read, and 4 if a statement was refused. It is 8 if it isn't known "
-        "which answer a statement got; then run it again."
+        "it does nothing. It reports to the desk how it ended, and prints what needs a person. Each statement has a "
+        "job number that is made from the statement, 800000001 to 899999999: run twice, it does the same thing once. "
+        "The exit status is 0 if the plan reaches so far. It is 1 if --stop-on or the trial forbids "
+        "it or the plan can't be read, and 4 if a statement was refused. It is 8 if it isn't known which answer "
+        "a statement got; then run it again."
     )
     parser.add_argument("plan", metavar="PLAN.db", nargs="?", type=words.file, help="the file that opcplan --db keeps")
     parser.add_argument("--desk", metavar="DESK",
@@ -80,6 +86,8 @@ def add_words(parser: words.Parser) -> None:
                         "a daily plan may end (else the one at which it ends already)")
     parser.add_argument("--reserve", type=reserve, metavar="TIME", default=reserve(RESERVE), help="how many days of "
                         f"the long-term plan have to be left, as 60d (else {RESERVE})")
+    parser.add_argument("--every", type=ahead, metavar="TIME", default=ahead(EVERY), help="how often a timer runs "
+                        f"this; if it doesn't run again in time, that needs a person (else {EVERY})")
     parser.add_argument("--stop-on", type=stop, metavar="KIND[:APP]", action="append", default=[],
                         help="`error` or `late`: don't extend the daily plan while something is in error or past its "
                              "deadline; with a pattern, as error:PAY*, only these applications count; you may give it "
@@ -136,20 +144,39 @@ def run(given: argparse.Namespace) -> int:
     if (desk is None) == (given.plan is None):
         raise UsageError("give PLAN.db or --desk DESK, one of them; ./plan roll --help says more")
     asked = None if desk is None else desk_plan.of_words(desk)
+    reach = roll_report.Reached()
+    try:
+        rolled(given, asked, reach)
+    except Error as why:
+        outcome = STOPPED if isinstance(why, RollStopped) else FAILED
+        roll_report.send(given, asked, reach, outcome, str(why))
+        if reach.end is not None:
+            roll_report.show_needs(given, asked, is_quiet=True)
+        raise
+    roll_report.send(given, asked, reach, DONE, "")
+    roll_report.show_needs(given, asked)
+    return 0
+
+
+def rolled(given: argparse.Namespace, asked: client.Client | None, reach: roll_report.Reached) -> None:
+    """Extends a plan as far as is due, and notes how far it reaches. Raises Error."""
     until = time.monotonic() + given.wait
     refused: list[Answer] = []
     for turn in range(MOST_STREAMS):
         with copied(given, asked, until) as path, plan_file.opened(path) as plan:
+            reach.end = plan.meta["plan_end"] if plan.is_created else None
             stream = stream_due(plan, given, is_first=not turn)
             if not stream:
-                return 0
+                return
             if refused:  # it is due still, so nobody else did it meanwhile
                 raise StillDue(f"`{refused[0].text}` was {refused[0].reply}, and is still due; the next run tries it "
                                "again")
-            try_on(path, stream, given.program)
-            if given.is_trial:
-                return 0
-            refused = [one for one in done(given, asked, stream, until) if not one.reply.startswith("ok")]
+            with tried_on(path, stream, given.program) as tried:
+                if given.is_trial:
+                    return
+                refused = [one for one in done(given, asked, stream, until) if not one.reply.startswith("ok")]
+                if asked is None:
+                    tried.keep(given.plan)
     raise Error(f"{MOST_STREAMS} streams of {MOST_STEPS} statements don't extend the plan far enough; run it again")
 
 
@@ -205,15 +232,17 @@ def ask_stops(plan: Plan, stops: list[Stop], now: int) -> None:
         if found:
             names = ", ".join(f"{row.key} (serial {row.serial})" for row in found[:MOST_NAMED])
             more = f" and {len(found) - MOST_NAMED} more" if len(found) > MOST_NAMED else ""
-            raise Error(f"nothing was done: the daily plan is due, but --stop-on {one.kind} stops it "
-                        f"for {names}{more}, {STOPS[one.kind]}")
+            raise RollStopped(f"nothing was done: the daily plan is due, but --stop-on {one.kind} stops it "
+                              f"for {names}{more}, {STOPS[one.kind]}")
 
 
 # The trial, and what is done.
 
 
-def try_on(path: str, stream: str, program: str | None) -> None:
-    """Shows what a trial on a copy answers. Raises Error where that refuses a statement, or doesn't come to its end."""
+@contextlib.contextmanager
+def tried_on(path: str, stream: str, program: str | None) -> Iterator[trial.Trial[list[Answer]]]:
+    """A trial on a copy; shows what that answers. Raises Error where it refuses a statement, or doesn't come to its
+    end."""
     with tempfiles.folder("roll-") as folder:
         name = os.path.join(folder, "stream.in")
         with open(name, "w", encoding="ascii") as file:
@@ -225,9 +254,10 @@ def try_on(path: str, stream: str, program: str | None) -> None:
                 trial_words.print_end(tried)
                 raise Error("nothing was done, because the trial didn't come to its end")
             refused = [one for one in tried.found if not one.reply.startswith("ok")]
-    if refused:
-        raise Error("nothing was done, because the trial refuses "
-                    f"`{refused[0].text}`: {'; '.join((refused[0].reply, *refused[0].why))}")
+            if refused:
+                raise Error("nothing was done, because the trial refuses "
+                            f"`{refused[0].text}`: {'; '.join((refused[0].reply, *refused[0].why))}")
+            yield tried
 
 
 def answers_of(items: Iterator[Item], output: Source, now: Known) -> list[Answer]:
@@ -253,8 +283,9 @@ def done(given: argparse.Namespace, desk: client.Client | None, stream: str, unt
     lines = stream.splitlines()
     found = [Answer(line, reply) for line, reply in zip(lines, replies)]
     show("done", found)
-    if len(replies) != len(lines) or any(reply.startswith("fault") for reply in replies):
-        raise send.StreamNotSent(f"the planner answered {len(replies)} of {len(lines)} statements; run it again, and "
+    answered = sum(not reply.startswith("fault") for reply in replies)
+    if (answered, len(replies)) != (len(lines), len(lines)):
+        raise send.StreamNotSent(f"the planner answered {answered} of {len(lines)} statements; run it again, and "
                                  "nothing is done twice")
     return found
 

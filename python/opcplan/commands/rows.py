@@ -10,7 +10,7 @@ from collections.abc import Callable, Iterable, Iterator
 from typing import NamedTuple
 
 from opcplan.cli import colours, words
-from opcplan.commands import export, late
+from opcplan.commands import export
 from opcplan.commands.export import Occurrence
 from opcplan.errors import UsageError
 from opcplan.plans import plan_file, waits
@@ -64,9 +64,10 @@ def add_words(parser: words.Parser) -> None:
                         help="only what arrives from this day or moment on")
     parser.add_argument("--to", dest="last", type=last_moment, metavar="D",
                         help="only what arrives up to the end of this day, or up to this moment")
-    parser.add_argument("--status", type=statuses, metavar="S",
-                        help="only these statuses: letters as W,S,E, or words "
-                             f"({', '.join(STATUSES).replace(' e', '-e')})")
+    action = parser.add_argument("--status", type=statuses, metavar="S",
+                                 help="only these statuses: letters as W,S,E, or words "
+                                      f"({', '.join(STATUSES).replace(' e', '-e')})")
+    words.offer(action, [name.replace(" ", "-") for name in STATUSES])
     parser.add_argument("--late", action="store_true",
                         help="only what is past its deadline in the current plan, and neither complete nor deleted")
     words.add_now(parser)
@@ -200,7 +201,7 @@ def is_wanted(one: Occurrence, given: Settings, now: int) -> bool:
 
 def notes_on(plan: Plan, given: Settings, now: int) -> list[str]:
     """What is to be said of the moment, and of a plan and an application of which there can be no rows."""
-    notes = late.notes_on(plan, now) if given.late else []
+    notes = waits.notes_on(plan, now) if given.late else []
     if not plan.is_created:
         return notes or [f"{plan.path}: there is no long-term plan yet, so there are no rows"]
     if given.app is None or is_known(plan, given.app):

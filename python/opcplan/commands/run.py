@@ -8,20 +8,27 @@ import os
 import secrets
 import sys
 from collections.abc import Iterator, Sequence
+from typing import NamedTuple
 
 from opcplan.cli import colours, words
 from opcplan.commands import check, desk_plan, desk_stream, trial_words, what_if
-from opcplan.desk import client
+from opcplan.desk import client, requests
 from opcplan.errors import Error, Unreadable, Unwritable, UsageError
 from opcplan.plans import job_numbers, locks, plan_file, stream_file, stream_state, tempfiles, trial
 from opcplan.plans.stream_state import Known
 from opcplan.plans.trial import Trial
 from opcplan.rules import explanations, printable, stream
+from opcplan.rules.apart import Apart
 from opcplan.rules.stream import Item
 
+# an application and one that is or was its predecessor
+LINKS = """SELECT app, pred FROM predecessor UNION SELECT app, pred FROM link_in_force UNION
+    SELECT later.app, earlier.app FROM dependency JOIN cp_row AS later ON later.serial = successor
+        JOIN cp_row AS earlier ON earlier.serial = predecessor"""
 SUMMARY = "checks a stream, shows what it would change, asks, and runs it"
 MOST_ROWS = 20  # of the table of occurrences
-TURNS = 9  # how often a stream is tried anew while others change the plan of a desk
+IS_NEW = "the file held no plan, so a new one was made in it"  # which opcplan says, and --new asks for
+TURNS = 9  # how often in a row nothing is done of a stream while others change the plan of a desk
 
 
 @dataclasses.dataclass(frozen=True)
@@ -90,8 +97,10 @@ def run_over_file(given: Settings, plan: str) -> int:
         answers = f"{tried.stream}.out"
         named = os.path.abspath(plan)
         status, said = trial.done(tried, named, answers)
+        tried.keep(path)
         for line in said.splitlines():
-            print(printable.fit(line.replace(named, plan)), file=sys.stderr)
+            if not (given.is_new and IS_NEW in line):
+                print(printable.fit(line.replace(named, plan)), file=sys.stderr)
         status = status if status >= 0 else 128 - status
         try:
             show_answers(tried, answers, given.color)
@@ -122,21 +131,22 @@ def run_by_desk(given: Settings, desk: client.Client) -> int:
         with stream_file.opened(given.stream) as source:
             sent = b"".join(source.pieces())
         whole = desk_stream.parts(sent)
-        earlier: Tried | None = None
-        for turn in range(TURNS):
-            now = Tried(desk_stream.copied(desk, os.path.join(folder, f"plan-{turn}.db")), whole, done)
+        earlier: Agreed | None = None
+        idle = 0
+        while idle < TURNS:
+            now = Tried(desk_stream.copied(desk, os.path.join(folder, f"plan-{idle}-{done}.db")), whole, done)
             with tried_rest(given, folder, now) as tried:
-                agree_again(given, folder, tried, earlier, now)
-                answers = desk_stream.answers(desk, sent, used, now.copy.tag)[done:]
+                earlier = agree_again(given, folder, tried, earlier, now)
+                apart = apart_of(now, tried.plan)
+                answers = desk_stream.answers_beside(desk, sent, used, now.copy, apart)[done:]
                 show_part(given, desk, tried, desk_stream.written(os.path.join(folder, "answers"), answers),
                           len(whole[done:]) - len(answers))
             refused |= any(desk_stream.is_refusal(one) for one in answers)
-            done += len(answers)
+            done, idle = done + len(answers), 0 if answers else idle + 1
             if done == len(whole):
                 return 4 if refused else 0
             words.print_message(f"somebody changed the plan of {desk.name} meanwhile: {done_text(done, whole)}; the "
                                 "rest is tried on the plan as it is now")
-            earlier = now
     raise Error(f"others kept changing the plan of {desk.name}: {done_text(done, whole)}, and nothing else; run the "
                 "rest again")
 
@@ -148,6 +158,19 @@ class Tried:
     copy: desk_stream.Copy
     whole: list[bytes]
     done: int
+
+
+class Agreed(NamedTuple):
+    """What was tried, and what it showed, to which somebody agreed."""
+
+    tried: Tried
+    text: str
+
+
+def apart_of(now: Tried, plan: plan_file.Plan) -> Apart:
+    """What is near the statements that aren't done yet, in a copy of the plan."""
+    changes = [one.words for one in requests.of_stream(b"".join(now.whole[now.done:])) if one.changes]
+    return Apart(changes, [(later, earlier) for later, earlier in plan.db.execute(LINKS)])
 
 
 @contextlib.contextmanager
@@ -163,12 +186,13 @@ def tried_rest(given: Settings, folder: str, now: Tried, base: str | None = None
 
 
 def agree_again(
-    given: Settings, folder: str, tried: Trial[check.Checked], earlier: Tried | None, now: Tried
-) -> None:
-    """Shows what the rest of a stream would change, and asks, unless it is what somebody agreed to before. Raises
-    Error."""
-    if earlier is not None and shown_text(tried) == agreed_text(given, folder, earlier, now):
-        return
+    given: Settings, folder: str, tried: Trial[check.Checked], earlier: Agreed | None, now: Tried
+) -> Agreed:
+    """Shows what the rest of a stream would change, and asks, unless it is what somebody agreed to before: what is
+    agreed to. Raises Error."""
+    agreed = Agreed(now, shown_text(tried))
+    if earlier is not None and agreed.text == agreed_text(given, folder, earlier, now):
+        return agreed
     try:
         agree(tried, given)
     except Error as why:
@@ -176,14 +200,14 @@ def agree_again(
             raise
         text = str(why).replace("nothing was done", "nothing else was done")
         raise Error(f"{done_text(now.done, now.whole)}; {text}") from None
+    return agreed
 
 
-def agreed_text(given: Settings, folder: str, earlier: Tried, now: Tried) -> str:
+def agreed_text(given: Settings, folder: str, earlier: Agreed, now: Tried) -> str:
     """What the rest would have changed behind what was done of an earlier trial, had nobody else changed the plan."""
-    part = Tried(earlier.copy, now.whole[:now.done], earlier.done)
-    if now.done == earlier.done:
-        with tried_rest(given, folder, earlier) as tried:
-            return shown_text(tried)
+    part = Tried(earlier.tried.copy, now.whole[:now.done], earlier.tried.done)
+    if now.done == earlier.tried.done:
+        return earlier.text
     with tried_rest(given, folder, part) as before, tried_rest(given, folder, now, before.after.path) as tried:
         return shown_text(tried)
 
@@ -225,8 +249,9 @@ def show(tried: Trial[check.Checked], color: str) -> None:
 
 
 def shown_text(tried: Trial[check.Checked]) -> str:
-    """What is found of a stream and what it would change."""
-    changed = what_if.difference(tried.plan, tried.after, MOST_ROWS)
+    """What is found of a stream and what it would change; what a block drops or turns stands in what is found."""
+    told = {finding.text for finding in tried.found.findings if finding.kind == "change"}
+    changed = what_if.difference(tried.plan, tried.after, MOST_ROWS, told)
     return "\n".join([*check.lines_of(tried.found), printable.text(changed), ""])
 
 

@@ -8,6 +8,7 @@ import argparse
 import contextlib
 import dataclasses
 import io
+import json
 import math
 import os
 import random
@@ -20,12 +21,14 @@ import time
 from collections.abc import Callable, Iterator
 from typing import NamedTuple
 
+from opcplan.acts import loaded, resolver, verbs
+from opcplan.acts.resolver import Meant
 from opcplan.cli import words
 from opcplan.commands import desk_view, keys, rows
 from opcplan.desk import client
 from opcplan.errors import Error, Unreadable, Unwritable, UsageError
-from opcplan.plans import entry, job_numbers, journal, locks, plan_definitions, plan_file, printed_numbers
-from opcplan.plans import stream_file, stream_state, waits
+from opcplan.plans import entry, job_numbers, journal, locks, own_runs, plan_definitions, plan_file
+from opcplan.plans import printed_numbers, stream_file, stream_state, waits
 from opcplan.plans.program import built_program
 from opcplan.rules import explanations, moments, printable, statement_words, statements, stream
 from opcplan.rules.naming_words import meant_text
@@ -75,7 +78,8 @@ def add_words(parser: words.Parser) -> None:
         "Sends the job stream on standard input to a desk, or runs it over PLAN.db if no desk has that. Or it sends "
         f"one statement in words: `start APP D/HH.MM`, and likewise {', '.join(SHORT[1:])}, each as the statement "
         "cp-.. of that name. Any statement of docs/rules/STATEMENTS.md except define is possible too. You may give a "
-        "serial in place of APP D/HH.MM. A statement in words without a job number gets the next one, which `send` "
+        "serial in place of APP D/HH.MM, and APP, APP D or APP HH.MM if one occurrence fits. A statement in words "
+        "without a job number gets the next one, which `send` "
         "prints; a desk gives numbers to all that lack one. While the desk is away, or another program has PLAN.db, "
         "`send` tries again; no statement is run twice. It prints the replies as opcplan prints them, and on standard "
         "error what a refusal means. The exit status is opcplan's: 0, 4 if some were refused, 8 after a fault, and if "
@@ -94,8 +98,9 @@ def add_words(parser: words.Parser) -> None:
                         help="the key under which a desk does the stream once (else a new key)")
     parser.add_argument("--program", metavar="FILE", type=words.file,
                         help="the planner that runs it (else the one that is built here)")
-    parser.add_argument("words", nargs=argparse.REMAINDER, metavar="STATEMENT",
-                        help="the words of a statement (else the stream on standard input)")
+    action = parser.add_argument("words", nargs=argparse.REMAINDER, metavar="STATEMENT",
+                                 help="the words of a statement (else the stream on standard input)")
+    words.offer(action, [*SHORT, *(name for name in statements.KINDS if name != "define")], ["applications"])
 
 
 def seconds(text: str) -> float:
@@ -267,14 +272,60 @@ def parts(given: list[str]) -> list[str]:
 
 
 def with_key(path: str | None, desk: client.Client | None, given: list[str]) -> list[str]:
-    """The words of a statement, in which the serial of `start 11` is replaced by what has it in a plan, of a file or of
-    a desk. Raises StatementNotSent, Unreadable, DeskUnreachable and client.RequestRefused."""
+    """The words of a statement, in which the serial of `start 11`, or `PAY 06.00`, is replaced by what it names in a
+    plan, of a file or of a desk. Raises StatementNotSent, Unreadable, DeskUnreachable and client.RequestRefused."""
+    meant = meant_by(given)
+    if meant is not None:
+        count = next((place for place, word in enumerate(given) if word.startswith("-")), len(given))
+        key = meant_in_file(path, given[0], meant) if path is not None else meant_at_desk(desk, given[0], meant)
+        return [given[0], *key, *given[count:]]
     if given[0] not in statements.ACTS or not re.fullmatch("[1-9][0-9]{0,8}", "".join(given[1:2])):
         return given
     if len(given) > 2 and not given[2].startswith("-"):
         return given
     app, ia = key_in_file(path, int(given[1])) if path is not None or desk is None else key_at_desk(desk, int(given[1]))
     return [given[0], app, ia, *given[2:]]
+
+
+def meant_by(given: list[str]) -> Meant | None:
+    """What a change of a status names by an application alone, or also by its day or minute; None if it names it
+    otherwise."""
+    count = next((place for place, word in enumerate(given) if word.startswith("-")), len(given))
+    if given[0] not in statements.ACTS or count < 2:
+        return None
+    with contextlib.suppress(resolver.UnknownForm):
+        meant = resolver.read(given[1:count])
+        if meant.app is not None and (meant.day is None or meant.minute is None):
+            return meant
+    return None
+
+
+def meant_in_file(path: str, name: str, meant: Meant) -> tuple[str, str]:
+    """Application and input arrival of what is meant in the plan of a file. Raises StatementNotSent and Unreadable."""
+    check_file(path)
+    with plan_file.opened(path) as plan:
+        found = resolver.resolve(loaded.world_of(plan), meant, verbs.VERBS[name].places, moments.now())
+    if found.row is None:
+        raise StatementNotSent(not_one(meant, found.several and resolver.lines_of(found) or [], found.why))
+    return found.row.app, moments.moment_word(found.row.ia)
+
+
+def meant_at_desk(desk: client.Client | None, name: str, meant: Meant) -> tuple[str, str]:
+    """Application and input arrival of what is meant in the plan of a desk. Raises StatementNotSent, DeskUnreachable
+    and client.RequestRefused."""
+    assert desk is not None, "a statement goes to a file or to a desk"
+    found = json.loads(desk.request("POST", "/acts", json.dumps({"verb": name, "of": meant.text}).encode())[1])
+    if found["act"] is not None:
+        return found["act"]["row"]["app"], found["act"]["row"]["ia"]
+    if found["found"] is None:
+        raise StatementNotSent(str(found["why_not"]))
+    raise StatementNotSent(not_one(meant, found["found"]["choices"] and found["found"]["lines"] or [],
+                                   found["found"]["why"]))
+
+
+def not_one(meant: Meant, lines: list[str], why: str) -> str:
+    """Why what is meant isn't one occurrence: several fit, or none does."""
+    return f"several fit {meant.text}: {'; '.join(lines)}" if lines else why.removesuffix(".")
 
 
 def key_in_file(path: str | None, serial: int) -> tuple[str, str]:
@@ -412,7 +463,7 @@ def sent(program: str, path: str, text: bytes, until: float) -> Ran:
     """What opcplan answers to a text over a file. It is started again, up to a moment of the steady clock, where it
     ended before the first statement because another program has the file."""
     while True:
-        ran = subprocess.run([program, "--db", os.path.abspath(path)], input=text, capture_output=True, check=False)
+        ran = own_runs.ran(program, path, text)
         if not is_held(ran) or time.monotonic() >= until:
             return ran
         time.sleep(random.uniform(0.02, 0.2))

@@ -3,7 +3,7 @@
 import argparse
 import collections
 import sqlite3
-from collections.abc import Iterator
+from collections.abc import Collection, Iterator, Mapping
 
 from opcplan.cli import words
 from opcplan.commands import trial_words
@@ -63,10 +63,10 @@ def reply_lines(items: Iterator[Item], output: Source, now: Known) -> list[str]:
 # What is different.
 
 
-def difference(before: Plan, after: Plan, most: int | None = None) -> list[str]:
+def difference(before: Plan, after: Plan, most: int | None = None, told: Collection[str] = ()) -> list[str]:
     """Definitions, bounds and occurrences that differ between two plans, in lines; of the occurrences so many at
-    most."""
-    lines = definition_lines(plan_definitions.of_plan(before), plan_definitions.of_plan(after))
+    most. Changes of definitions that were told before aren't told again."""
+    lines = definition_lines(plan_definitions.of_plan(before), plan_definitions.of_plan(after), told)
     lines += bound_lines(before.meta, after.meta)
     with progress.of("compares the plans"):
         changed = changed_rows(before, after)
@@ -74,27 +74,38 @@ def difference(before: Plan, after: Plan, most: int | None = None) -> list[str]:
     return lines or ["", "Nothing would be different except the kept jobs."]
 
 
-def definition_lines(before: Definitions, after: Definitions) -> list[str]:
-    """The names whose definitions differ, by kind, what was changed of each, and the options."""
+def definition_lines(before: Definitions, after: Definitions, told: Collection[str] = ()) -> list[str]:
+    """The names whose definitions differ, by kind, each once, with what was changed of it and isn't told yet, and the
+    options."""
     lines = []
     for kind in KINDS:
         held, now = getattr(before, kind), getattr(after, kind)
-        changed = sorted(name for name in held.keys() & now.keys() if held[name] != now[name])
+        what = kind.replace("_", " ")
+        changed = {name: changes.of_name(kind.replace("_", "-"), name, held[name], now[name])
+                   for name in sorted(held.keys() & now.keys()) if held[name] != now[name]}
+        left = {name: [one.brief for one in found if one.text not in told] for name, found in changed.items()}
         for said, names in (
             ("new", now.keys() - held.keys()),
-            ("changed", changed),
+            ("changed, as above", [name for name, texts in left.items() if not texts]),
             ("gone", held.keys() - now.keys()),
         ):
             if names:
-                lines.append(f"  {kind.replace('_', ' ')} {said}: {', '.join(sorted(names))}")
-            for name in changed if said == "changed" else ():
-                found = changes.of_name(kind.replace("_", "-"), name, held[name], now[name])
-                lines += [f"    {change.text}" for change in found]
+                lines.append(f"  {what} {said}: {', '.join(sorted(names))}")
+        if any(left.values()):
+            lines += [f"  {what} changed:", *changed_lines(left)]
     if before.default_calendar != after.default_calendar:
         lines.append(f"  the default calendar: {before.default_calendar}, then {after.default_calendar}")
     if before.max_hours != after.max_hours:
         lines.append(f"  the most hours of one daily plan: {before.max_hours}, then {after.max_hours}")
     return ["", "Definitions:", *lines] if lines else []
+
+
+def changed_lines(changed: Mapping[str, list[str]]) -> list[str]:
+    """A line for each change of some names, the first of a name behind it, the others below."""
+    lines = []
+    for name, texts in changed.items():
+        lines += [f"    {f'{name}:' if at == 0 else '':{len(name) + 1}} {text}" for at, text in enumerate(texts)]
+    return lines
 
 
 def bound_lines(before: sqlite3.Row, after: sqlite3.Row) -> list[str]:

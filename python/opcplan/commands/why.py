@@ -3,6 +3,7 @@
 import argparse
 import dataclasses
 
+from opcplan.acts import loaded, resolver
 from opcplan.cli import words
 from opcplan.commands import keys, why_day
 from opcplan.plans import actual, forecast, late_ends, plan_definitions, plan_file, waits
@@ -62,6 +63,12 @@ def run(given: argparse.Namespace) -> int:
 
 def lines_of(plan: Plan, given: Settings) -> tuple[list[str], bool]:
     """What is printed of an occurrence at a moment, and whether it stands somewhere."""
+    if given.key.meant is not None:
+        meant = resolver.resolve(loaded.world_of(plan), given.key.meant, near=given.now)
+        if meant.row is None:
+            fit = [f"{len(meant.several)} occurrences fit {given.key.meant.text}; name one of them:"]
+            return [*(fit if meant.several else []), *resolver.lines_of(meant)], False
+        given = dataclasses.replace(given, key=keys.Key(meant.row.serial, None, None))
     found = keys.rows_of(plan, given.key)
     if found is None:
         return [keys.unknown_text(plan, given.key)], False

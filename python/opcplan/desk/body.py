@@ -3,12 +3,16 @@
 import asyncio
 import hashlib
 import json
-from collections.abc import Iterator, Sequence
+import re
+import time
+from collections.abc import Iterator, Mapping, Sequence
 from typing import NamedTuple, TYPE_CHECKING
 
+from opcplan.desk import routes
 from opcplan.desk.errors import StatementRejected
 from opcplan.desk.planner import Submission
 from opcplan.desk.requests import StreamItem
+from opcplan.desk.turns import Work
 from opcplan.plans import chain, entry
 
 if TYPE_CHECKING:
@@ -16,6 +20,11 @@ if TYPE_CHECKING:
 
 # statements of one stream that are in the queue at once
 WINDOW = 32
+CHANGED = 412  # HTTP's status if the plan isn't in the state that If-Match names
+KEY = re.compile(routes.KEY)
+# how many bytes of an answer wait for the state after its last statement, and for how many seconds: callers who have
+# several desks wait 30 seconds for the first byte
+MOST_HELD, LONGEST_HELD = 1 << 20, 10.0
 
 
 class SubmittedItem(NamedTuple):
@@ -25,11 +34,38 @@ class SubmittedItem(NamedTuple):
     answer: asyncio.Future[Submission]
 
 
+class PlanState(NamedTuple):
+    """The tag of a state of the plan, and the last entry that it has."""
+
+    tag: str
+    position: int
+
+
 class AnsweredItem(NamedTuple):
-    """A statement of a stream, and its answered Submission."""
+    """A statement of a stream, its answered Submission, and the state of the plan after it."""
 
     asked: StreamItem
     ask: Submission
+    state: PlanState
+
+
+def key_of(heads: Mapping[str, str]) -> str | None:
+    """The key of a stream in the headers of its request, or None. Raises StatementRejected."""
+    key = heads.get("Idempotency-Key")
+    if key is not None and not KEY.fullmatch(key):
+        raise StatementRejected(400, "`Idempotency-Key` must have 1 to 200 printable characters, without blanks and #; "
+                                "nothing was done")
+    return key
+
+
+def state_after(ask: Submission, before: PlanState) -> PlanState:
+    """The state of the plan after an answered statement of a stream. `before` is the state after the statement in front
+    of it, or, of the first one, that in which the stream came. A statement that opcplan didn't get leaves the state as
+    it is, and a change that was done before has the state of then.
+
+    So a stream whose first change needs the state after the last statement of the one before it is done if nobody else
+    changed the plan in between, and only then."""
+    return before if ask.tag is None else PlanState(ask.tag, ask.position)
 
 
 class Body:
@@ -40,13 +76,24 @@ class Body:
         self.desk, self.asked, self.who, self.key, self.condition = desk, asked, who, key, condition
         self.at = entry.moment_now()
         self.last: Submission | None = None  # the change after which the next one comes, if there is a condition
+        # after the last answered statement; before the first one, that in which the stream came
+        self.state = PlanState(desk.tag(), desk.position)
         self.asks: asyncio.Queue[SubmittedItem] = asyncio.Queue()
         self.room = asyncio.Semaphore(WINDOW)
         self.has_changes = any(one.changes for one in asked)
         self.is_left = False  # the caller doesn't read its answers any more
         self.is_broken = False  # a statement was rejected, so none after it is accepted
-        self.digest = None if key is None else requests_digest(asked)
+        self.digest: str | None = None  # of the stream that has the key
         self.is_claimed, self.is_put, self.left = False, False, 0  # `left`: the number of statements without an answer
+
+    def take_at_once(self) -> bool:
+        """Puts a single statement into the queue; whether the stream has no other one."""
+        if len(self.asked) != 1:
+            return False
+        self.asks.put_nowait(SubmittedItem(self.asked[0], self.put(self.asked[0], 0)))
+        self.is_put = True
+        self.release()
+        return True
 
     async def take(self) -> None:
         """Puts the statements into the queue, up to the first that is rejected: WINDOW of them at a time that the
@@ -55,12 +102,17 @@ class Body:
             for place, one in enumerate(self.asked):
                 if not self.is_left:
                     await self.room.acquire()
-                future = self.put(one, place)
+                is_question = self.has_changes and not one.changes and one.reply is None
+                if is_question:
+                    await self.desk.feed.wait_for_question(self.who)
+                begun, future = time.monotonic(), self.put(one, place)
                 self.asks.put_nowait(SubmittedItem(one, future))
                 if self.is_broken:
                     return
-                if self.is_left:
+                if self.is_left or is_question:
                     await asyncio.wait([future])
+                if is_question:
+                    self.desk.feed.note_question(self.who, begun)
         finally:
             self.is_put = True
             self.release()
@@ -102,10 +154,10 @@ class Body:
         """The Submission of a statement. Raises StatementRejected."""
         if one.reply is not None:
             ask = Submission(one.name)
-            ask.reply, ask.tag, ask.position = one.reply, self.desk.tag(), self.desk.position
+            ask.reply = one.reply
             return ask
         if not one.changes:
-            return self.desk.ask_question(one.name, one.text, self.has_changes)
+            return self.desk.ask_question(one.name, one.text, self.who, self.has_changes)
         ask = self.desk.ask_change(one.name, self.wanted(one, place), self.condition and (self.last or self.condition))
         if ask.is_change:  # one that was done before under its key needs no state
             self.last = ask
@@ -116,11 +168,20 @@ class Body:
         key = self.key if place == 0 or self.key is None else f"{self.key}#{place}"
         return entry.Wanted(self.who, key, one.words, one.data, one.job, self.at, self.digest)
 
-    async def claim(self) -> None:
+    async def claim(self, work: Work) -> None:
         """Claims the key for this stream. Raises StatementRejected if it belongs to another one."""
-        changes = [self.wanted(one, place) for place, one in enumerate(self.asked) if one.changes and one.reply is None]
-        if self.key is not None and changes:
-            await self.desk.claim(self.who, self.key, changes)
+        if self.key is None:
+            return
+        self.digest = await requests_digest(self.asked, work)
+        changes = 0
+        for place, one in enumerate(self.asked):
+            if one.changes and one.reply is None:
+                self.desk.known(self.wanted(one, place))
+                changes += 1
+            if work.is_over:
+                await work.rest()
+        if changes:
+            self.desk.claim(self.who, self.key, self.digest)
             self.is_claimed = True
 
     async def next(self) -> AnsweredItem:
@@ -130,16 +191,43 @@ class Body:
         self.room.release()
         if ask.wrong is not None:
             raise StatementRejected(503, ask.wrong)
-        return AnsweredItem(one, ask)
+        return self.answered(one, ask)
+
+    def answered(self, one: StreamItem, ask: Submission) -> AnsweredItem:
+        """Notes that a statement is answered, after those in front of it."""
+        self.state = state_after(ask, self.state)
+        return AnsweredItem(one, ask, self.state)
 
 
-def requests_digest(found: Sequence[StreamItem]) -> str:
+async def requests_digest(found: Sequence[StreamItem], work: Work) -> str:
     """A digest of a stream, by which the desk sees another stream under the same key."""
     whole = hashlib.sha256()
     for one in found:
         data = b"" if one.data is None else one.data
         whole.update(f"{one.name} {one.words} {one.job} {one.reply} {len(data)}\n".encode() + data)
+        if work.is_over:
+            await work.rest()
     return whole.hexdigest()[:chain.DIGEST]
+
+
+class HeldAnswer:
+    """The answer to a stream as far as its headers wait for the state after its last statement. They don't wait for the
+    end of an answer that is long, or takes long."""
+
+    def __init__(self, begun: float) -> None:
+        self.until, self.size = begun + LONGEST_HELD, 0
+        self.pieces: list[bytes] = []
+
+    def hold(self, data: bytes, now: float) -> bool:
+        """Keeps the next bytes; whether they may wait. If not, all that is held has to be sent now."""
+        self.pieces.append(data)
+        self.size += len(data)
+        return self.size <= MOST_HELD and now <= self.until
+
+    def release(self) -> bytes:
+        """All that is held, which is dropped here."""
+        found, self.pieces = b"".join(self.pieces), []
+        return found
 
 
 def as_text(one: AnsweredItem) -> Iterator[bytes]:
@@ -159,5 +247,6 @@ def as_json(one: AnsweredItem) -> Iterator[bytes]:
         lines = piece.decode("ascii").splitlines()
         yield between + ", ".join(map(json.dumps, lines)).encode()
         between = b", "
-    rest = {"reply": ask.reply, "at": known.at if known else entry.moment_now(), "key": known.key if known else None}
+    rest = {"reply": ask.reply, "at": known.at if known else entry.moment_now(), "key": known.key if known else None,
+            **one.state._asdict()}
     yield b"], " + json.dumps(rest).removeprefix("{").encode() + b"\n"

@@ -4,21 +4,26 @@ import contextlib
 import hashlib
 import os
 import secrets
-from collections.abc import AsyncIterator, Set
+import time
+from collections.abc import AsyncIterator, Iterator, Set
 
 from opcplan.desk import log
+from opcplan.desk.digests import begun_with, PlanFacts, Start
 from opcplan.desk.etcd import Etcd, EtcdError, EtcdUnreachable
-from opcplan.desk.etcd_log import EtcdLog
+from opcplan.desk.etcd_log import EtcdLog, name_of, new_name
+from opcplan.desk.keys import Keys, young_since
 from opcplan.desk.log_words import Access, Where
 from opcplan.desk.store import State, Store
-from opcplan.desk.versions import CannotJoin, different, first_line, version_at, version_of
+from opcplan.desk.versions import CannotJoin, version_of, why_not_started
 from opcplan.errors import LogUnwritable, Unreadable
-from opcplan.plans import entry, journal, journal_plan, sound_rows
+from opcplan.plans import chain, copy_mark, entry, journal, journal_plan, sound_rows
 from opcplan.plans.plan_file import Plan
 
 OTHER_JOURNAL = "this is the journal of another log; move it away, or name another journal with --journal"
 NEW_FILE = "take another desk's plan: move {0} away, and start this desk with --from http://OTHERDESK"
 CHANGED_ETCD = "etcd's data were changed or restored"
+NO_DIGEST = ("{0} has entry {1} of the log and no digest of its answers: no desk and no `./plan backup` made this "
+             "copy, or it was changed since. To go on, {2}")
 
 
 @contextlib.asynccontextmanager
@@ -49,9 +54,41 @@ async def joined(store: Store, plan: str, path: str, program: str) -> EtcdLog:
         except LogUnwritable as why:
             raise CannotJoin(str(why)) from None
         first = next((one.seq for one in record.unanswered() if one.seq <= given), given + 1)
-        check_version(state, first, version, store.where, program)
+        if wrong := why_not_started(state.versions, first, version, str(store.where), program):
+            raise CannotJoin(wrong)
+        found = EtcdLog(await keys_of(store, state, record, given), record, store, state, given, version, plan)
+        if found.chain_at(first - 1) is None:
+            raise CannotJoin(NO_DIGEST.format(plan, first - 1, NEW_FILE.format(plan)))
+        with no_other_writer(store):
+            found.judge(await store.desks())  # so that a desk that is held says so from the start
+            await found.report()  # so that it has its vote before anybody sees an answer of it, or has a copy
+        record.note_statuses(held)
         left.pop_all()
-    return EtcdLog(record, store, state, given, version, plan)
+    return found
+
+
+async def keys_of(store: Store, state: State, record: journal.Journal, given: int) -> Keys:
+    """The keys of the entries up to `given`: those that the journal lacks are read from the log, and what desks of
+    version 1.0 kept of them too. Raises CannotJoin, EtcdUnreachable and EtcdError."""
+    begun, found = record.begun(), Keys(record)
+    last = record.lacks_upto(begun.seq if begun else 0, given)
+    with no_other_writer(store):
+        first = await store.first_since(max(state.first, state.base + 1), last, young_since(time.time()))
+        async for one in store.entries(first, last):
+            found.learn([one])
+        for (who, key), holder in (await store.old_keys()).items():
+            found.learn_holder(who, key, holder)
+    return found
+
+
+@contextlib.contextmanager
+def no_other_writer(store: Store) -> Iterator[None]:
+    """A context that reads what desks write. Raises CannotJoin if it is something else."""
+    try:
+        yield
+    except (KeyError, TypeError, ValueError) as error:
+        raise CannotJoin(f"{store.where}: etcd has something below {store.root} that no desk writes: {error!r}; end "
+                         "the program that writes there, and start the desk again") from None
 
 
 def journal_of(path: str, left: contextlib.ExitStack) -> journal.Journal:
@@ -89,7 +126,7 @@ class Joining:
 
     def __init__(self, store: Store, state: State, held: Plan, record: journal.Journal) -> None:
         self.where, self.store, self.state, self.held, self.record = store.where, store, state, held, record
-        (self.jobs,) = held.db.execute("SELECT count(*) FROM job").fetchone()
+        self.jobs = copy_mark.jobs_of(held)
         self.position = journal.position_of(held)
 
     async def applied(self) -> int:
@@ -98,9 +135,9 @@ class Joining:
         own = known if known is not None and known.log == self.state.id else None
         has_last = last is None or journal_plan.written(self.job(last.job)) == last.text
         is_level = own is not None and self.jobs >= own.jobs and has_last
-        found = max(self.record.position(), own.seq) if own is not None and is_level else self.by_file()
-        if self.state.first > found + 1:  # a journal may be older than its plan
-            found = max(found, self.position)
+        await self.check_text()
+        begin = self.by_file() if own is None or not is_level else Start(max(self.record.position(), own.seq), "")
+        found = begin.seq
         if own is None and not (has_last and self.record.position() <= found):
             raise CannotJoin(f"{self.record.path}: {OTHER_JOURNAL}")
         self.check_end(found)
@@ -108,11 +145,17 @@ class Joining:
         if self.state.first > (found + 1 if is_level or found == self.state.base else found):
             raise CannotJoin(f"{self.where}: the log is trimmed up to entry {self.state.first - 1}, and the last entry "
                              f"of {self.held.path} is {found}. To go on, {NEW_FILE.format(self.held.path)}")
-        await self.check_text()
-        if not is_level:
-            self.record.begin(self.state.id, found, self.jobs)
+        if own is None or not is_level:
+            self.record.begin(self.state.id, found, self.jobs, begin.digest, new_name())
+        elif own.plan is None:
+            self.complete(own)
         await self.check_jobs(found)
         return found
+
+    def complete(self, own: journal.LogStart) -> None:
+        """Has a journal of version 1.0 keep what it lacks. Raises LogUnwritable."""
+        digest = self.base_digest if own.seq == self.state.base else own.digest
+        self.record.name_plan(new_name(), name_of(self.held.path), digest)
 
     async def check_jobs(self, upto: int) -> None:
         """Checks that the plan has the jobs of its journal, as they were answered, and otherwise only those that the
@@ -134,12 +177,21 @@ class Joining:
             last = batches[-1].last
         return found
 
-    def by_file(self) -> int:
-        """The last entry of the plan, by its file alone. Raises CannotJoin."""
+    @property
+    def base_digest(self) -> str:
+        """The digest with which the log begins."""
+        return chain.chain_of(self.state.id, self.state.base)
+
+    def by_file(self) -> Start:
+        """What the desk begins with, by the plan's file alone. Raises CannotJoin."""
+        is_base = self.position <= self.state.base and content_sum(self.held) == self.state.base_sum
+        found = begun_with(copy_mark.of(self.held), PlanFacts(
+            self.state.id, self.state.base, self.base_digest, self.position, self.jobs, is_base))
+        if found is not None:
+            return found
         if self.position > self.state.base:
-            return self.position
-        if content_sum(self.held) == self.state.base_sum:
-            return self.state.base
+            self.check_end(self.position)
+            raise CannotJoin(NO_DIGEST.format(self.held.path, self.position, NEW_FILE.format(self.held.path)))
         raise CannotJoin(f"{self.where}: the log doesn't belong to {self.held.path}, which is another plan, or is "
                          f"older than the log. To go on, {NEW_FILE.format(self.held.path)}")
 
@@ -166,20 +218,6 @@ class Joining:
         """The text of a kept job, or None."""
         row = self.held.db.execute("SELECT body FROM job WHERE number = ?", (number,)).fetchone()
         return None if row is None else bytes(row[0])
-
-
-def check_version(state: State, first: int, version: str, where: Where, program: str) -> None:
-    """Checks that this opcplan may answer the entries from `first` on. Raises CannotJoin."""
-    theirs, newest = version_at(state.versions, first), state.versions[max(state.versions)]
-    if theirs == version:
-        return
-    message = f"{where}: entries from {first} on need {first_line(theirs)}, and {program} is " \
-        f"{first_line(version)}{different(theirs, version)}. "
-    if newest == version:
-        raise CannotJoin(f"{message}Start the desk with the older program (--program) until it has entry "
-                         f"{max(state.versions) - 1}, or take another desk's plan with --from")
-    raise CannotJoin(f"{message}Start the desk with the program that they need. Or, once each machine has the new one, "
-                     f"move the log to it: `./plan log {where} --version --program {program}`")
 
 
 def remove(path: str) -> None:

@@ -4,6 +4,7 @@ answered, so that nothing is done twice."""
 import contextlib
 import email.message
 import http.client
+import json
 import os
 import random
 import re
@@ -165,7 +166,10 @@ class Client:
         while True:
             for _ in self.places:
                 try:
-                    return self.asked("POST", "/statements", text, heads)[1]
+                    found = self.asked("POST", "/statements", text, heads)[1]
+                    if fault := fault_of(found):
+                        raise DeskUnreachable(f"{self.name}: its answer ends with `{fault}`", True)
+                    return found
                 except DeskUnreachable as why:
                     may_be_done = may_be_done or why.may_be_done
                     last = DeskUnreachable(str(why), may_be_done)
@@ -179,6 +183,15 @@ class Client:
                 raise last
             time.sleep(random.uniform(rest / 2, rest))
             rest = min(2 * rest, LONGEST_REST)
+
+
+def fault_of(answer: bytes) -> str:
+    """The fault on the last line of an answer to a stream, in either form; empty if there is none. Each statement of an
+    answer with a fault may be done, and has no reply that counts."""
+    last = answer.rstrip(b"\n").rpartition(b"\n")[2].decode("utf-8", "replace")
+    with contextlib.suppress(ValueError, AttributeError):
+        last = str(json.loads(last).get("reply"))
+    return last if last.startswith("fault") else ""
 
 
 def usual() -> str | None:

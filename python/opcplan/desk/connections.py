@@ -15,6 +15,7 @@ from collections.abc import Callable, Mapping
 from typing import Any, IO
 
 from aiohttp import http_exceptions, web
+from aiohttp.abc import AbstractStreamWriter
 
 # the most connections at once; and the most whose callers haven't authenticated
 MOST, MOST_UNKNOWN = 4000, 200
@@ -119,23 +120,51 @@ class Connections:
 
 
 def is_defect(record: logging.LogRecord) -> bool:
-    """Whether aiohttp reports a defect, and not a caller who hangs up or speaks no HTTP."""
+    """Whether aiohttp reports a defect, and not a caller who hangs up, speaks no HTTP, or sends a body that isn't what
+    its headers say."""
     error = record.exc_info[1] if record.exc_info else None
-    return not isinstance(error, (http_exceptions.HttpProcessingError, ConnectionError, asyncio.TimeoutError))
+    return not isinstance(error, (http_exceptions.HttpProcessingError, ConnectionError, asyncio.TimeoutError,
+                                  web.RequestPayloadError))
 
 
 async def body_of(request: web.Request, most: int) -> bytes:
-    """The body of a request, at most `most` bytes. Raises HTTPRequestEntityTooLarge, and HTTPRequestTimeout if it takes
-    too long."""
+    """The body of a request, at most `most` bytes. Raises HTTPRequestEntityTooLarge, HTTPBadRequest if it can't be
+    decoded, and HTTPRequestTimeout if it takes too long."""
     length = request.content_length
     if length is not None and length > most:
         raise web.HTTPRequestEntityTooLarge(max_size=most, actual_size=length)
+    if request.content.is_eof():  # it has come whole
+        return await request.read()
     patience = BODY + (most if length is None else length) / BYTES_A_SECOND
     try:
         async with asyncio.timeout(patience):  # no task of its own: what has come is read even if the caller hung up
             return await request.read()
     except TimeoutError:
         raise web.HTTPRequestTimeout(text="the body didn't arrive in time; nothing was done\n") from None
+    except web.RequestPayloadError as why:
+        if "exceeds" in str(why):  # what is compressed, and larger than any body may be
+            raise web.HTTPRequestEntityTooLarge(max_size=most, actual_size=most + 1) from None
+        raise web.HTTPBadRequest(text="the body isn't what `Content-Encoding` and `Transfer-Encoding` say; nothing was "
+                                 "done\n") from None
+
+
+class WholeResponse(web.Response):
+    """An answer whose headers and body are sent together: each call of the system costs as much as a statement's
+    parse."""
+
+    async def prepare(self, request: web.BaseRequest) -> AbstractStreamWriter | None:
+        """Sends all of it."""
+        transport, pieces = request.transport, list[bytes]()
+        if transport is None:
+            return await super().prepare(request)
+        setattr(transport, "write", pieces.append)  # aiohttp has no other way
+        try:
+            writer = await super().prepare(request)
+            await self.write_eof()
+        finally:
+            delattr(transport, "write")
+        transport.write(b"".join(pieces))
+        return writer
 
 
 async def sent_file(request: web.Request, heads: Mapping[str, str], file: IO[bytes], size: int) -> web.StreamResponse:

@@ -12,9 +12,13 @@ from opcplan.desk.events import Events
 from opcplan.desk.feed import Feed, PATIENCE
 from opcplan.desk.held_files import HeldFiles
 from opcplan.desk.lists import Lists
+from opcplan.desk.live_facts import Service
 from opcplan.desk.log import Log
 from opcplan.desk.planner import Planner, PlannerStopped, Submission
+from opcplan.desk.reports import Reports
+from opcplan.desk.turns import Turns, Work
 from opcplan.errors import LogUnwritable
+from opcplan.plans import journal
 from opcplan.plans.entry import Entry, Wanted
 from opcplan.plans.journal import JournalReply
 
@@ -23,11 +27,12 @@ LATE = 0.5
 
 
 class Desk:
-    """The desk over HeldFiles, whose locks it has, and a log. First of all it sends the planner again what the journal
-    has without a reply."""
+    """The desk over HeldFiles, whose locks it has, and a log, of a plan with a name. First of all it sends the planner
+    again what the journal has without a reply."""
 
-    def __init__(self, program: str, files: HeldFiles, the_log: Log, why_not: Callable[[], str], limit: float) -> None:
-        self.log, self.files = the_log, files
+    def __init__(self, program: str, files: HeldFiles, the_log: Log, why_not: Callable[[], str], limit: float,
+                 name: str = "plan") -> None:
+        self.log, self.files, self.name = the_log, files, name
         pending = the_log.unanswered()
         position = pending[0].seq - 1 if pending else the_log.given
         self.state: state.State[Submission] = state.State(the_log.life, position, the_log.chain_at(position),
@@ -35,8 +40,11 @@ class Desk:
         self.planner = Planner(program, files, self.state, self.on_answer, self.on_stop, why_not, limit)
         self.events, self.metrics = Events(self), metrics.Metrics()
         self.agents = Agents(the_log.journal.agents())
+        self.reports, self.service = Reports(self.agents), Service()
+        self.turns = Turns(lambda: self.is_busy)  # at the desk's own thread
         self.feed = Feed(self)
         self.lists = Lists(self)
+        self.on_status: Callable[[int], None] = lambda serial: None  # gets occurrences that have another status
         self.writing: asyncio.Task[None] | None = None
 
     def start(self) -> None:
@@ -81,15 +89,22 @@ class Desk:
         assert not isinstance(found, state.Read)  # what comes after that is in memory
         return found
 
-    def ask_question(self, name: str, text: bytes, waits: bool = False) -> Submission:
-        """The Submission of a statement that changes nothing. If `waits`, it comes after the changes before it. Raises
-        StatementRejected."""
+    def work(self, who: str, is_long: bool = False) -> Work:
+        """Work for a caller on the desk's own thread."""
+        return Work(self.turns, who, is_long)
+
+    def ask_question(self, name: str, text: bytes, who: str, waits: bool = False) -> Submission:
+        """The Submission of a caller's statement that changes nothing. If `waits`, it comes after the changes before
+        it. Raises StatementRejected."""
         ask = Submission(name, text)
+        ask.who = who
         self.feed.put(ask, not waits)
         return ask
 
     def ask_change(self, name: str, wanted: Wanted, condition: str | Submission | None = None) -> Submission:
         """The Submission of a change, perhaps the earlier one under its key. Raises StatementRejected."""
+        if why := self.log.divided:
+            raise StatementRejected(503, f"{why}; send the request again later")
         known = self.known(wanted)
         if known is not None:
             return known
@@ -110,8 +125,7 @@ class Desk:
             old = self.log.find(wanted.who, wanted.key)
             if old is None or old.reply is None:  # the plan is older than its journal
                 return None
-            ask = Submission("", old.text)
-            ask.entry, ask.reply = old, old.reply
+            ask = Submission.of_answered(old, self.state.tag_after(old.seq))
         if ask.entry is not None:
             is_same = wanted.text(ask.entry.job) == ask.entry.text
         else:
@@ -120,16 +134,9 @@ class Desk:
             raise used_otherwise(wanted.key)
         return ask
 
-    async def claim(self, who: str, key: str, wanted: Sequence[Wanted]) -> None:
-        """Claims a caller's key for a stream with these changes, until `release`. Raises StatementRejected if the key
+    def claim(self, who: str, key: str, stream: str) -> None:
+        """Claims a caller's key for a stream with this digest, until `release`. Raises StatementRejected if the key
         belongs to another stream."""
-        unknown = [one for one in wanted if self.known(one) is None]
-        with contextlib.suppress(LogUnwritable):  # the append reports it
-            for place, one in (await self.log.used(unknown)).items():
-                if one is None:
-                    raise used_otherwise(unknown[place].key)
-        stream = wanted[0].stream
-        assert stream is not None  # a stream with a key has a digest
         if not self.state.claim(who, key, stream, self.log.stream_of(who, key)):
             raise used_otherwise(key)
 
@@ -144,8 +151,9 @@ class Desk:
             self.state.wants(one.who, one.key, ask)
         return ask
 
-    async def catch_up(self) -> int:
-        """Waits until the plan has what the log has now; the last entry. Raises StatementRejected."""
+    async def catch_up(self, is_confirmed: bool = False) -> int:
+        """Waits until the plan has what the log has now, perhaps until a majority of the desks has published the same
+        answers; the last entry. Raises StatementRejected."""
         until = time.monotonic() + PATIENCE
         try:
             last = await self.log.ask_last(until)
@@ -156,6 +164,10 @@ class Desk:
                 raise StatementRejected(503, f"this desk hasn't applied the log up to entry {last} yet: "
                                         f"{self.trouble or 'try again'}")
             await asyncio.sleep(LATE / 50)
+        try:
+            await self.log.check_answers(until, is_confirmed)
+        except LogUnwritable as why:
+            raise StatementRejected(503, str(why)) from None
         return last
 
     def forget(self, ask: Submission) -> None:
@@ -175,10 +187,14 @@ class Desk:
             ask.entry = one.entry
             if one.reply.startswith("ok"):
                 self.lists.changed()
+                if found := journal.STATUS.fullmatch(one.reply):
+                    self.on_status(int(found[1]))
             self.events.wake()
-        if ask.is_again:  # the journal, or etcd, has its key
+        if ask.is_again:  # the journal, or the log before it, has its key
             self.forget(ask)
         ask.tag, ask.position = one.tag, one.position
+        if one.item.entry is not None and (why := self.log.divided):
+            ask.fail(StatementRejected(503, f"{why}; the statement is in the log"))
         ask.answer(one.reply)
 
     def on_stop(self, why: str) -> None:
@@ -190,13 +206,12 @@ class Desk:
         self.lists.clear()
 
     async def write_late(self) -> None:
-        """Writes replies that no further change takes along, adopts digests of other desks, and checks that the files
-        are in their places, also while no request comes."""
+        """Writes replies that no further change takes along, and checks that the files are in their places, also while
+        no request comes."""
         while True:
             await asyncio.sleep(LATE)
             self.planner.has_moved()
-            for entry, digest in self.log.adopts().items():
-                self.state.adopt(entry, digest)
+            self.service.note(self.trouble, self.log.standing(self.position))
             if self.state.unkept():
                 with contextlib.suppress(LogUnwritable):
                     await self.keep_replies()

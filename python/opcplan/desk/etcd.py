@@ -19,7 +19,7 @@ from opcplan.errors import Error
 CALL = 2.0
 # codes of gRPC after which another node is tried: unknown, deadline, internal, unavailable
 ELSEWHERE = (2, 4, 13, 14)
-NO_LOGIN, EXHAUSTED, NOT_FOUND, INVALID = 16, 8, 5, 3
+NO_LOGIN, EXHAUSTED, INVALID = 16, 8, 3
 STALE_LOGIN = ("invalid auth token", "user name is empty", "revision of auth store is old")
 MOST_OF_A_WATCH, MOST_OF_MESSAGE = 1 << 20, 300
 

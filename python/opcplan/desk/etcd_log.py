@@ -7,16 +7,20 @@ import os
 import secrets
 import socket
 import time
-from collections.abc import Callable, Sequence
+from collections.abc import Callable, Collection, Mapping, Sequence
 from typing import Any
 
 from opcplan.desk import digests, log
-from opcplan.desk.etcd import EtcdError, EtcdUnreachable, EXHAUSTED, Member, NOT_FOUND
-from opcplan.desk.log_entries import KeyHolder, text_sum
-from opcplan.desk.store import Appended, Head, head_of, Report, State, Store
-from opcplan.desk.versions import different, first_line, version_at
+from opcplan.desk.digests import Digests
+from opcplan.desk.etcd import EtcdError, EtcdUnreachable, EXHAUSTED, Member
+from opcplan.desk.keys import Keys, young_since
+from opcplan.desk.log_entries import Head
+from opcplan.desk.log_view import LogView
+from opcplan.desk.published import Desks, Report
+from opcplan.desk.shared_log import DeskNotOn, SharedLog
+from opcplan.desk.store import Appended, head_of, State, Store
 from opcplan.errors import LogUnwritable
-from opcplan.plans import chain, entry
+from opcplan.plans import entry
 from opcplan.plans.journal import Journal, JournalReply
 
 # seconds between two requests for the head if no news of it comes, and between two looks at the nodes
@@ -24,40 +28,40 @@ POLL, LOOK = 0.5, 5.0
 REST = 0.1
 # seconds without news of the head until the desk reports that; one node that doesn't answer takes two of them
 SILENT = 4.0
-# a caller's key is kept for a week at least: a lease is used for a day
+# what a desk reports of itself counts for a week at least: it is reported again after a day
 DAY = 24 * 3600
-LEASE = 8 * DAY
-# a desk publishes its digests after at least so many entries and so many seconds, and compares so many of its own
-# entries with those of others
-EVERY, REPORT, MOST_COMPARED = 16, 2.0, 1000
+# a desk publishes its digests after at least so many entries and so many seconds
+EVERY, REPORT = 16, 2.0
 
 
 class EtcdLog(log.Log):
     """The log under a name in etcd. The plan at `path` has its entries up to `given`; `version` is this desk's
-    opcplan."""
+    opcplan, and `keys` knows the keys of all these entries."""
 
     is_shared = True
 
-    def __init__(self, journal: Journal, store: Store, stands: State, given: int, version: str, path: str) -> None:
+    def __init__(self, keys: Keys, journal: Journal, store: Store, stands: State, given: int, version: str,
+                 path: str) -> None:
         super().__init__(journal)
-        self.store, self.state, self.version = store, stands, version
-        self.head, self.versions, self.moves = stands.head, stands.versions, stands.head.moves
+        self.keys, self.store, self.state, self.version = keys, store, stands, version
+        self.path = os.path.realpath(path)
         begun = journal.begun()
-        assert begun is not None  # `bootstrap.joined` has kept it
-        self.applied, self.begun, self.begins = given, begun, begun.seq
+        assert begun is not None and begun.plan is not None  # `bootstrap.joined` has kept it
+        self.begun, self.begins, self.desk_id = begun, begun.seq, begun.plan
+        self.view = LogView(self.path, given, stands.head, stands.versions, version)
+        self.digests, self.is_stop_kept = Digests(begun.since, begun.stopped), bool(begun.stopped)
+        self.shared = SharedLog(begun.plan, self.view, keys, self.digests, self.own_digests)
+        self.shared.former = begun.former
         # batches are read whole: the first one may begin before the next entry
         self.read_behind = max(0, given - log.MOST_TOGETHER + 1)
-        self.has_news = given < stands.head.last
         self.heard = time.monotonic()
-        self.away = self.lost = self.full = ""
+        self.away = self.full = ""
         self.members: list[Member] = []
-        self.lease_id: str | None = None
-        self.lease_begun = 0.0
-        self.reported: tuple[Report, str] | None = None  # with its lease
-        self.path, self.desk_id = os.path.realpath(path), name_of(path)
+        self.reported: float | None = None  # when, by the monotonic clock
         self.tasks: list[asyncio.Task[None]] = []
         self.on_news: Callable[[], None] = lambda: None
-        self.known_chains: dict[int, str] = {}
+        self.on_stop: Callable[[str], None] = lambda why: None
+        self.answered: Callable[[], Mapping[int, str]] = dict
 
     @property
     def life(self) -> str:
@@ -65,39 +69,40 @@ class EtcdLog(log.Log):
 
     @property
     def given(self) -> int:
-        return self.applied
+        return self.view.given
 
     @property
     def trouble(self) -> str:
         silent = time.monotonic() - self.heard
         unheard = f"etcd hasn't answered for {silent:.0f} s" if silent > SILENT else ""
-        return self.lost or self.held or self.away or unheard or self.full or self.unwritten
+        return self.lost or self.view.held or self.divided or self.away or unheard or self.full or self.unwritten
 
     @property
-    def held(self) -> str:
-        """Why the desk waits, or nothing: another opcplan has to answer the next entry."""
-        theirs = version_at(self.versions, self.given + 1)
-        if theirs == self.version:
-            return ""
-        return (f"entries from {self.given + 1} on need {first_line(theirs)}, and this desk runs "
-                f"{first_line(self.version)}{different(theirs, self.version)}; start it again with the program that "
-                "they need")
+    def lost(self) -> str:
+        """Why nothing more of the log can be read, or nothing."""
+        return self.view.lost
+
+    @property
+    def head(self) -> Head:
+        """The last entry of the log, as far as the desk knows."""
+        return self.view.head
 
     def chain_at(self, position: int) -> str | None:
-        base = self.begins
-        begin = chain.chain_of(self.state.id, base) if base == self.state.base else self.begun.digest
-        return self.journal.digest_at(position, base, begin)
+        return self.journal.digest_at(position, self.begins, self.begun.digest)
 
-    def start(self, on_news: Callable[[], None], on_difference: Callable[[str], None]) -> None:
-        self.on_news = on_news
-        loops = self.watch(), self.poll(), self.look(), self.compare(on_difference)
-        self.tasks = [asyncio.create_task(one) for one in loops]
+    def start(self, on_news: Callable[[], None], on_stop: Callable[[str], None],
+              answered: Callable[[], Mapping[int, str]]) -> None:
+        self.on_news, self.on_stop, self.answered = on_news, on_stop, answered
+        if self.stopped:
+            on_stop(self.stopped)
+        self.tasks = [asyncio.create_task(one) for one in (self.watch(), self.poll(), self.look(), self.compare())]
 
     async def close(self) -> None:
         for task in self.tasks:
             task.cancel()
         await asyncio.gather(*self.tasks, return_exceptions=True)
-        with contextlib.suppress(EtcdUnreachable, EtcdError):
+        await self.keep_stop()  # where a request showed it, or a task ended before it was written
+        with contextlib.suppress(EtcdUnreachable, EtcdError, ValueError):
             await self.report()
         await super().close()
 
@@ -105,25 +110,20 @@ class EtcdLog(log.Log):
 
     async def append(self, batch: Sequence[entry.Wanted], replies: Sequence[JournalReply],
                      until: float) -> list[entry.Entry]:
-        if why := self.lost or self.held:
-            raise LogUnwritable(why)
         head = self.head
-        if self.has_news or head.last != self.given:
-            raise log.LogAdvanced
-        entries = entry.placed(batch, head.last)
+        try:
+            entries = self.shared.place(batch)
+        except DeskNotOn:
+            raise LogUnwritable(self.lost or self.view.held or self.divided or self.stopped) from None
         came = await self.appended(head, entries, until)
         if not came.is_done:
-            if came.used and came.head == head:
-                raise log.KeysInUse({place: known_entry(one, came.used[one.who, one.key])
-                                     for place, one in enumerate(batch)
-                                     if one.key is not None and (one.who, one.key) in came.used})
-            self.notice(came.head, self.given)
-            self.has_news = True
+            self.view.refused(came.head)
+            self.heard, self.away = time.monotonic(), ""
             raise log.LogAdvanced
         try:
             await self.keep(entries, replies)
         except LogUnwritable as why:
-            self.has_news = True
+            self.view.unkept()
             raise log.AppendUncertain(f"{why}; the statement is in the log, and is done once the journal can be "
                                       "written") from None
         self.notice(came.head)
@@ -135,8 +135,7 @@ class EtcdLog(log.Log):
         mark = secrets.token_hex(8)
         while True:
             try:
-                lease = await self.lease() if any(one.key is not None for one in entries) else None
-                came = await self.store.append(head, mark, entries, lease, until)
+                came = await self.store.append(head, mark, entries, until)
             except EtcdUnreachable as why:
                 self.away = str(why)
                 if time.monotonic() >= until:
@@ -144,9 +143,6 @@ class EtcdLog(log.Log):
                 await asyncio.sleep(REST)
                 continue
             except EtcdError as why:
-                if why.code == NOT_FOUND and self.lease_id is not None:
-                    self.lease_id = None
-                    continue
                 raise LogUnwritable(self.refused(why)) from None
             self.full = ""
             first = came.batches[0] if came.batches else None
@@ -161,84 +157,57 @@ class EtcdLog(log.Log):
             return self.full
         return f"etcd accepts no change: {why}"
 
-    async def lease(self) -> str:
-        """The lease for the keys that callers use now. Raises EtcdUnreachable and EtcdError."""
-        if self.lease_id is None or time.monotonic() > self.lease_begun + DAY:
-            begun = time.monotonic()
-            self.lease_id = await self.store.lease(LEASE)
-            self.lease_begun = begun
-        return self.lease_id
-
     async def keep(self, entries: Sequence[entry.Entry], replies: Sequence[JournalReply]) -> None:
         await super().keep(entries, replies)
         if entries:
-            self.applied = self.read_behind = entries[-1].seq
+            self.read_behind = entries[-1].seq
+            self.view.kept(entries[-1].seq)
 
     # Entries of others.
 
     async def others(self) -> list[entry.Entry]:
-        if not self.has_news or self.lost:
+        if not self.view.has_news or self.lost:
             return []
         least = self.given
         try:
             head, batches = await self.store.read(self.read_behind)
-            if head is not None and head.moves != self.moves:
-                self.versions, self.moves = await self.store.versions(), head.moves
+            if head is not None and head.moves != self.view.moves:
+                self.view.knows(await self.store.versions(), head.moves)
         except (EtcdUnreachable, EtcdError) as why:
             self.away = str(why)
             raise LogUnwritable(str(why)) from None
         except (KeyError, TypeError, ValueError) as error:
-            self.lost = (f"etcd has something below {self.store.root} that no desk writes: {error!r}; end the program "
-                         "that writes there, and start the desk again")
+            self.view.lost = (f"etcd has something below {self.store.root} that no desk writes: {error!r}; end the "
+                              "program that writes there, and start the desk again")
             raise LogUnwritable(self.lost) from None
-        self.notice(head, least)
-        found = [one for batch in batches for one in batch.entries if one.seq > self.given]
-        if head and head.last > self.given and (not found or found[0].seq != self.given + 1):
-            self.lost = (f"the log is trimmed beyond entry {self.given}, the last one of this plan. Take another "
-                         f"desk's plan: end this desk, move {self.path} away, and start it with --from "
-                         "http://OTHERDESK")
-            found = []
-        found = [one for one in found if version_at(self.versions, one.seq) == self.version]
-        if not found and head == self.head:
-            self.has_news = False
-        return found
+        self.heard, self.away = time.monotonic(), ""
+        return self.shared.read(head, [one for batch in batches for one in batch.entries], least)
 
     def notice(self, head: Head | None, least: int = 0) -> None:
         """Takes news of the head. The answer to a request that was made when the plan had entry `least` can't be
         less."""
         self.heard, self.away = time.monotonic(), ""
-        if head is None or head.last < least:
-            has = f"ends with entry {head.last}" if head else "is gone"
-            self.lost = (f"the log {has}, and this plan has entry {least}: etcd's data were changed or restored. End "
-                         "all desks of the plan; `./plan log --help` says how to begin a new log from a plan")
-        elif head > self.head or head.last > self.given:
-            self.head = max(head, self.head)
-            if self.head.last > self.given or self.head.moves != self.moves:
-                self.has_news = True
-                self.on_news()
+        if self.view.notice(head, least):
+            self.on_news()
 
     async def ask_last(self, until: float) -> int:
         least = self.given
         try:
-            self.notice(await self.store.head(until), least)
-        except (EtcdUnreachable, EtcdError) as why:
+            desks = await self.store.desks(until)
+            self.notice(desks.head, least)
+            self.judge(desks)
+            self.shared.check_level()
+        except DeskNotOn:
+            raise LogUnwritable(self.lost or self.view.held) from None
+        except (EtcdUnreachable, EtcdError, KeyError, TypeError, ValueError) as why:
             raise LogUnwritable(str(why)) from None
-        if self.lost or self.held and self.head.last > self.given:
-            raise LogUnwritable(self.lost or self.held)
         return self.head.last
 
-    async def used(self, wanted: Sequence[entry.Wanted]) -> dict[int, entry.Entry | None]:
-        keyed = {place: one.key for place, one in enumerate(wanted) if one.key is not None}
-        if not keyed or self.begins <= self.state.base:  # the journal has all keys
-            return {}
-        first = min(keyed)
-        try:
-            found = await self.store.keys(wanted[first].who, keyed[first].partition("#")[0])
-        except (EtcdUnreachable, EtcdError) as why:
-            raise LogUnwritable(str(why)) from None
-        if any(one.stream not in (None, wanted[first].stream) for one in found.values()):
-            return {first: None}
-        return {place: known_entry(wanted[place], found[key]) for place, key in keyed.items() if key in found}
+    def used(self, wanted: Sequence[entry.Wanted]) -> dict[int, entry.Entry | None]:
+        return self.keys.used(wanted)
+
+    def stream_of(self, who: str, key: str) -> str | None:
+        return self.keys.stream_of(who, key)
 
     # What runs in the background.
 
@@ -275,44 +244,96 @@ class EtcdLog(log.Log):
                 self.full = f"etcd has an alarm: {', '.join(named)}; `./plan log --trim` makes room" if named else ""
             await asyncio.sleep(LOOK)
 
-    async def compare(self, on_difference: Callable[[str], None]) -> None:
-        """Publishes this desk's position and digests, at once and then after some more entries or some time, and
-        compares the digests with those of others."""
+    async def compare(self) -> None:
+        """Reads what other desks publish, decides by it, and publishes this desk's position and digests: at once, and
+        then after some more entries or some time."""
         while True:
+            self.keys.forget(young_since(time.time()))
             with contextlib.suppress(EtcdUnreachable, EtcdError, KeyError, TypeError, ValueError):
+                self.judge(await self.store.desks())
+                await self.keep_stop()
                 await self.report()
-                desks = await self.store.desks()
-                self.known_chains = {report.answered: report.chain for report in desks.values()
-                                     if report.answered is not None and report.chain is not None}
-                others = {name: report.digests for name, report in desks.items() if name != self.desk_id}
-                if why := digests.difference(self.journal.digests(MOST_COMPARED, self.given), others):
-                    on_difference(f"{why}. {digests.WAY_OUT.format(self.path, self.desk_id)}")
-            until, last = time.monotonic() + LOOK, self.given
+            until, last, kind = time.monotonic() + LOOK, self.given, self.digests.verdict.kind
             await asyncio.sleep(REPORT)
-            while self.given < last + EVERY and time.monotonic() < until:
+            while self.given < last + EVERY and time.monotonic() < until and self.digests.verdict.kind == kind:
                 await asyncio.sleep(POLL)
 
-    def adopts(self) -> dict[int, str]:
-        return self.known_chains
+    def judge(self, desks: Desks) -> None:
+        """Decides by what desks publish whether this one is on. Raises ValueError."""
+        if self.shared.judge(desks.since(young_since(time.time()))):
+            self.on_stop(self.stopped)
+
+    def own_digests(self, needed: Collection[int]) -> dict[int, str]:
+        """This desk's last digests, and those at some entries, as far as it has them."""
+        found = self.journal.digests(digests.MOST, self.given) | self.journal.digests_at(needed)
+        own = {seq: digest for seq, digest in found.items() if self.begins < seq <= self.given}
+        begin = {} if self.begun.digest is None else {self.begins: self.begun.digest}
+        return digests.short(begin | own | dict(self.answered()))
+
+    @property
+    def stopped(self) -> str:
+        """Why the desk stopped permanently, or nothing."""
+        kind, entry, _, is_exact = self.digests.verdict
+        if kind != digests.STOPPED:
+            return ""
+        what = f"answered entry {entry}" if is_exact else f"had, by entry {entry}, answered"
+        return f"a majority of the desks {what} differently from this desk. {digests.WAY_OUT.format(self.path)}"
+
+    @property
+    def divided(self) -> str:
+        kind, entry, other, is_exact = self.digests.verdict
+        if kind != digests.HELD:
+            return ""
+        theirs = self.shared.desks.reports[other] if self.shared.desks is not None else Report(0)
+        own = self.reply_at(entry)
+        replies = f": `{theirs.reply}` there, and `{own}` here" if own and theirs.reply and theirs.held == entry else ""
+        what = f"answered entry {entry}" if is_exact else f"had, by entry {entry}, answered"
+        return (f"desk {other} {what} differently from this desk, {self.desk_id}{replies}; neither has a majority of "
+                f"the desks. {digests.WAY_ON.format(self.store.where)}")
+
+    def reply_at(self, seq: int) -> str:
+        """This desk's reply to an entry, or nothing if the journal doesn't have it."""
+        found = self.journal.entries(seq - 1, 1, seq)
+        return found[0].reply or "" if found else ""
+
+    async def check_answers(self, until: float, is_confirmed: bool) -> None:
+        while True:
+            try:
+                if self.shared.judge_again():
+                    self.on_stop(self.stopped)
+                if self.shared.may_answer(is_confirmed):
+                    return
+                if time.monotonic() > until:
+                    raise LogUnwritable("no majority of the desks has published the same answers yet; try again")
+                await asyncio.sleep(POLL)
+                self.judge(await self.store.desks(until))
+            except DeskNotOn:
+                raise LogUnwritable(self.divided or self.stopped) from None
+            except (EtcdUnreachable, EtcdError, KeyError, TypeError, ValueError) as why:
+                raise LogUnwritable(f"what the desks answered isn't known: {why}") from None
+
+    async def keep_stop(self) -> None:
+        """Has the journal keep that the desk stopped, so that it doesn't start again."""
+        if self.digests.verdict.kind == digests.STOPPED and not self.is_stop_kept:
+            with contextlib.suppress(LogUnwritable):
+                await self.written(self.journal.stop, self.digests.verdict.entry)
+                self.is_stop_kept = True
 
     async def report(self) -> None:
-        """Publishes in etcd this desk's position and digests, if they have changed. Raises EtcdUnreachable and
-        EtcdError."""
-        found = self.journal.digests(digests.MOST, self.given)
-        last = max(found, default=None)
-        current = Report(self.given, self.path, self.version)
-        if last is not None:
-            current = current._replace(answered=last, chain=found[last], digests=digests.short(found))
-        lease = await self.lease()
-        if (current, lease) == self.reported:
+        """Publishes in etcd this desk's position and digests, unless etcd has them. Raises EtcdUnreachable, EtcdError
+        and ValueError."""
+        said = self.shared.published()
+        kind, at, *_ = self.digests.verdict
+        held = at if kind == digests.HELD else 0
+        current = Report(self.given, self.path, self.version, "", {str(seq): one for seq, one in said.digests.items()},
+                         said.since, said.stopped, held, self.reply_at(held) if held else "")
+        now = time.monotonic()
+        if self.reported is not None and now < self.reported + DAY and self.shared.is_published(current):
             return
-        try:
-            await self.store.report(self.desk_id, current._replace(at=entry.moment_now()), lease)
-            self.reported = current, lease
-        except EtcdError as why:
-            if why.code != NOT_FOUND:
-                raise
-            self.lease_id = None  # the lease is gone; the next report takes a new one
+        await self.store.report(self.desk_id, current._replace(at=entry.moment_now()))
+        if self.begun.former is not None and self.reported is None:
+            await self.store.forget(self.begun.former)
+        self.reported = now
 
     def standing(self, position: int) -> dict[str, Any]:
         return {"log": str(self.store.where), "head": self.head.last, "behind": max(0, self.head.last - position),
@@ -333,17 +354,14 @@ class EtcdLog(log.Log):
                 "quota": min((one.quota for one in answer if one.quota), default=None)}
 
 
+def new_name() -> str:
+    """A new id for a plan, which begins with the name of this host."""
+    return f"{socket.gethostname()}-{secrets.token_hex(4)}"
+
+
 def name_of(path: str) -> str:
-    """The name of the desk over a plan on this machine, from the host, the machine id and the path."""
+    """The id that version 1.0 gave to a plan on this machine, from the host, the machine id and the path."""
     machine = b""
     with contextlib.suppress(OSError), open("/etc/machine-id", "rb") as file:
         machine = file.read()
     return f"{socket.gethostname()}-{hashlib.sha256(machine + os.path.realpath(path).encode()).hexdigest()[:8]}"
-
-
-def known_entry(wanted: entry.Wanted, holder: KeyHolder) -> entry.Entry | None:
-    """The Entry that has a key, by what etcd has of it, or None if it is another statement's."""
-    text = wanted.text(holder.job)
-    if text_sum(text) != holder.sum or holder.stream not in (None, wanted.stream):
-        return None
-    return entry.Entry(holder.seq, holder.at, wanted.who, wanted.key, holder.job, text, None, wanted.stream)

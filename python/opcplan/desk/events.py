@@ -7,13 +7,14 @@ from typing import TYPE_CHECKING
 
 from aiohttp import web
 
+from opcplan.desk import shares, turns
 from opcplan.plans.entry import Entry
 
 if TYPE_CHECKING:
     from opcplan.desk.core import Desk
 
-# entries that are sent together
-PAGE = 500
+# entries that are sent together first
+PAGE = 32
 # seconds without an event until the reader gets a comment, which shows that the desk is there
 QUIET = 15
 # the tag of no state: this desk lacks entries that the reader doesn't have, so the reader has to load all again
@@ -47,26 +48,32 @@ class Events:
             "X-Content-Type-Options": "nosniff", "X-Accel-Buffering": "no"})
         try:
             await response.prepare(request)
-            await self.follow(response, listener, since)
+            with self.desk.work(request["who"]) as work:
+                await self.follow(response, listener, since, work)
         except (ConnectionResetError, asyncio.CancelledError):
             pass  # the reader is gone
         finally:
             self.listeners.discard(listener)
         return response
 
-    async def follow(self, response: web.StreamResponse, listener: asyncio.Event, since: int | None) -> None:
+    async def follow(self, response: web.StreamResponse, listener: asyncio.Event, since: int | None,
+                     work: turns.Work) -> None:
         """Sends the entries after a position, and those that follow; and the state after each entry after which none
         waits."""
         last = self.desk.position if since is None else since
         if last < self.desk.log.begins:
             await response.write(self.state_text(ANEW))
-        is_reported = False
+        is_reported, count = False, PAGE
         while True:
             listener.clear()
-            found = self.desk.after(last, PAGE)
+            found = self.desk.after(last, count)
+            data = b"".join(map(entry_text, found))
+            work.is_long = len(found) == count  # there may be more, so the next ones need a turn
+            took = work.pause()
             if found:
                 last, is_reported = found[-1].seq, False
-                await response.write(b"".join(map(entry_text, found)))
+                count = shares.next_count(count, took) if work.is_long else PAGE
+                await response.write(data)
             elif not is_reported:
                 is_reported = True
                 await response.write(self.state_text())
@@ -74,6 +81,7 @@ class Events:
                 return
             else:
                 await self.wait(response, listener)
+            await work.resume()
 
     async def wait(self, response: web.StreamResponse, listener: asyncio.Event) -> None:
         """Waits for the next entry; after QUIET seconds sends a comment."""

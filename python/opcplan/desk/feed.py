@@ -10,6 +10,8 @@ from typing import TYPE_CHECKING
 from opcplan.desk import log
 from opcplan.desk.errors import StatementRejected, used_otherwise
 from opcplan.desk.planner import Submission
+from opcplan.desk.shares import Shares
+from opcplan.desk.turns import Turns
 from opcplan.errors import LogUnwritable
 from opcplan.plans.entry import Entry
 
@@ -23,29 +25,6 @@ BATCH_BYTES = 1 << 19
 PATIENCE = 10.0
 # seconds until the log is tried again
 REST = 0.1
-# changes go first for so many times as long as the last question or copy took, but for at most so many seconds
-SHARE, MOST_HELD = 3, 10.0
-
-
-class Turns:
-    """The turns of questions or copies. While changes are in progress, they have a quarter of the time."""
-
-    def __init__(self, feed: "Feed") -> None:
-        self.feed = feed
-        self.over = self.took = 0.0  # when the last turn was over, and how long it took
-
-    @contextlib.asynccontextmanager
-    async def next(self) -> AsyncIterator[None]:
-        """A context for a turn; before it, changes have three times as long as the last turn took."""
-        until = self.over + min(SHARE * self.took, MOST_HELD)
-        while self.feed.desk.is_busy and time.monotonic() < until and not self.feed.is_closing:
-            await asyncio.sleep(REST / 20)
-        begun = time.monotonic()
-        try:
-            yield
-        finally:
-            self.over = time.monotonic()
-            self.took = self.over - begun
 
 
 class Feed:
@@ -60,13 +39,13 @@ class Feed:
         self.wake, self.question_wake, self.hold = asyncio.Event(), asyncio.Event(), asyncio.Lock()
         self.is_closing: bool = False
         self.asking: list[Submission] = []  # the question that opcplan is answering
-        self.turns, self.copies = Turns(self), Turns(self)  # of questions, and of copies of the plan
-        self.copying = asyncio.Lock()
+        self.turns = Shares()  # of questions
+        self.copies = Turns(self.is_busy)  # of the plan
         self.pumps: list[asyncio.Task[None]] = []
 
     def start(self) -> None:
         """Starts the loops."""
-        self.log.start(self.wake.set, self.desk.planner.halt)
+        self.log.start(self.wake.set, self.desk.planner.halt, self.desk.state.answered)
         self.pumps = [asyncio.create_task(one) for one in (self.pump(), self.pump_questions())]
 
     async def close(self) -> None:
@@ -116,18 +95,38 @@ class Feed:
     async def pump_questions(self) -> None:
         """Empties the queue of questions, until the desk closes."""
         while not self.is_closing or self.questions:
-            if self.questions:
-                async with self.turns.next():
-                    if self.questions:
-                        await self.answered(self.questions.popleft())
-            else:
+            if not self.questions:
                 self.question_wake.clear()
                 await self.question_wake.wait()
+                continue
+            place = self.turns.choose([ask.who for ask in self.questions], time.monotonic(), self.is_busy())
+            if place is None:
+                await asyncio.sleep(REST / 20)
+                continue
+            ask, begun = self.questions[place], time.monotonic()
+            del self.questions[place]
+            await self.answered(ask)
+            self.note_question(ask.who, begun)
+
+    def note_question(self, who: str, begun: float) -> None:
+        """Notes that a caller's question, which opcplan got at a time, is answered."""
+        now = time.monotonic()
+        self.turns.over(who, now - begun, now)
+
+    async def wait_for_question(self, who: str) -> None:
+        """Waits until a caller may ask a question that comes after its changes."""
+        while self.turns.choose([who], time.monotonic(), self.is_busy()) is None:
+            await asyncio.sleep(REST / 20)
+
+    def is_busy(self) -> bool:
+        """Whether changes are in progress, and go first."""
+        return self.desk.is_busy and not self.is_closing
 
     @contextlib.asynccontextmanager
-    async def at_rest(self) -> AsyncIterator[None]:
-        """A context in which no statement is in flight, or the planner is stopped. There is one at a time."""
-        async with self.copying, self.copies.next(), self.hold:
+    async def at_rest(self, who: str = "") -> AsyncIterator[None]:
+        """A context for a caller in which no statement is in flight, or the planner is stopped. There is one at a
+        time."""
+        async with self.copies.turn(who), self.hold:
             await self.desk.planner.idle_or_stopped()
             yield
 
@@ -142,10 +141,9 @@ class Feed:
 
     async def give(self, asks: Sequence[Submission]) -> None:
         """Sends the planner statements."""
-        for ask in asks:
-            await self.desk.planner.room.wait()
-            async with self.hold:
-                await self.desk.planner.give(ask)
+        await self.desk.planner.room.wait()
+        async with self.hold:
+            await self.desk.planner.give(asks)
 
     async def take_others(self) -> bool:
         """Sends the planner what other desks appended; whether it got all."""
@@ -180,7 +178,7 @@ class Feed:
             if await self.log.ask_last(time.monotonic() + PATIENCE) != self.log.given:
                 return []  # what others appended comes first
             await self.desk.planner.idle_or_stopped()
-            if not (self.desk.state.is_state(ask.asked_tag) or await self.is_done(ask)):
+            if not (self.desk.state.is_state(ask.asked_tag) or self.is_done(ask)):
                 why = StatementRejected(412, "the plan is no longer in the state that If-Match names; nothing was done")
         except LogUnwritable as error:
             why = StatementRejected(503, f"{error}; nothing was done")
@@ -191,12 +189,12 @@ class Feed:
             self.drop_all([ask], why)
         return [] if why is not None else [ask]
 
-    async def is_done(self, ask: Submission) -> bool:
-        """Whether a change is in the log under its key, and gets its old answer. Raises LogUnwritable."""
-        if ask.is_again or ask.wanted is None or ask.wanted.key is None:
+    def is_done(self, ask: Submission) -> bool:
+        """Whether a change is in the log under its key, and gets its old answer."""
+        if ask.is_again or ask.wanted is None:
             return ask.is_again
-        known = self.known_since(ask) or (await self.log.used([ask.wanted])).get(0)
-        if known is None or known.text != ask.wanted.text(known.job):
+        known = self.log.used([ask.wanted]).get(0)
+        if known is None:
             return False
         ask.stands_for(known)
         return True
@@ -206,22 +204,19 @@ class Feed:
         changes = [ask for ask in batch if ask.is_change]
         if not changes:
             return True
-        if self.log.is_shared and (used := [place for place, ask in enumerate(changes) if self.is_used(ask)]):
-            await self.not_entered(batch, changes, log.KeysInUse(dict.fromkeys(used)))
-            return False
         replies = self.desk.state.unkept()
         try:
             entries = await self.log.append([ask.wanted for ask in changes if ask.wanted is not None],
                                             self.desk.replies_of(replies), time.monotonic() + PATIENCE)
         except (LogUnwritable, log.LogAdvanced, log.KeysInUse) as why:
-            await self.not_entered(batch, changes, why)
+            self.not_entered(batch, changes, why)
             return False
         self.desk.state.keeps(replies)
         for ask, one in zip(changes, entries):
             ask.text, ask.entry = one.text, one
         return True
 
-    async def not_entered(self, batch: Sequence[Submission], changes: Sequence[Submission], why: Exception) -> None:
+    def not_entered(self, batch: Sequence[Submission], changes: Sequence[Submission], why: Exception) -> None:
         """Puts the statements of a batch back into the queue, or rejects them; none of them is in the log."""
         if isinstance(why, log.AppendUncertain):
             self.drop_all(batch, StatementRejected(503, str(why)))
@@ -231,36 +226,17 @@ class Feed:
             self.drop_all(batch, StatementRejected(503, f"{why}; nothing was done"))
             return
         found: Mapping[int, Entry | None] = why.found if isinstance(why, log.KeysInUse) else {}
-        if isinstance(why, log.LogAdvanced):
-            await self.take_others()
-            found = {place: known for place, ask in enumerate(changes) if (known := self.known_since(ask)) is not None}
         self.queue.extendleft(reversed(batch))
         for place, one in found.items():
             ask = changes[place]
             if ask not in self.queue:
                 continue  # it was rejected with one of its stream
-            assert ask.wanted is not None
-            if one is None or one.text != ask.wanted.text(one.job):
+            if one is None:
+                assert ask.wanted is not None
                 self.queue.remove(ask)
                 self.drop_all([ask], used_otherwise(ask.wanted.key))
             else:
                 ask.stands_for(one)
-
-    def is_used(self, ask: Submission) -> bool:
-        """Whether the key of a change belongs to another stream by now, from another desk."""
-        wanted = ask.wanted
-        if wanted is None or wanted.key is None or wanted.stream is None:
-            return False
-        return self.log.stream_of(wanted.who, wanted.key.partition("#")[0]) not in (None, wanted.stream)
-
-    def known_since(self, ask: Submission) -> Entry | None:
-        """The Entry that has the key of a change by now, from another desk, or None."""
-        if ask.wanted is None or ask.wanted.key is None:
-            return None
-        other = self.desk.state.known(ask.wanted.who, ask.wanted.key)
-        if other is not None and other is not ask and other.entry is not None:
-            return other.entry
-        return self.log.find(ask.wanted.who, ask.wanted.key)
 
     # Rejections.
 

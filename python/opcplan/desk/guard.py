@@ -41,11 +41,12 @@ class Bearer(NamedTuple):
 
 
 class Caller(NamedTuple):
-    """Who sent a request, with which role, and whether it may come from a browser's page."""
+    """Who sent a request, with which role, whether it may come from a browser's page, and whether it lacks a token."""
 
     who: str
     role: int
     is_page: bool
+    lacks_token: bool = False
 
 
 class Session(NamedTuple):
@@ -131,6 +132,7 @@ class Guard:
         self.tokens = Listed(given.tokens, "SHA256 USER ROLE", token_line) if given.tokens else None
         self.proxy = proxy_of(given.proxy)
         self.hosts = {host.lower() for host in given.hosts}
+        self.cookie, self.names = cookie_of(given.plan), peers.Names()
         self.sessions: dict[str, Session] = {}  # by cookie
         self.users_of: weakref.WeakKeyDictionary[asyncio.BaseTransport, int | None] = weakref.WeakKeyDictionary()
         self.lesser: dict[routes.Route, Handler] = {}  # the handlers for callers who lack the role of a route
@@ -143,19 +145,29 @@ class Guard:
 
     @web.middleware
     async def middleware(self, request: web.Request, handler: Handler) -> web.StreamResponse:
-        """Authenticates the caller and checks the role of the route, for every route."""
+        """Authenticates the caller and checks the role of the route, for every route. Each answer, a refusal too, has
+        the same headers for safety."""
+        try:
+            response = await self.answered(request, handler)
+        except web.HTTPException as refusal:
+            mark_safe(refusal)
+            raise
+        if not response.prepared:
+            mark_safe(response)
+        return response
+
+    async def answered(self, request: web.Request, handler: Handler) -> web.StreamResponse:
+        """The answer to a request whose caller has the role of the route. Raises HTTPForbidden and HTTPUnauthorized."""
         caller = self.caller_of(request)
         request["who"], request["role"] = caller.who, caller.role
         route = routes.of_request(request)
         if route is not None and request["role"] < route.role:
+            if route not in self.lesser and caller.lacks_token:
+                raise no_token()
             if route not in self.lesser:
                 needed(request, route.role, route.role.name.lower())
             handler = self.lesser[route]
-        response = await handler(request)
-        if not response.prepared:
-            response.headers.setdefault("Cache-Control", "no-store")
-            response.headers.setdefault("X-Content-Type-Options", "nosniff")
-        return response
+        return await handler(request)
 
     def caller_of(self, request: web.Request) -> Caller:
         """Who sent a request. Raises HTTPForbidden and HTTPUnauthorized."""
@@ -184,7 +196,7 @@ class Guard:
     def by_socket(self, request: web.Request, peer: socket.socket) -> Caller:
         """Who sent a request to the socket. Raises HTTPUnauthorized."""
         uid = peers.of_socket(peer)
-        who = peers.name_of(uid)
+        who = self.names.of(uid)
         if self.proxy.user is not None and who == self.proxy.user:
             name = request.headers.get(LOGIN_HEADER, "")
             if not re.fullmatch(r"[!-~]{1,100}", name) or name == EVERYONE:
@@ -210,9 +222,9 @@ class Guard:
             return Caller(user.who, self.role_of(user.who, user.role), True)
         found = self.of_token(request) or self.of_session(request)
         if found is None and is_open(request):
-            return Caller(NOBODY, 0, True)
+            return Caller(NOBODY, 0, True, True)
         if found is None:
-            raise web.HTTPUnauthorized(text=NO_TOKEN, headers={"WWW-Authenticate": "Bearer"})
+            raise no_token()
         return Caller(found.who, found.role, True)
 
     def meet(self, transport: asyncio.BaseTransport) -> None:
@@ -229,7 +241,7 @@ class Guard:
         if uid is None:
             raise web.HTTPForbidden(text="this machine doesn't say whose connection this is; start the desk with "
                                      "--tokens\n")
-        return Bearer(peers.name_of(uid), PLAN if peers.is_own(uid) else 0)
+        return Bearer(self.names.of(uid), PLAN if peers.is_own(uid) else 0)
 
     def of_token(self, request: web.Request) -> Bearer | None:
         """The bearer of a request's token, or None."""
@@ -247,7 +259,7 @@ class Guard:
 
     def of_session(self, request: web.Request) -> Bearer | None:
         """The bearer of a request's cookie, while its token is listed, or None."""
-        session = self.sessions.get(request.cookies.get(COOKIE, ""))
+        session = self.sessions.get(request.cookies.get(self.cookie, ""))
         if self.tokens is None or session is None or time.monotonic() >= session.until:
             return None
         return self.tokens.now().get(session.digest)
@@ -255,7 +267,7 @@ class Guard:
     async def begin_session(self, request: web.Request) -> web.StreamResponse:
         """POST /session: a cookie in place of the token, for pages."""
         if self.tokens is None or self.of_token(request) is None:
-            raise web.HTTPUnauthorized(text=NO_TOKEN)
+            raise no_token()
         token = request.headers["Authorization"].partition(" ")[2].strip()
         now, name = time.monotonic(), secrets.token_urlsafe(32)
         self.sessions = {one: held for one, held in self.sessions.items() if held.until > now}
@@ -265,15 +277,33 @@ class Guard:
         self.sessions[name] = Session(digest, now + SESSION_SECONDS)
         response = web.json_response({"who": request["who"], "role": role_name(request["role"])})
         is_secure = request.headers.get("X-Forwarded-Proto") == "https"
-        response.set_cookie(COOKIE, name, max_age=SESSION_SECONDS, httponly=True, samesite="Strict", secure=is_secure)
+        response.set_cookie(self.cookie, name, max_age=SESSION_SECONDS, httponly=True, samesite="Strict",
+                            secure=is_secure)
         return response
 
     async def end_session(self, request: web.Request) -> web.StreamResponse:
         """DELETE /session: the cookie is no longer valid."""
-        self.sessions.pop(request.cookies.get(COOKIE, ""), None)
+        self.sessions.pop(request.cookies.get(self.cookie, ""), None)
         response = web.Response(status=204)
-        response.del_cookie(COOKIE)
+        response.del_cookie(self.cookie)
         return response
+
+
+def cookie_of(plan: str) -> str:
+    """The name of the cookie of a plan's desk. A browser gives each desk on a host all cookies of the host, whatever
+    their ports are, so each has a name of its own."""
+    return f"{COOKIE}-{hashlib.sha256(os.path.realpath(plan).encode()).hexdigest()[:8]}"
+
+
+def mark_safe(response: web.StreamResponse) -> None:
+    """Gives an answer the headers that keep it out of caches and browsers from guessing its kind."""
+    response.headers.setdefault("Cache-Control", "no-store")
+    response.headers.setdefault("X-Content-Type-Options", "nosniff")
+
+
+def no_token() -> web.HTTPUnauthorized:
+    """The answer to a request that needs a token and has none that is known."""
+    return web.HTTPUnauthorized(text=NO_TOKEN, headers={"WWW-Authenticate": "Bearer"})
 
 
 def is_open(request: web.Request) -> bool:

@@ -65,22 +65,22 @@ class Lists:
         async with lock:
             made = self.made.get(selection)
             if made is None:
-                made = self.begin(selection)
+                made = self.begin(selection, who)
             return await asyncio.shield(made.shown)
 
-    def begin(self, selection: rows.Selection) -> CachedList:
-        """Begins to make a list. Raises StatementRejected."""
+    def begin(self, selection: rows.Selection, who: str) -> CachedList:
+        """Begins to make a list for a caller. Raises StatementRejected."""
         self.drop_oldest()
-        ask = self.ask(selection.text)
+        ask = self.ask(selection.text, who)
         made = self.made[selection] = CachedList(ask, asyncio.create_task(shown_of(ask, selection)))
         made.shown.add_done_callback(lambda done: self.settle(selection, made))
         return made
 
-    def ask(self, text: bytes) -> "Submission":
-        """The Submission of a statement that shows a list. Raises StatementRejected."""
+    def ask(self, text: bytes, who: str) -> "Submission":
+        """The Submission of a caller's statement that shows a list. Raises StatementRejected."""
         ask = self.asks.get(text)
         if ask is None:
-            ask = self.asks[text] = self.desk.ask_question("list", text)
+            ask = self.asks[text] = self.desk.ask_question("list", text, who)
         return ask
 
     def settle(self, selection: rows.Selection, made: CachedList) -> None:

@@ -80,13 +80,14 @@ class Log(abc.ABC):
         """The number of the last entry. Raises LogUnwritable."""
 
     @abc.abstractmethod
-    async def used(self, wanted: Sequence[Wanted]) -> dict[int, Entry | None]:
-        """What has the keys of a stream's changes already, as in KeysInUse, as far as the journal doesn't know it.
-        Raises LogUnwritable."""
+    def used(self, wanted: Sequence[Wanted]) -> dict[int, Entry | None]:
+        """What has the keys of changes already, as in KeysInUse."""
 
-    def start(self, on_news: Callable[[], None], on_difference: Callable[[str], None]) -> None:
-        """Begins to follow what other desks append. Calls `on_news` when they did, and `on_difference` with a sentence
-        if another desk answered an entry differently."""
+    def start(self, on_news: Callable[[], None], on_stop: Callable[[str], None],
+              answered: Callable[[], Mapping[int, str]]) -> None:
+        """Begins to follow what other desks append. Calls `on_news` when they did, and `on_stop` with a sentence if a
+        majority of the desks answered an entry differently. `answered` returns digests by the numbers of entries, those
+        that the journal may lack."""
 
     def standing(self, position: int) -> dict[str, Any]:
         """The state of the log for /health, by name, for a plan at a position."""
@@ -96,9 +97,14 @@ class Log(abc.ABC):
         """The numbers of `standing` for /metrics, by name."""
         return {}
 
-    def adopts(self) -> dict[int, str]:
-        """The digests of other desks by entry number, for a desk that doesn't know its own."""
-        return {}
+    @property
+    def divided(self) -> str:
+        """Why the desk is held, or nothing: desks answered an entry differently, and no majority did it alike."""
+        return ""
+
+    async def check_answers(self, until: float, is_confirmed: bool) -> None:
+        """Compares what the desk answered with what others had published when `ask_last` was called. If the answers
+        have to be confirmed, waits until a majority of the desks has published the same. Raises LogUnwritable."""
 
     async def close(self) -> None:
         """Writes all to the disk, and closes the journal."""

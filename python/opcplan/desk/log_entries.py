@@ -9,6 +9,16 @@ from typing import Any, NamedTuple
 from opcplan.plans import entry
 
 
+class Head(NamedTuple):
+    """The last entry of a log, and how often its version was moved."""
+
+    last: int
+    moves: int
+
+    def __str__(self) -> str:
+        return f"{self.last} {self.moves}"
+
+
 class Batch(NamedTuple):
     """Entries that were appended together, and the mark of that append."""
 
@@ -22,19 +32,14 @@ class Batch(NamedTuple):
 
 
 class KeyHolder(NamedTuple):
-    """The entry that has a caller's key, as etcd has it: its number, job, time, the SHA-256 of its text, and the digest
-    of the stream, if there is one."""
+    """The entry that has a caller's key: its number, job, time, and the digest of its stream, or, if it has none, the
+    SHA-256 of its text."""
 
     seq: int
     job: int
     at: str
     sum: str
     stream: str | None = None
-
-    @property
-    def text(self) -> str:
-        """Its text in etcd."""
-        return json.dumps({name: value for name, value in self._asdict().items() if value is not None})
 
 
 def in_base64(text: str | bytes) -> str:
@@ -81,18 +86,18 @@ def batch_of(kv: Mapping[str, str]) -> Batch:
     first = number_of(kv)
     fields: dict[str, Any] = json.loads(of_base64(kv["value"]))
     return Batch(fields["mark"], [
-        entry.Entry(first + place, one["at"], one["who"], one["key"], one["job"],
+        entry.Entry(first + place, one["at"], one["who"], one.get("key"), one["job"],
                     one["text"].encode() if "text" in one else base64.b64decode(one["base64"]), None, one.get("stream"))
         for place, one in enumerate(fields["batch"])])
 
 
 def holder_of(one: entry.Entry) -> KeyHolder:
     """The KeyHolder of an entry."""
-    return KeyHolder(one.seq, one.job, one.at, text_sum(one.text), one.stream)
+    return KeyHolder(one.seq, one.job, one.at, text_sum(one.text) if one.stream is None else "", one.stream)
 
 
 def holder_in(text: bytes) -> KeyHolder:
-    """The KeyHolder of a text in etcd. Raises ValueError and TypeError."""
+    """The KeyHolder of a text that a desk of version 1.0 put into etcd. Raises ValueError and TypeError."""
     found = json.loads(text)
     return KeyHolder(**{name: found[name] for name in KeyHolder._fields if name in found})
 

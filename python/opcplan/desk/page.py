@@ -15,6 +15,7 @@ from aiohttp import web
 
 from opcplan.desk import guard, live_parts, rows, snapshot
 from opcplan.desk.held_files import FileReplaced
+from opcplan.desk.turns import Turns
 from opcplan.errors import Unreadable
 from opcplan.plans import tempfiles
 from opcplan.plans.program import PYTHON
@@ -25,8 +26,9 @@ if TYPE_CHECKING:
     from opcplan.desk.core import Desk
 
 PROCESS = [sys.executable, "-E", "-B", "-m", "opcplan.desk.page_process"]
-# by statement on a status: the statuses that it accepts, whether it changes nothing else, and the status after it
-ACTS = {act.word: {"from": act.before, "alone": not act.may_change_pairs, "done": act.done}
+# by statement on a status: the statuses that it accepts, whether it changes nothing else, whether it can't be undone,
+# and what a page says of a row once it is done
+ACTS = {act.word: {"from": act.before, "alone": not act.may_change_pairs, "final": act.is_final, "done": act.done}
         for act in statements.ACTS.values()}
 REPLY = f"^{statements.CHANGED}$"
 # seconds for which a page is sent again while the plan doesn't change: the days that it shows go by the clock
@@ -39,7 +41,7 @@ class Page:
 
     def __init__(self, desk: "Desk", path: str, has_tokens: bool) -> None:
         self.desk, self.path, self.has_tokens = desk, path, has_tokens
-        self.making = asyncio.Lock()
+        self.making = Turns(lambda: False)  # whoever waited for fewer pages goes first
         self.made: CachedPage | None = None
 
     async def sign_in(self, request: web.Request) -> web.StreamResponse:
@@ -51,7 +53,7 @@ class Page:
 
     async def whole(self, request: web.Request) -> web.StreamResponse:
         """GET /: the page."""
-        made = await self.page(moment_asked(request), await self.least(request))
+        made = await self.page(request["who"], moment_asked(request), await self.least(request))
         parts = made.parts
         text = b"".join([parts.begin, parts.data, END_OF_DATA, self.own(request, made), parts.end])
         return answer(text, "text/html", live_parts.policy(live_parts.STYLES, live_parts.SCRIPTS), made.heads())
@@ -61,14 +63,15 @@ class Page:
         since = request.query.get("since", "0")
         if not since.isascii() or not since.isdigit() or len(since) > 15:
             raise web.HTTPBadRequest(text="`since` must be the number of an entry\n")
-        made = await self.page(moment_asked(request), max(int(since), await self.least(request)))
+        made = await self.page(request["who"], moment_asked(request), max(int(since), await self.least(request)))
         text = b"".join([b'{"plan":', made.parts.data, b',"desk":', self.own(request, made), b"}"])
         return answer(text, "application/json", None, made.heads())
 
     async def least(self, request: web.Request) -> int:
-        """The last entry of the log if the request has `fresh=1`, else 0. Raises HTTPBadRequest."""
+        """The last entry of the log if the request has `fresh=1` or `fresh=2`, else 0. Raises HTTPBadRequest."""
         try:
-            return await self.desk.catch_up() if rows.is_fresh(request.query) else 0
+            fresh = rows.freshness(request.query)
+            return await self.desk.catch_up(fresh == 2) if fresh else 0
         except rows.InvalidSelection as why:
             raise web.HTTPBadRequest(text=f"{why}\n") from None
 
@@ -78,17 +81,18 @@ class Page:
         return page_html.data_text({
             "who": request["who"], "role": guard.role_name(request["role"]), "tag": made.tag,
             "position": made.position, "clock": minutes_now(), "zone": round(minutes_now() - time.time() / 60),
-            "stands": made.parts.stands == b"1", "signs": self.has_tokens and guard.COOKIE in request.cookies,
+            "stands": made.parts.stands == b"1",
+            "signs": self.has_tokens and guard.cookie_of(self.path) in request.cookies,
             "acts": ACTS, "reply": REPLY,
         }).encode()
 
-    async def page(self, now: int | None, since: int = 0) -> "CachedPage":
-        """The page of the plan as it is now, perhaps made earlier if nothing has changed since."""
+    async def page(self, who: str, now: int | None, since: int = 0) -> "CachedPage":
+        """The page of the plan as it is now, for a caller, perhaps made earlier if nothing has changed since."""
         begun = time.monotonic()
-        async with self.making:
+        async with self.making.turn(who):
             made = self.made
             if made is None or made.now != now or not self.is_fresh(made, begun, since):
-                self.made = made = await self.make(now)
+                self.made = made = await self.make(who, now)
         return made
 
     def is_fresh(self, made: "CachedPage", begun: float, since: int) -> bool:
@@ -98,12 +102,12 @@ class Page:
         is_last = made.position >= since if since else made.tag == self.desk.tag()
         return is_last and made.begun > begun - LONGEST
 
-    async def make(self, now: int | None) -> "CachedPage":
-        """Makes the page from a copy of the plan. Raises HTTPServiceUnavailable."""
+    async def make(self, who: str, now: int | None) -> "CachedPage":
+        """Makes the page for a caller from a copy of the plan. Raises HTTPServiceUnavailable."""
         with tempfiles.folder("desk-") as folder:
             copy, begun = os.path.join(folder, "plan.db"), time.monotonic()
             try:
-                stands = await snapshot.copied(self.desk, self.path, copy)
+                stands = await snapshot.copied(self.desk, self.path, copy, who)
             except (OSError, Unreadable, FileReplaced) as error:
                 raise web.HTTPServiceUnavailable(text=f"the desk can't copy the plan: {error}\n") from None
             name = os.path.basename(os.path.realpath(self.path))

@@ -5,20 +5,23 @@ keeps its moment, else 0; then the page up to the plan's data, the data, and the
 them."""
 
 import gc
+import os
 import sys
 
 from opcplan.desk import live_parts
 from opcplan.errors import Unreadable
 from opcplan.webpage import page_data, page_html
 
+NICE = 5  # the desk and opcplan go first if processors are short
 OUTSIDE = "This machine's clock is outside this plan, so the page shows the end of the current plan."
 
 
 def main(copy: str, name: str, moment: str) -> int:
     """Prints the parts of the page; the exit status."""
+    os.nice(NICE)
     gc.disable()
     try:
-        data = page_data.data_of(copy, None if moment == "-" else int(moment))
+        data = page_data.data_of(copy, None if moment == "-" else int(moment), has_needs=False)
     except Unreadable as error:
         print(error, file=sys.stderr)
         return 1

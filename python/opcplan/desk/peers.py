@@ -4,9 +4,12 @@ import os
 import pwd
 import socket
 import struct
+import time
 
 TABLES = {socket.AF_INET: "/proc/net/tcp", socket.AF_INET6: "/proc/net/tcp6"}
 ESTABLISHED = "01"
+# seconds for which a user's name is remembered: the system reads it from a file each time
+REMEMBERED = 5.0
 
 
 def of_socket(peer: socket.socket) -> int:
@@ -36,8 +39,27 @@ def spelled(family: int, address: tuple[str, int]) -> str:
     return "".join(f"{number:08X}" for number in numbers) + f":{address[1]:04X}"
 
 
-def name_of(uid: int) -> str:
-    """The name of a user, or `uid:N` if the user has none."""
+class Names:
+    """The names of users, each as it was at most REMEMBERED seconds ago."""
+
+    def __init__(self) -> None:
+        self.known: dict[int, str] = {}
+        self.until = 0.0
+
+    def of(self, uid: int) -> str:
+        """The name of a user, or `uid:N` if the user has none."""
+        now = time.monotonic()
+        if now >= self.until:
+            self.known.clear()
+            self.until = now + REMEMBERED
+        name = self.known.get(uid)
+        if name is None:
+            name = self.known[uid] = looked_up(uid)
+        return name
+
+
+def looked_up(uid: int) -> str:
+    """What the system says of the name of a user, or `uid:N`."""
     try:
         return pwd.getpwuid(uid).pw_name
     except KeyError:

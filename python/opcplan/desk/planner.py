@@ -16,7 +16,9 @@ from typing import NamedTuple, TYPE_CHECKING, TypeVar
 
 from opcplan.desk import state
 from opcplan.desk.held_files import HeldFiles
+from opcplan.desk.sound_states import SoundStates
 from opcplan.errors import Error
+from opcplan.plans import successions, tempfiles
 from opcplan.plans.entry import Entry, Wanted
 
 if TYPE_CHECKING:
@@ -40,6 +42,8 @@ PATIENCE = 20.0
 LONGEST_END = 60.0
 # seconds for which opcplan may print nothing while an answer is due, unless --limit says otherwise
 LIMIT = 60.0
+# seconds between two looks whether the plan is in a state that is kept as sound
+NOTE_REST = 0.25
 
 
 class PlannerStopped(Error):
@@ -65,6 +69,7 @@ class Submission:
 
     def __init__(self, name: str | None, text: bytes | None = None, wanted: Wanted | None = None) -> None:
         self.name, self.text, self.wanted = name, text, wanted  # no name if another desk got it
+        self.who = ""  # of a question: who asks it
         self.entry: Entry | None = None
         self.is_again = False  # its entry was answered before, at this desk or another one
         # the tag of the state that it needs, or the change of its stream after which the plan must be unchanged
@@ -80,6 +85,13 @@ class Submission:
         self.wrong: str | None = None  # why its rows are missing
         self.waiting: list[asyncio.Future["Submission"]] = []
 
+    @classmethod
+    def of_answered(cls, one: Entry, tag: str) -> "Submission":
+        """The Submission of an answered Entry, with the tag of the state after it."""
+        found = cls("", one.text)
+        found.entry, found.reply, found.tag, found.position = one, one.reply, tag, one.seq
+        return found
+
     @property
     def line(self) -> bytes:
         """The line of its reply."""
@@ -93,8 +105,12 @@ class Submission:
 
     @property
     def asked_tag(self) -> str:
-        """The tag of the state that it needs; empty if that isn't known."""
-        return (self.condition.tag if isinstance(self.condition, Submission) else self.condition) or ""
+        """The tag of the state that it needs; empty if that isn't known. A change that was done before leaves the
+        condition to the ones after it."""
+        found = self.condition
+        while isinstance(found, Submission) and found.is_again:
+            found = found.condition
+        return (found.tag if isinstance(found, Submission) else found) or ""
 
     @property
     def size(self) -> int:
@@ -177,6 +193,7 @@ class Planner:
                  why_not: Callable[[], str], limit: float = LIMIT) -> None:
         self.words = [program, "--db", files.plan]
         self.files, self.state, self.limit = files, the_state, limit
+        self.sound, self.answers, self.status = SoundStates(program, files.plan), 0, -1
         self.on_answer, self.on_stop, self.why_not = on_answer, on_stop, why_not
         self.heard, self.kills = time.monotonic(), 0  # when it last printed something, and how often it was killed
         self.halted = ""  # why it isn't run again
@@ -283,6 +300,15 @@ class Planner:
                     process.kill()
                 return
 
+    async def note_states(self) -> None:
+        """Keeps the states between statements as sound, as long as one process of opcplan goes on."""
+        noted = -1
+        while not self.closing.is_set():
+            await asyncio.sleep(NOTE_REST if self.sound.is_kept else 4 * NOTE_REST)
+            if self.is_open and self.state.is_idle and (noted != self.answers or not self.sound.is_kept):
+                noted = self.answers
+                await asyncio.to_thread(self.sound.note)
+
     async def life(self) -> bool:
         """Runs one process of opcplan; whether it opened the plan. Raises InvariantBroken."""
         self.files.forget_log()
@@ -290,6 +316,7 @@ class Planner:
             self.why = why
             return False
         self.files.forget_log()
+        self.sound.begins()
         try:
             self.process = process = await asyncio.create_subprocess_exec(
                 *self.words, stdin=asyncio.subprocess.PIPE, stdout=asyncio.subprocess.PIPE,
@@ -301,15 +328,16 @@ class Planner:
         if self.closing.is_set():
             piped(process.stdin).close()
         errors, self.heard = asyncio.create_task(piped(process.stderr).read()), time.monotonic()
-        watch = asyncio.create_task(self.watch(process))
+        tasks = [asyncio.create_task(self.watch(process)), asyncio.create_task(self.note_states())]
         try:
             talk = await self.talk(process)
         finally:
-            watch.cancel()
+            for task in tasks:
+                task.cancel()
             self.files.forget_log()
             self.is_open, self.open_since = False, None
         self.state.ended()
-        status = await ended(process)
+        self.status = status = await ended(process)
         self.said = (await errors).decode("utf-8", "replace").strip().split("\n")[0].removeprefix("opcplan: ")
         self.why = self.said or talk.fault or f"opcplan ended with status {status}"
         return talk.opened
@@ -338,6 +366,7 @@ class Planner:
     def opened(self) -> None:
         """Sends the statements without a reply again, in their order."""
         self.is_open, self.open_since = True, time.time()
+        self.sound.opened()
         if self.state.is_idle:
             self.stopped = ""
         commands = self.state.opened()
@@ -347,24 +376,28 @@ class Planner:
 
     def do(self, commands: Sequence[state.Send[Submission] | state.Answer[Submission]]) -> None:
         """Executes the commands of the state."""
+        texts = []
         for one in commands:
             if isinstance(one, state.Send):
                 if len(self.state.flight) == 1:
                     self.heard = time.monotonic()
                 one.item.forget_rows()
-                self.write(one.item)
+                assert one.item.text is not None
+                texts.append(one.item.text)
             else:
-                self.stopped = ""
+                self.stopped, self.answers = "", self.answers + 1
                 self.on_answer(one)
+        if texts:
+            self.write(texts)
         if self.is_open and self.state.flight:
             self.state.flight[0].tries = max(self.state.flight[0].tries, 1)
         self.count_flight()
 
-    def write(self, item: Submission) -> None:
-        """Sends opcplan the text of a statement. If it has ended, the next process gets the statement."""
-        assert item.text is not None and self.process is not None
+    def write(self, texts: Sequence[bytes]) -> None:
+        """Sends opcplan the texts of statements at once. If it has ended, the next process gets the statements."""
+        assert self.process is not None
         with contextlib.suppress(ConnectionResetError, BrokenPipeError):
-            piped(self.process.stdin).write(item.text)
+            piped(self.process.stdin).write(b"".join(texts))
 
     def take(self, data: bytes) -> OutputRest:
         """Takes whole lines of output. Raises InvariantBroken."""
@@ -390,10 +423,11 @@ class Planner:
             else:
                 event.clear()
 
-    async def give(self, ask: Submission) -> None:
-        """Sends it a statement once there is room."""
+    async def give(self, asks: Sequence[Submission]) -> None:
+        """Sends it statements once there is room."""
         await self.room.wait()
-        self.do(self.state.appended([ask]) if state.is_change(ask) else self.state.asked(ask))
+        self.do([one for ask in asks
+                 for one in (self.state.appended([ask]) if state.is_change(ask) else self.state.asked(ask))])
         if self.is_open and self.process is not None:
             with contextlib.suppress(ConnectionResetError, BrokenPipeError):
                 await piped(self.process.stdin).drain()
@@ -401,12 +435,18 @@ class Planner:
     async def close(self) -> None:
         """Waits for its answers and ends it. Then the plan is one file."""
         await self.idle_or_stopped()
-        self.heard = time.monotonic()
-        self.closing.set()
-        if self.process is not None:
-            piped(self.process.stdin).close()
-        if self.task is not None:
-            await self.task
+        with tempfiles.folder("ends-") as folder:
+            look = self.sound.look(folder) if self.is_open and self.state.is_idle else None
+            if look is not None:
+                await asyncio.to_thread(look.take)
+            self.heard = time.monotonic()
+            self.closing.set()
+            if self.process is not None:
+                piped(self.process.stdin).close()
+            if self.task is not None:
+                await self.task
+            if look is not None and successions.ended_well(self.status, self.said.encode()):
+                await asyncio.to_thread(look.keep)
 
     async def idle_or_stopped(self) -> None:
         """Waits until nothing is in flight, or the planner is stopped."""

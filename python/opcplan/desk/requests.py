@@ -1,13 +1,16 @@
 """The items of a caller's job stream, with what the desk needs to send each."""
 
 import dataclasses
-import io
+from collections.abc import Iterator
 
 from opcplan.errors import Error, Unreadable
 from opcplan.plans import entry
-from opcplan.rules import statements, stream
+from opcplan.rules import statement_words, statements, stream
 
 MOST_STATEMENTS = 100_000
+# the option of a change that has its number, and what a line gets whose number the desk gives
+JOB = b"--job"
+NO_JOB = b" --job %d" % entry.FIRST_JOB
 
 
 class BadStream(Error):
@@ -34,33 +37,48 @@ class StreamItem:
 
 def of_stream(body: bytes) -> list[StreamItem]:
     """The items of a stream, in their order. Raises BadStream."""
-    found = []
+    return [one for one in steps(body) if one is not None]
+
+
+def steps(body: bytes) -> Iterator[StreamItem | None]:
+    """The items of a stream, in their order; and None after each piece of it that has none, so that others may have a
+    turn meanwhile. Raises BadStream."""
+    count = 0
     try:
-        for item in stream.items(stream.Source(io.BytesIO(body), "the stream")):
+        for item in stream.steps(body, "the stream", read_line):
+            if item is None:
+                yield None
+                continue
             if item.has_data and item.data is None:
                 raise BadStream(f"the data of line {item.line} have no end, so the stream isn't complete")
-            found.append(of_item(item))
-            if len(found) > MOST_STATEMENTS:
+            yield of_item(item)
+            count += 1
+            if count > MOST_STATEMENTS:
                 raise BadStream(f"the stream has more than {MOST_STATEMENTS:,} statements; send it in parts")
     except Unreadable as why:
         raise BadStream(str(why)) from None
-    return found
+
+
+def read_line(line: bytes, length: int) -> tuple[statement_words.Statement | None, str]:
+    """The statement of a line and nothing, or None and why the line is none. A change that has no job number gets
+    NO_JOB."""
+    if JOB not in line and statements.KINDS[stream.first_word(line).decode("ascii")].changes:
+        whole = line + NO_JOB
+        return stream.read_line(whole, length + len(NO_JOB))
+    return stream.read_line(line, length)
 
 
 def of_item(item: stream.Item) -> StreamItem:
     """The StreamItem of an item. Raises BadStream."""
-    statement, lacks_job = item.statement, False
-    if statement is None:
-        whole = item.text + b" --job %d" % entry.FIRST_JOB
-        statement, _ = stream.read_line(whole, len(whole))
-        lacks_job = statement is not None
+    statement = item.statement
+    lacks_job = JOB not in item.text
     if statement is None:
         return StreamItem("none", item.shown(), None, None, False, "refused 10")
     if item.has_data and not item.is_whole:
         return StreamItem(statement.name, item.shown(), None, None, False, "refused 11 0")
-    words = statement.words[:-2] if lacks_job else statement.words
-    line = " ".join(words)
-    if not statements.KINDS[statement.name].changes:
+    changes = statements.KINDS[statement.name].changes
+    line = " ".join(statement.words[:-2] if lacks_job and changes else statement.words)
+    if not changes:
         return StreamItem(statement.name, line, None, None, False, None, line.encode("ascii") + b"\n")
     job = None if lacks_job else statement.job
     if job is not None and entry.FIRST_JOB <= job <= entry.LAST_JOB:

@@ -45,10 +45,12 @@ class Route(NamedTuple):
     answer: str
     parameters: tuple[Parameter, ...] = ()
     lesser: str = ""  # the handler for callers who lack the role, also those without a token
-    is_open: bool = False  # whether a caller without a token is refused only for lack of the role
+    is_open: bool = False  # whether the answer to a caller without any role is decided by the route
     in_pieces: bool = False  # whether the body is sent piece by piece: aiohttp would send it to HEAD too
     body: str = ""  # the kind of the request's body
     statuses: tuple[str, ...] = ()  # HTTP's, besides those that every route may have
+    is_of_state: bool = False  # whether headers of the answer name the state of the plan
+    has_own_503: bool = False  # whether an answer with status 503 may have the same body
 
     @property
     def name(self) -> str:
@@ -58,13 +60,15 @@ class Route(NamedTuple):
 
 
 DAY = "[0-9]{4}-[0-9]{2}-[0-9]{2}"
-FRESH = Parameter(Place.QUERY, "fresh", "[01]", "1 if the answer must have all that any desk has answered till now")
+FRESH = Parameter(Place.QUERY, "fresh", "[012]", "1 if the answer must have all that any desk has answered till now, 2 "
+                  "if a majority of the desks must have answered that alike")
 NOW = Parameter(Place.QUERY, "now", rf"{DAY}/[0-9]{{2}}\.[0-9]{{2}}", "the moment to show, else the clock's")
 AS_OF = NOW._replace(about="the moment that the answer is about, else the clock's")
 NUMBER = "[0-9]{1,15}"
 SERIAL, TRY = "0{0,8}[1-9][0-9]{0,8}", "[1-9][0-9]?"
 OF_A_LOG = Parameter(Place.PATH, "serial", SERIAL, "the serial of an occurrence")
 KEY = '[!-"$-~]{1,200}'
+NAMED = Parameter(Place.HEADER, "X-Opcplan-Agent", "[A-Za-z0-9._-]{1,64}", "the name that an agent gives itself")
 OF_ROWS = (
     Parameter(Place.QUERY, "list", "|".join(columns.LISTS), "the list, else `cp`"),
     Parameter(Place.QUERY, "app", "[A-Z@#$][A-Z0-9@#$]{0,15}", "only rows of this application"),
@@ -76,7 +80,6 @@ OF_ROWS = (
               "the `ETag` of an earlier answer: the status is 304 if it still names the state"),
 )
 OF_STATEMENTS = (
-    Parameter(Place.HEADER, "Accept", ".*", "`application/x-ndjson` for lines of JSON"),
     Parameter(Place.HEADER, "Idempotency-Key", KEY, "the stream is done once under this key, however often it is sent"),
     Parameter(Place.HEADER, "If-Match", ".*",
               "the `ETag` of the state in which the first change is done. Each further one is done in the state that "
@@ -86,16 +89,24 @@ ROUTES = (
     Route("POST", "/statements", Role.READ, "statements", TEXT,
           "the body is a job stream (`STREAM.md`). Each statement gets its rows and its reply line, as `opcplan` "
           "prints them, or with `Accept: application/x-ndjson` a line of JSON: `seq`, `statement`, `job`, `rows`, "
-          "`reply`, `at`, `key`", OF_STATEMENTS, body=TEXT, statuses=("408", "409", "412", "413")),
+          "`reply`, `at`, `key`, and of the state after it `tag` and `position`", OF_STATEMENTS, body=TEXT,
+          statuses=("408", "409", "412", "413"), is_of_state=True),
+    Route("POST", "/acts", Role.READ, "acts.handle", JSON,
+          "the body says what is to be done, as an object of JSON: `verb`, `of` and so on. The answer has the "
+          "statements that do it and what they would do, and nothing is done. With `If-Match` and the `stream` of that "
+          "answer the desk does them; each needs its role", OF_STATEMENTS, body=JSON,
+          statuses=("408", "409", "412", "413"), is_of_state=True),
     Route("GET", "/", Role.READ, "page.whole", HTML,
           "the live page, for a browser (`DESK_PAGE.md`); without a token the page that asks for one", (NOW, FRESH),
-          lesser="page.sign_in", is_open=True),
+          lesser="page.sign_in", is_open=True, is_of_state=True),
     Route("GET", "/page/data", Role.READ, "page.data", JSON,
           "the plan of the live page alone, at or after the entry that `since` names",
-          (Parameter(Place.QUERY, "since", NUMBER, "the number of an entry"), NOW, FRESH), is_open=True),
+          (Parameter(Place.QUERY, "since", NUMBER, "the number of an entry"), NOW, FRESH), is_open=True,
+          is_of_state=True),
     Route("GET", "/rows", Role.READ, "rows", LINES,
           "the rows of a list (`ltp`, `cp`, `history`, `deletions`, `dependencies`, `links`), one object a line; "
-          "`app=`, `from=`, `to=` and `status=` select some of them", OF_ROWS, in_pieces=True),
+          "`app=`, `from=`, `to=` and `status=` select some of them", OF_ROWS, in_pieces=True,
+          statuses=("304",), is_of_state=True),
     Route("GET", "/events", Role.READ, "desk.events.handle", EVENTS,
           "server-sent events: `entry` for each answered change, once, in order and without a gap; `state` for the "
           "state of the plan after the last one. With `Last-Event-ID` the answer goes on after that entry",
@@ -106,19 +117,28 @@ ROUTES = (
           (Parameter(Place.QUERY, "from", NUMBER, "the number of the first entry, else 1"),),
           in_pieces=True),
     Route("GET", "/health", Role.READ, "health", JSON,
-          "`ok`, or with status 503 `stopped`, and why; a caller without a token gets that one word only",
-          lesser="health", is_open=True),
+          "`ok`, or with status 503 `stopped`, and why; a caller without a token gets that one word only", (NAMED,),
+          lesser="health", is_open=True, has_own_503=True),
     Route("GET", "/metrics", Role.READ, "metrics", TEXT, "counts for Prometheus (`MONITORING.md`)"),
     Route("GET", "/status", Role.READ, "status.handle", JSON,
-          "what needs somebody: counts of the current plan, the rows that are in error, late or at risk, when the "
-          "plans end, when each agent last contacted the desk, and the nodes of etcd (`MONITORING.md`)", (AS_OF,)),
+          "what needs a person, counts of the current plan, when the plans end, when each agent last contacted the "
+          "desk, and the nodes of etcd (`MONITORING.md`)", (AS_OF,), is_of_state=True),
+    Route("PUT", "/reports/agent", Role.OPERATE, "desk.reports.put_agent", "",
+          "what an agent reports: why it doesn't start what is ready, and which ends of jobs nobody knows", (NAMED,),
+          body=JSON, statuses=("408", "413")),
+    Route("PUT", "/reports/roll", Role.PLAN, "desk.reports.put_roll", "",
+          "how `./plan roll` ended, and by which rule", body=JSON, statuses=("408", "413")),
+    Route("PUT", "/reports/calls", Role.READ, "desk.reports.put_calls", "",
+          "which calls `./plan watch` made and couldn't deliver", body=JSON, statuses=("408", "413")),
     Route("GET", "/snapshot", Role.READ, "snapshot", SQLITE,
-          "the plan as one file, taken while no statement is in flight, with the digest of all answers up to it in "
-          "`X-Opcplan-Digest`", in_pieces=True),
+          "the plan as one file, exactly as of its position, with the digest of all answers up to it in "
+          "`X-Opcplan-Digest`. If the desk shares a log, the file has both too, so that a desk can begin with it",
+          in_pieces=True, is_of_state=True),
     Route("PUT", "/logs/{serial}", Role.OPERATE, "tails.put", "",
-          "stores the end of the log of one try of an occurrence's job, as an agent sends it: at most 256 KiB a try",
+          "stores the end of the log of one try of an occurrence's job, as an agent sends it: at most 256 KiB a try, "
+          "and only if the occurrence is or was started",
           (OF_A_LOG, Parameter(Place.QUERY, "try", TRY, "the number of the try, else 1")), body=TEXT,
-          statuses=("408", "413", "507")),
+          statuses=("408", "409", "413", "507")),
     Route("GET", "/logs/{serial}", Role.OPERATE, "tails.get", TEXT,
           "the ends of the logs of an occurrence's job, one try after the other, the last 256 KiB of them; 204 if "
           "no agent sent any",

@@ -117,13 +117,13 @@ def of_query(query: Mapping[str, str]) -> Selection:
     return Selection(name, app, first, last, status)
 
 
-def is_fresh(query: Mapping[str, str]) -> bool:
-    """Whether a query has `fresh=1`: the answer must have all that any desk answered till now. Raises
-    InvalidSelection."""
+def freshness(query: Mapping[str, str]) -> int:
+    """What a query requires: 1 if the answer must have all that any desk answered till now, 2 if a majority of the
+    desks must have answered that alike, else 0. Raises InvalidSelection."""
     text = query.get("fresh", "0")
-    if text not in ("0", "1"):
-        raise InvalidSelection("`fresh` must be 1 or 0")
-    return text == "1"
+    if text not in ("0", "1", "2"):
+        raise InvalidSelection("`fresh` must be 0, 1 or 2")
+    return int(text)
 
 
 def day_of(query: Mapping[str, str], word: str) -> str | None:

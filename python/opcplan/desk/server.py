@@ -7,6 +7,7 @@ import os
 import re
 import signal
 import sys
+import time
 from collections.abc import Callable, Sequence
 from operator import attrgetter
 from typing import Any
@@ -14,8 +15,9 @@ from typing import Any
 from aiohttp import web
 
 from opcplan.cli import signals, version
-from opcplan.desk import body, bootstrap, connections, core, guard, job_tails, local_log, log_words, openapi, page
-from opcplan.desk import requests, routes, rows, snapshot, status, versions
+from opcplan.desk import acts, body, bootstrap, connections, core, guard, job_tails, local_log, log_words, openapi, page
+from opcplan.desk import reports, requests, routes, rows, shares, snapshot, status, versions
+from opcplan.desk.agents import Caller
 from opcplan.desk.errors import StatementRejected
 from opcplan.desk.guard import Handler
 from opcplan.desk.held_files import HeldFiles
@@ -24,15 +26,17 @@ from opcplan.desk.log import Log
 from opcplan.desk.planner import PlannerStopped
 from opcplan.desk.requests import StreamItem
 from opcplan.desk.settings import Settings
-from opcplan.errors import LogUnwritable
+from opcplan.desk.turns import Work
+from opcplan.errors import Error, LogUnwritable
 from opcplan.plans import job_logs, journal, locks
 
 MOST_BYTES = 32 << 20
 # seconds in which streams in progress may end while the desk shuts down
 LAST_SECONDS = 20
-PAGE = 500
-CHANGED = 412  # HTTP's status if the plan isn't in the state that If-Match names
-KEY = re.compile(routes.KEY)
+# the most bytes of a stream that need no turn
+SHORT = 1 << 16
+# entries of the first slice of a journal
+PAGE = 32
 
 
 class Server:
@@ -42,9 +46,10 @@ class Server:
         self.given, self.desk, self.guard = given, desk, the_guard
         self.streams: set[asyncio.Task[None]] = set()
         self.connections = connections.Connections()
+        self.acts = acts.Acts(desk, given.plan, given.journal, self.keep)
         self.page = page.Page(desk, given.plan, the_guard.tokens is not None)
-        self.status = status.Status(desk, given.plan, given.journal)
-        self.tails = job_tails.JobTails(job_logs.beside(given.plan))
+        self.status = status.Status(desk, given.plan, given.journal, given.by_usual)
+        self.tails = job_tails.JobTails(desk, job_logs.beside(given.plan), given.job_logs << 20)
 
     def application(self) -> web.Application:
         """The application of aiohttp, by the table of routes."""
@@ -67,61 +72,94 @@ class Server:
 
     async def statements(self, request: web.Request) -> web.StreamResponse:
         """POST /statements."""
-        stream = body.Body(self.desk, await self.asked_of(request), request["who"], key_of(request), None)
-        self.desk.agents.sent(request["who"], key_of(request))
+        with self.desk.work(request["who"]) as work:
+            return await self.answered(request, work)
+
+    async def answered(self, request: web.Request, work: Work) -> web.StreamResponse:
+        """The answer to a stream."""
+        key = body.key_of(request.headers)
+        stream = body.Body(self.desk, await self.asked_of(request, work), request["who"], key, None)
+        self.desk.agents.sent(request["who"], key)
         stream.condition = condition_of(request, stream.asked)
-        await stream.claim()
-        taking = asyncio.create_task(stream.take())
-        self.streams.add(taking)
-        taking.add_done_callback(self.streams.discard)
+        await stream.claim(work)
+        if not stream.take_at_once():
+            self.keep(asyncio.create_task(stream.take()))
         is_json = "application/x-ndjson" in request.headers.get("Accept", "")
-        kind = "application/x-ndjson" if is_json else "text/plain; charset=us-ascii"
-        response = web.StreamResponse(headers={"Content-Type": kind, **SAFE})
+        heads = {"Content-Type": "application/x-ndjson" if is_json else "text/plain; charset=us-ascii", **SAFE}
+        held, response, place = body.HeldAnswer(time.monotonic()), None, 0
         try:
             for place in range(len(stream.asked)):
+                work.pause()
                 one = await stream.next()
-                if place == 0:
-                    response.headers.update(state_of(one.ask.tag, one.ask.position))
-                    await response.prepare(request)
+                await work.resume()
+                if work.is_over:
+                    await work.rest()
                 for data in (body.as_json if is_json else body.as_text)(one):
+                    if response is None and held.hold(data, time.monotonic()):
+                        continue
+                    if response is None:
+                        is_last = place == len(stream.asked) - 1
+                        response = web.StreamResponse(headers=heads | (state_of(*one.state) if is_last else {}))
+                        await response.prepare(request)
+                        data = held.release()
+                    work.pause()
                     await response.write(data)
-                    await asyncio.sleep(0)  # others have their turn even if the caller reads as fast as this writes
+                    work.is_long = True  # others have their turn even if the caller reads as fast as this writes
+                    await work.resume()
         except (StatementRejected, PlannerStopped) as why:
-            if not response.prepared:
+            if place == 0 and response is None:
                 raise
-            if not isinstance(why, StatementRejected) or why.status != CHANGED:
+            if not isinstance(why, StatementRejected) or why.status != body.CHANGED:
+                if response is None:
+                    raise broken_off(place, why) from None
                 if request.transport is not None:
                     request.transport.abort()  # the answer is cut off, so its caller sees that it isn't complete
                 return response
         finally:
             stream.leave()
-        if not response.prepared:
-            await response.prepare(request)
+        if response is None:
+            return connections.WholeResponse(body=held.release(), headers=heads | state_of(*stream.state))
+        work.pause()
         await response.write_eof()
         return response
 
-    async def asked_of(self, request: web.Request) -> list[StreamItem]:
+    async def asked_of(self, request: web.Request, work: Work) -> list[StreamItem]:
         """The statements in the body of a request, all of which its caller may send. Raises StatementRejected and
         HTTPForbidden."""
+        work.pause()
         data = await connections.body_of(request, MOST_BYTES)
+        work.is_long = len(data) > SHORT
+        await work.resume()
+        found = []
         try:
-            found = requests.of_stream(data)
+            for one in requests.steps(data):
+                if one is not None:
+                    found.append(one)
+                if work.is_over:
+                    await work.rest()
         except requests.BadStream as why:
             raise StatementRejected(400, f"{why}; nothing was done") from None
         for one in found:
             guard.needed(request, one.role, one.name)
+            if work.is_over:
+                await work.rest()
         return found
+
+    def keep(self, taking: asyncio.Task[None]) -> None:
+        """Keeps the task of a stream in progress until it ends."""
+        self.streams.add(taking)
+        taking.add_done_callback(self.streams.discard)
 
     # Lists and other answers.
 
     async def rows(self, request: web.Request) -> web.StreamResponse:
         """GET /rows."""
         try:
-            selection, is_fresh = rows.of_query(request.query), rows.is_fresh(request.query)
+            selection, fresh = rows.of_query(request.query), rows.freshness(request.query)
         except rows.InvalidSelection as why:
             raise StatementRejected(400, str(why)) from None
-        if is_fresh:
-            await self.desk.catch_up()
+        if fresh:
+            await self.desk.catch_up(fresh == 2)
         if moved := self.desk.planner.has_moved():
             raise PlannerStopped(moved)
         state = state_of(self.desk.tag(), self.desk.position)
@@ -142,10 +180,14 @@ class Server:
             raise StatementRejected(400, "`from` must be the number of an entry")
         response = web.StreamResponse(headers={"Content-Type": "application/x-ndjson", **SAFE})
         await response.prepare(request)
-        since = int(begin) - 1
-        while found := self.desk.after(since, PAGE):
-            await response.write("".join(json.dumps(one.values()) + "\n" for one in found).encode())
-            since = found[-1].seq
+        since, count = int(begin) - 1, PAGE
+        with self.desk.work(request["who"], True) as work:
+            await work.resume()
+            while found := self.desk.after(since, count):
+                data = "".join(json.dumps(one.values()) + "\n" for one in found).encode()
+                since, count = found[-1].seq, shares.next_count(count, work.pause())
+                await response.write(data)
+                await work.resume()
         await response.write_eof()
         return response
 
@@ -170,12 +212,14 @@ class Server:
         why = "; ".join(filter(None, [desk.trouble, *wrong]))
         values: dict[str, Any] = {"status": "stopped" if desk.trouble else "ok"}
         if request["role"] >= guard.READ:
-            desk.agents.looked(request["who"])
+            caller = Caller(request["who"], reports.name_of(request))
+            desk.agents.looked(*caller)
             values |= {
                 "why": why, "position": desk.position, "planner": planner.pid,
                 "running since": planner.open_since, "starts": planner.lives,
                 "waiting": len(desk.feed.queue) + len(desk.state.line) + len(desk.state.flight),
                 "journal": self.given.journal,
+                "report": desk.reports.digest(caller),
                 **desk.log.standing(desk.position), "plan": os.path.realpath(self.given.plan), "tag": desk.tag(),
             }
         return web.json_response(values, status=503 if desk.trouble else 200)
@@ -210,18 +254,16 @@ def after(status: int) -> dict[str, str]:
     return {"Retry-After": "1"} if status == 503 else {}
 
 
+def broken_off(place: int, why: Error) -> StatementRejected:
+    """Why a stream has no whole answer, once the statements before a place have one."""
+    found = f"{why}".removesuffix("; nothing was done")
+    return StatementRejected(503, f"there is no answer to statement {place + 1} of the stream, and those before it are "
+                             f"answered: {found}; send the stream again under its key")
+
+
 def state_of(tag: str | None, position: int) -> dict[str, str]:
     """The headers that name the state of an answer; none without a tag."""
     return {"ETag": f'"{tag}"', "X-Opcplan-Position": str(position)} if tag else {}
-
-
-def key_of(request: web.Request) -> str | None:
-    """The key of a stream, or None. Raises StatementRejected."""
-    key = request.headers.get("Idempotency-Key")
-    if key is not None and not KEY.fullmatch(key):
-        raise StatementRejected(400, "`Idempotency-Key` must have 1 to 200 printable characters, without blanks and #; "
-                                "nothing was done")
-    return key
 
 
 def condition_of(request: web.Request, found: Sequence[StreamItem]) -> str | None:
@@ -260,7 +302,7 @@ async def served(given: Settings, program: str, the_guard: guard.Guard, files: H
             store = await left.enter_async_context(bootstrap.opened(given.log, log_words.access_of(given)))
             shared = the_log = await bootstrap.joined(store, given.plan, given.journal, program)
             why_not = versions.of_version(program, shared.version, why_not)
-        await run(given, the_guard, core.Desk(program, files, the_log, why_not, given.limit))
+        await run(given, the_guard, core.Desk(program, files, the_log, why_not, given.limit, given.name))
 
 
 async def run(given: Settings, the_guard: guard.Guard, desk: core.Desk) -> None:

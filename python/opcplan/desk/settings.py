@@ -32,3 +32,6 @@ class Settings:
     etcd_cert: str | None
     etcd_key: str | None
     etcd_user: str | None
+    name: str  # of the plan, for calls and metrics
+    job_logs: int  # MiB of jobs' logs that are stored
+    by_usual: bool = True  # whether usual deadlines count for what was added by hand, in what needs a person

@@ -5,8 +5,9 @@ import os
 import tempfile
 
 from opcplan.desk import bootstrap, client
+from opcplan.desk.etcd_log import new_name
 from opcplan.desk.versions import CannotJoin
-from opcplan.plans import journal, plan_file
+from opcplan.plans import copy_mark, journal, plan_file
 
 
 # a file that opcplan left when it ended is no longer than this, and has nothing of a plan
@@ -29,9 +30,13 @@ def take(source: str, plan: str, path: str) -> None:
             log_id, position = heads.get("X-Opcplan-Log"), heads.get("X-Opcplan-Position", "")
             if not log_id or not position.isdigit():
                 raise CannotJoin(f"{source}: this desk shares no log; name a desk of the same log with --from")
+            digest = heads.get("X-Opcplan-Digest")
+            if not digest:
+                raise CannotJoin(f"{source}: this desk doesn't know the digest of its answers, so no desk can begin "
+                                 "with its plan; name another desk of the same log with --from")
             with plan_file.opened(part.name) as held:
-                (jobs,) = held.db.execute("SELECT count(*) FROM job").fetchone()
-            begin(path, log_id, int(position), jobs, heads.get("X-Opcplan-Digest"))
+                jobs = copy_mark.jobs_of(held)
+            begin(path, log_id, int(position), jobs, digest)
             os.link(part.name, plan)
             sync(folder)
         except (client.DeskUnreachable, client.RequestRefused, client.InvalidAddress) as why:
@@ -42,14 +47,14 @@ def take(source: str, plan: str, path: str) -> None:
             os.remove(part.name)
 
 
-def begin(path: str, log_id: str, position: int, jobs: int, digest: str | None) -> None:
+def begin(path: str, log_id: str, position: int, jobs: int, digest: str) -> None:
     """Has a journal go on after an entry of a log. It is a new one, or was of the same log before. Raises
     CannotJoin."""
     with contextlib.closing(journal.Journal(path)) as record:
         known = record.begun()
         if known is None and record.position() or known is not None and known.log != log_id:
             raise CannotJoin(f"{path}: {bootstrap.OTHER_JOURNAL}")
-        record.begin(log_id, position, jobs, digest)
+        record.begin(log_id, position, jobs, digest, new_name())
 
 
 def sync(folder: str) -> None:

@@ -76,6 +76,16 @@ class Read:
     upto: int
 
 
+class Rest(NamedTuple):
+    """The state of the plan that a copy of its file has: the last entry, the tag, and the digest of the log up to that
+    entry, or None if it isn't known. If it isn't `is_exact`, the file may have later entries too."""
+
+    position: int
+    tag: str
+    digest: str | None
+    is_exact: bool
+
+
 class Claim(NamedTuple):
     """The digest of the stream under a caller's key, and how many requests use it."""
 
@@ -92,6 +102,8 @@ class State(Generic[ItemT]):
     `pending`. `life` is the name of the log, `chain` the digest of its entries and replies up to the position, or None
     if it isn't known."""
 
+    most_recent = MOST_RECENT
+
     def __init__(self, life: str, position: int, chain: str | None = None, pending: Iterable[ItemT] = ()) -> None:
         self.life = life
         self.position = self.changed = self.kept = self.recent_from = position
@@ -99,6 +111,7 @@ class State(Generic[ItemT]):
         self.line: collections.deque[ItemT] = collections.deque(pending)  # the items that opcplan will get, in order
         self.flight: collections.deque[ItemT] = collections.deque()  # the items that this process has without a reply
         self.recent: list[Entry] = []  # answered entries after `recent_from`, up to the position
+        self.recent_bytes = 0  # of their texts
         self.chains: list[str | None] = []  # the digest at each of `recent`
         self.by_key: dict[tuple[str, str], ItemT] = {}  # changes whose reply the journal doesn't have
         self.claims: dict[tuple[str, str], Claim] = {}
@@ -155,8 +168,12 @@ class State(Generic[ItemT]):
                 self.changed = self.position
             self.chain = chained(self.chain, answered)
             self.recent.append(answered)
+            self.recent_bytes += len(answered.text)
             self.chains.append(self.chain)
-        return [Answer(item, reply, answered, self.tag, self.position), *self.sends()]
+        tag, position = self.tag, self.position
+        if item.is_again and item.entry is not None:  # it gets the answer of then, so the state is that of then too
+            tag, position = self.tag_after(item.entry.seq), item.entry.seq
+        return [Answer(item, reply, answered, tag, position), *self.sends()]
 
     def ended(self) -> None:
         """A process of opcplan is over: the next one gets what has no reply, in the same order."""
@@ -175,6 +192,15 @@ class State(Generic[ItemT]):
     def is_idle(self) -> bool:
         """Whether nothing waits or is in flight, so the plan is exactly that of the position."""
         return not self.line and not self.flight
+
+    def rest(self) -> Rest:
+        """What the plan's file has now."""
+        return Rest(self.position, self.tag, self.chain, self.is_idle)
+
+    def copied(self, before: Rest) -> Rest:
+        """What a copy of the file has that was begun in a state `before` and ends now. It is exact only if opcplan has
+        done nothing meanwhile."""
+        return before._replace(is_exact=before.is_exact and before == self.rest())
 
     @property
     def changes(self) -> int:
@@ -196,13 +222,9 @@ class State(Generic[ItemT]):
         """The digest at each of these answered entries, which must be in memory."""
         return [self.chains[one.seq - self.recent_from - 1] for one in entries]
 
-    def adopt(self, seq: int, digest: str) -> None:
-        """Takes another desk's digest of the log up to an entry, if this desk doesn't know its own."""
-        if self.chain is None and self.recent_from <= seq <= self.position:
-            chain: str | None = digest
-            for place in range(seq - self.recent_from, len(self.recent)):
-                self.chains[place] = chain = chained(chain, self.recent[place])
-            self.chain = chain
+    def answered(self) -> dict[int, str]:
+        """The digests at the entries in memory, by their numbers."""
+        return {one.seq: digest for one, digest in zip(self.recent, self.chains) if digest is not None}
 
     def keeps(self, entries: Sequence[Entry]) -> None:
         """The journal has the replies of these entries now, where a retry finds them."""
@@ -215,10 +237,10 @@ class State(Generic[ItemT]):
 
     def trim(self) -> None:
         """Drops entries that the journal has, if too many are in memory."""
-        size, count = sum(len(one.text) for one in self.recent), len(self.recent)
-        over = 0
-        while over < self.kept - self.recent_from and (count - over > MOST_RECENT or size > RECENT_BYTES):
-            size -= len(self.recent[over].text)
+        over, count = 0, len(self.recent)
+        while over < self.kept - self.recent_from and (
+                count - over > self.most_recent or self.recent_bytes > RECENT_BYTES):
+            self.recent_bytes -= len(self.recent[over].text)
             over += 1
         del self.recent[:over]
         del self.chains[:over]
@@ -235,7 +257,11 @@ class State(Generic[ItemT]):
     @property
     def tag(self) -> str:
         """The name of the plan's state: another log, or another change, has another tag."""
-        return f"{self.life}-{self.changed}"
+        return self.tag_after(self.changed)
+
+    def tag_after(self, seq: int) -> str:
+        """The name of the plan's state after an answered entry, as long as no later entry changed the plan."""
+        return f"{self.life}-{seq}"
 
     def is_state(self, tag: str) -> bool:
         """Whether a tag names the state of the plan, and nothing waits. A desk that was started later may have named
@@ -290,6 +316,8 @@ class State(Generic[ItemT]):
                     f"position {self.position}")
         if any(one.reply is None for one in self.recent):
             return "an entry without a reply is among the answered ones"
+        if self.recent_bytes != sum(len(one.text) for one in self.recent):
+            return f"the answered entries in memory don't have {self.recent_bytes} bytes"
         return ""
 
 

@@ -4,40 +4,33 @@
     head             the last entry, and how often the version was moved: `LAST MOVES`
     version/SINCE    the opcplan that answers the entries from this one on
     log/FIRST        entries that were appended together, under the number of the first
-    key/WHO/KEY      the entry that has a caller's key
+    key/WHO/KEY      what desks of version 1.0 kept of the entry that has a caller's key; their leases end it
     desk/ID          the position and digests that a desk publishes
+    distrusted/ID    a desk whose vote somebody took away
 
 A desk that appends, or moves the version, does so on the condition that `head` is as it knows it. So all see one
 order."""
 
 import json
 import urllib.parse
-from collections.abc import Mapping, Sequence
+from collections.abc import AsyncIterator, Mapping, Sequence
 from typing import Any, NamedTuple
 
+from opcplan.desk import keys
 from opcplan.desk.etcd import Etcd, EtcdUnreachable
 from opcplan.desk.log import MOST_TOGETHER
-from opcplan.desk.log_entries import Batch, batch_of, batch_text, holder_in, holder_of, in_base64, KeyHolder
-from opcplan.desk.log_entries import number_of, of_base64
+from opcplan.desk.log_entries import (
+    Batch, batch_of, batch_text, Head, holder_in, in_base64, KeyHolder, number_of, of_base64)
 from opcplan.desk.log_words import Where
+from opcplan.desk.published import Desks, Report, report_of
 from opcplan.plans.entry import Entry
 
-# the most batches that are read at once
-MOST_READ = 64
+# the most batches that are read at once, and the most keys of version 1.0
+MOST_READ, MOST_KEYS = 64, 1000
 # the most entries that are removed by one call
 MOST_TRIMMED = 2000
 BEHIND_ALL = ":"  # sorts after each digit
 Part = Mapping[str, Any]  # of a transaction: a condition, a read or a write
-
-
-class Head(NamedTuple):
-    """The last entry, and how often the version was moved."""
-
-    last: int
-    moves: int
-
-    def __str__(self) -> str:
-        return f"{self.last} {self.moves}"
 
 
 class State(NamedTuple):
@@ -58,14 +51,15 @@ class Appended(NamedTuple):
     is_done: bool
     head: Head | None
     batches: list[Batch]
-    used: dict[tuple[str, str], KeyHolder]  # by caller and key
 
 
 class TransactionResult(NamedTuple):
-    """etcd's answer to a transaction: whether its conditions held, and the answers to its parts."""
+    """etcd's answer to a transaction: whether its conditions held, the answers to its parts, and etcd's revision
+    then."""
 
     held: bool
     answers: list[dict[str, Any]]
+    revision: int
 
 
 class LogContent(NamedTuple):
@@ -89,24 +83,6 @@ class Trimmed(NamedTuple):
     revision: int
 
 
-class Report(NamedTuple):
-    """What a desk publishes in etcd: its last entry, its plan and its opcplan, and when; the number and the digest of
-    the last entry whose digest it knows; and the digests of its last entries, shortened."""
-
-    position: int
-    plan: str = ""
-    version: str = ""
-    at: str = ""
-    answered: int | None = None
-    chain: str | None = None
-    digests: Mapping[str, str] = {}
-
-    @property
-    def text(self) -> str:
-        """Its text in etcd."""
-        return json.dumps({name: value for name, value in self._asdict().items() if value is not None})
-
-
 class Store:
     """A log in etcd."""
 
@@ -122,17 +98,13 @@ class Store:
         """The key of the batch that begins with an entry."""
         return self.key("log", f"{seq:010d}")
 
-    def caller_key(self, who: str, key: str) -> str:
-        """The key in etcd of a caller's key."""
-        return self.key("key", urllib.parse.quote(who, safe=""), key)
-
     async def txn(self, compare: Sequence[Part], success: Sequence[Part], failure: Sequence[Part],
                   until: float | None = None) -> TransactionResult:
         """The answer to a transaction. Raises EtcdUnreachable and EtcdError, as do all calls that use etcd."""
         said = {"compare": compare, "success": success, "failure": failure}
         found = await self.etcd.post("/v3/kv/txn", said, until)
         answers = [next(iter(one.values())) for one in found.get("responses", ())]
-        return TransactionResult(found.get("succeeded", False), answers)
+        return TransactionResult(found.get("succeeded", False), answers, int(found["header"]["revision"]))
 
     async def asked(self, *ranges: Part) -> list[dict[str, Any]]:
         """The answers to some reads at one moment."""
@@ -194,13 +166,53 @@ class Store:
                 entries, size = entries + len(batch.entries), size + len(kv["value"]) * 3 // 4
                 after = batch.last
 
-    async def keys(self, who: str, key: str) -> dict[str, KeyHolder]:
-        """What has a caller's key, and those of its stream (`key#n`), by key."""
-        begin = self.caller_key(who, key)
-        found = await self.asked(at(begin), below(f"{begin}#", f"{begin}$"))
-        prefix = len(self.caller_key(who, ""))
-        return {of_base64(kv["key"]).decode()[prefix:]: holder_in(of_base64(kv["value"]))
-                for answer in found for kv in kvs(answer)}
+    async def entries(self, first: int, last: int) -> AsyncIterator[Entry]:
+        """The Entries from one to another that are left, in their order."""
+        after = max(0, first - MOST_TOGETHER)  # a batch may begin before its entry
+        while after < last:
+            try:
+                batches = (await self.read(after)).batches
+            except EtcdUnreachable:
+                if self.most == 1:
+                    raise
+                continue
+            if not batches:
+                return
+            for one in (one for batch in batches for one in batch.entries if first <= one.seq <= last):
+                yield one
+            after = batches[-1].last
+
+    async def first_since(self, first: int, last: int, since: str) -> int:
+        """The first of some entries that is no older than a moment, as in `keys.first_since`."""
+        search = keys.first_since(first, last, since)
+        try:
+            seq = next(search)
+            while True:
+                batch = await self.holding(seq)
+                seq = search.send(batch.entries[seq - batch.entries[0].seq].at if batch else None)
+        except StopIteration as found:
+            return int(found.value)
+
+    async def first_keyed(self, first: int, last: int) -> int | None:
+        """The first of some entries that has a key, or None."""
+        async for one in self.entries(first, last):
+            if one.key is not None:
+                return one.seq
+        return None
+
+    async def old_keys(self) -> dict[tuple[str, str], KeyHolder]:
+        """What desks of version 1.0 kept of keys, by caller and key. Raises ValueError and TypeError too."""
+        prefix, found = self.key("key", ""), {}
+        begin, end = prefix, self.key("key") + "0"  # which sorts after each key below `key/`
+        while True:
+            (answer,) = await self.asked(below(begin, end, limit=str(MOST_KEYS)))
+            for kv in kvs(answer):
+                begin = of_base64(kv["key"]).decode()
+                who, _, key = begin.removeprefix(prefix).partition("/")
+                found[urllib.parse.unquote(who), key] = holder_in(of_base64(kv["value"]))
+            if not answer.get("more"):
+                return found
+            begin += "\0"
 
     # Writing.
 
@@ -212,24 +224,17 @@ class Store:
             put(self.key("begun"), json.dumps(begun)), put(self.key("head"), str(Head(position, 0))),
             put(self.key("version", f"{position + 1:010d}"), version)], [])).held
 
-    async def append(self, head: Head, mark: str, entries: Sequence[Entry], lease: str | None,
-                     until: float | None = None) -> Appended:
-        """Appends Entries and their keys if the head is still `head`, and none of the keys is used. A transaction of
-        etcd has at most 128 parts, and this one has two besides the keys."""
-        keyed = {(one.who, one.key): one for one in entries if one.key is not None}
-        names = [self.caller_key(*one) for one in keyed]
+    async def append(self, head: Head, mark: str, entries: Sequence[Entry], until: float | None = None) -> Appended:
+        """Appends Entries if the head is still `head`."""
         last = entries[-1].seq
         success = [put(self.log_key(entries[0].seq), batch_text(mark, entries)),
                    put(self.key("head"), str(head._replace(last=last)))]
-        success += [put(name, holder_of(one).text, lease) for name, one in zip(names, keyed.values())]
-        compare = [self.is_head(head), *map(is_absent, names)]
-        failure = [at(self.key("head")), self.behind(head.last, 1), *map(at, names)]
-        is_done, answers = await self.txn(compare, success, failure, until)
+        failure = [at(self.key("head")), self.behind(head.last, 1)]
+        is_done, answers, _ = await self.txn([self.is_head(head)], success, failure, until)
         if is_done:
-            return Appended(True, head._replace(last=last), [], {})
-        found, log, *used = answers
-        return Appended(False, head_of(value(found)) if kvs(found) else None, [batch_of(kv) for kv in kvs(log)],
-                        {known: holder_in(value(answer)) for known, answer in zip(keyed, used) if kvs(answer)})
+            return Appended(True, head._replace(last=last), [])
+        found, log = answers
+        return Appended(False, head_of(value(found)) if kvs(found) else None, [batch_of(kv) for kv in kvs(log)])
 
     async def move_version(self, head: Head, version: str) -> bool:
         """Moves the log to another opcplan from the entry after `head` on, if the head is still that; whether it
@@ -243,19 +248,26 @@ class Store:
         return {"key": in_base64(self.key("head")), "target": "VALUE", "result": "EQUAL",
                 "value": in_base64(str(head))}
 
-    async def lease(self, seconds: int) -> str:
-        """The id of a new lease, which ends after so many seconds."""
-        return str((await self.etcd.post("/v3/lease/grant", {"TTL": str(seconds)}))["ID"])
+    async def report(self, desk_id: str, given: Report) -> None:
+        """Publishes a desk's Report. It is under no lease: if a lease ended early, the desk would have no vote."""
+        await self.etcd.post("/v3/kv/put", put(self.key("desk", desk_id), given.text)["request_put"])
 
-    async def report(self, desk_id: str, given: Report, lease: str) -> None:
-        """Publishes a desk's Report."""
-        await self.etcd.post("/v3/kv/put", put(self.key("desk", desk_id), given.text, lease)["request_put"])
+    async def desks(self, until: float | None = None) -> Desks:
+        """What desks publish, and how far the log is then. Raises ValueError and TypeError too."""
+        asked = at(self.key("head")), below(self.key("desk", "")), below(self.key("distrusted", ""))
+        (head, reports, distrusted), revision = (await self.txn([], asked, [], until))[1:]
+        return Desks(head_of(value(head)) if kvs(head) else None,
+                     {self.named(kv): report_of(of_base64(kv["value"])) for kv in kvs(reports)},
+                     {self.named(kv) for kv in kvs(distrusted)}, revision)
 
-    async def desks(self) -> dict[str, Report]:
-        """The Reports of desks, by their names."""
-        (found,) = await self.asked(below(self.key("desk") + "/"))
-        prefix = len(self.key("desk", ""))
-        return {of_base64(kv["key"]).decode()[prefix:]: report_of(of_base64(kv["value"])) for kv in kvs(found)}
+    @staticmethod
+    def named(kv: Mapping[str, str]) -> str:
+        """The last part of a key."""
+        return of_base64(kv["key"]).decode().rpartition("/")[2]
+
+    async def distrust(self, name: str, moment: str) -> None:
+        """Takes a desk's vote away."""
+        await self.etcd.post("/v3/kv/put", put(self.key("distrusted", name), moment)["request_put"])
 
     async def forget(self, name: str) -> None:
         """Removes a desk's Report. A desk that still runs publishes it again."""
@@ -287,9 +299,9 @@ def below(begin: str, end: str | None = None, **more: str | bool) -> Part:
     return {"request_range": {"key": in_base64(begin), "range_end": in_base64(end), **more}}
 
 
-def put(key: str, text: str, lease: str | None = None) -> Part:
-    """A write of a text under a key, perhaps for as long as a lease lasts."""
-    return {"request_put": {"key": in_base64(key), "value": in_base64(text), **({"lease": lease} if lease else {})}}
+def put(key: str, text: str) -> Part:
+    """A write of a text under a key."""
+    return {"request_put": {"key": in_base64(key), "value": in_base64(text)}}
 
 
 def is_absent(key: str) -> Part:
@@ -311,9 +323,3 @@ def value(answer: Mapping[str, Any]) -> bytes:
 def head_of(data: bytes) -> Head:
     """The Head of its text. Raises ValueError and TypeError."""
     return Head(*map(int, data.split()))
-
-
-def report_of(text: bytes) -> Report:
-    """The Report of its text. Raises ValueError and TypeError."""
-    found = json.loads(text)
-    return Report(**{name: found[name] for name in Report._fields if name in found})

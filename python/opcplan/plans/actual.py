@@ -94,6 +94,11 @@ def moment(seconds: float) -> int:
     return int(local(seconds) // 60)
 
 
+def shift(seconds: float, now: float) -> int:
+    """By how many minutes the local clock was set forth between two moments, in seconds since 1970."""
+    return round((local(now) - now - local(seconds) + seconds) / 60)
+
+
 def moment_text(seconds: float) -> str:
     """`YYYY-MM-DD HH.MM` of when something happened."""
     return moments.moment_text(moment(seconds))

@@ -33,6 +33,28 @@ def part(path: str, ending: str) -> Iterator[str]:
         os.close(number)
 
 
+def replace(path: str, data: bytes) -> None:
+    """Puts a file of these bytes at a path, for its owner alone: at each moment, also after a crash, the path has the
+    old file or the whole new one, and the new one once this returns. Raises OSError."""
+    new = f"{path}.part"
+    number = os.open(new, os.O_WRONLY | os.O_CREAT | os.O_TRUNC | os.O_NOFOLLOW | os.O_CLOEXEC, 0o600)
+    with open(number, "wb") as file:
+        file.write(data)
+        file.flush()
+        os.fsync(number)
+    os.replace(new, path)
+    sync_folder(os.path.dirname(path))
+
+
+def sync_folder(path: str) -> None:
+    """Syncs a folder's list of files to the disk. Raises OSError."""
+    number = os.open(path or ".", os.O_RDONLY | os.O_DIRECTORY | os.O_CLOEXEC)
+    try:
+        os.fsync(number)
+    finally:
+        os.close(number)
+
+
 def is_one_file(path: str, other: str) -> bool:
     """Whether two paths are names of one file."""
     try:

@@ -1,54 +1,72 @@
-"""A copy of a plan in one file, which opcplan has opened and found sound, and files that take their place whole."""
+"""A copy of a plan in one file, which opcplan has found sound, and files that take their place whole."""
 
 import contextlib
 import os
 import shutil
 import sqlite3
 import subprocess
+from collections.abc import Callable
 
 from opcplan.errors import Unreadable
-from opcplan.plans import plan_file, progress
-from opcplan.plans.program import built_program
+from opcplan.plans import own_runs, plan_file, progress
+from opcplan.plans.plan_file import Plan
+from opcplan.plans.program import built_program, is_own
 
 # a log that has no page: how it begins, and at most how long it is, with what opcplan leaves behind its header
 LOG, MOST_WITHOUT_PAGES = b"\x37\x7f\x06", 32 + 24
 
 
-def made(path: str, folder: str, program: str | None = None) -> tuple[str, sqlite3.Row]:
-    """The path of such a copy in a folder, of the plan in a file and its log, and what plan_meta has. Raises
-    Unreadable.
+def made(path: str, folder: str, program: str | None = None, prepare: Callable[[str], None] = lambda copy: None,
+         is_anew: bool = False) -> tuple[str, sqlite3.Row]:
+    """The path of such a copy in a folder, of the plan in a file and its log, and what plan_meta has. Calls `prepare`
+    with the copy before opcplan opens it. Raises Unreadable.
 
-    A plan of version 1 keeps its version: opcplan, which makes it anew, opens a copy of the copy.
+    Of a file that was found sound and hasn't changed since, the copy isn't checked again, unless it shall be `anew`;
+    but the sums of pages are, where there are sums: they tell what the times of a file don't. A plan of version 1 keeps
+    its version: opcplan, which makes it anew, opens a copy of the copy.
 
     What opcplan finds sound isn't checked here too. What it doesn't take is, for a sentence that says why."""
     copy = os.path.join(folder, "copy.db")
     try:
-        return copy, taken_by_opcplan(path, copy, folder, program)
+        with plan_file.opened(path, by_program=True) as plan:
+            if is_anew or not plan_file.is_sound(plan):
+                check_by_opcplan(plan, copy, folder, program, prepare)
+            else:
+                plan_file.check_sums(plan)
+                take_of(plan, copy, prepare)
+                own_runs.merge(copy)
+            meta = plan.meta
+        if holds_something(f"{copy}-wal"):
+            raise Unreadable(f"{path}: the log of its copy can't be merged into the copy")
+        return copy, meta
     except Unreadable:
         with plan_file.opened(path):
             pass
         raise
 
 
-def taken_by_opcplan(path: str, copy: str, folder: str, program: str | None) -> sqlite3.Row:
-    """Makes the copy, and answers what plan_meta has. Raises Unreadable."""
-    with plan_file.opened(path, is_own=True) as plan:
-        with progress.of(f"checks the pages of {path}"):
-            (answer,) = plan.db.execute("PRAGMA integrity_check(1)").fetchone()
-        if answer != "ok":
-            raise Unreadable(f"{path}: it is damaged: {' '.join(answer.split())}")
-        source, meta, version = plan.db.execute("PRAGMA database_list").fetchone()["file"], plan.meta, plan.version
-        taken(source, copy)
-    if version == plan_file.VERSIONS[-1]:
-        ask(path, copy, program)
+def check_by_opcplan(plan: Plan, copy: str, folder: str, program: str | None, prepare: Callable[[str], None]) -> None:
+    """Makes the copy of a plan, and has opcplan check it. Raises Unreadable."""
+    with progress.of(f"checks the pages of {plan.path}"):
+        (answer,) = plan.db.execute("PRAGMA integrity_check(1)").fetchone()
+    if answer != "ok":
+        raise Unreadable(f"{plan.path}: it is damaged: {' '.join(answer.split())}")
+    take_of(plan, copy, prepare)
+    program = os.path.abspath(program or built_program())
+    if plan.version == plan_file.VERSIONS[-1]:
+        ask(plan.path, copy, program)
     else:
-        with contextlib.closing(sqlite3.connect(copy)) as db:
-            db.execute("PRAGMA wal_checkpoint(TRUNCATE)")
+        own_runs.merge(copy)
         taken(copy, os.path.join(folder, "other.db"))
-        ask(path, os.path.join(folder, "other.db"), program)
-    if holds_something(f"{copy}-wal"):
-        raise Unreadable(f"{path}: the log of its copy can't be merged into the copy")
-    return meta
+        ask(plan.path, os.path.join(folder, "other.db"), program)
+    if is_own(program):
+        plan_file.keep(plan)
+
+
+def take_of(plan: Plan, copy: str, prepare: Callable[[str], None]) -> None:
+    """Makes the copy of a plan and its log, and calls `prepare` with it. Raises Unreadable."""
+    taken(plan.db.execute("PRAGMA database_list").fetchone()["file"], copy)
+    prepare(copy)
 
 
 def taken(source: str, copy: str) -> None:
@@ -57,9 +75,8 @@ def taken(source: str, copy: str) -> None:
         plan_file.take(source + tail, copy + tail)
 
 
-def ask(path: str, copy: str, program: str | None) -> None:
+def ask(path: str, copy: str, program: str) -> None:
     """Asks that opcplan opens a copy; its log is in the file then. Raises Unreadable."""
-    program = os.path.abspath(program or built_program())
     try:
         with progress.of("opcplan checks the copy"):
             ran = subprocess.run([program, "--db", copy], stdin=subprocess.DEVNULL, capture_output=True, check=False)

@@ -95,6 +95,12 @@ def moment_text(seconds: float) -> str:
     return text_of(datetime.datetime.fromtimestamp(seconds, datetime.timezone.utc))
 
 
+def moment_before(text: str, seconds: int) -> str:
+    """The moment so many seconds before another one, both in universal time, as entries have it."""
+    moment = datetime.datetime.fromisoformat(text.removesuffix("Z"))
+    return text_of(moment - datetime.timedelta(seconds=seconds))
+
+
 def text_of(moment: datetime.datetime) -> str:
     """A moment in universal time, as entries have it."""
     return moment.strftime("%Y-%m-%dT%H:%M:%S.") + f"{moment.microsecond // 1000:03}Z"

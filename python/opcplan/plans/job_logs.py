@@ -1,5 +1,5 @@
 """The ends of the logs of jobs beside a plan, as agents gave them to its desk: a file for each try, whose name is made
-of serial and try alone. One more than fits takes away the oldest ones."""
+of serial and try alone. `log_room` decides which give way if there is no room for another."""
 
 import contextlib
 import os
@@ -8,13 +8,15 @@ import threading
 from collections.abc import Iterator
 from typing import NamedTuple
 
+from opcplan.plans.log_room import Log, LogRoom
+
 FILE = re.compile(r"([0-9]{9})\.([0-9]{2})\.log")
 TAIL = ".logs"
 LAST_SERIAL, LAST_TRY = 999_999_999, 99
-# bytes of one try that are kept, of one serial that are shown, and of all that are kept
-MOST_OF_A_TRY, MOST_SHOWN, MOST_OF_ALL = 1 << 18, 1 << 18, 1 << 30
-# how full the folder is once the oldest are gone
-LEFT = 0.9
+# bytes of one try that are kept, and of one serial that are shown
+MOST_OF_A_TRY, MOST_SHOWN = 1 << 18, 1 << 18
+# how many are kept, and, unless a desk is told otherwise, how many bytes of all
+MOST_LOGS, MOST_BYTES = 50_000, 1 << 30
 
 
 class StoredLog(NamedTuple):
@@ -28,60 +30,58 @@ class StoredLog(NamedTuple):
 class JobLogs:
     """The ends of logs in a folder, which is made where there is none. Its calls raise OSError."""
 
-    def __init__(self, folder: str, most: int = MOST_OF_ALL) -> None:
-        self.folder, self.most = folder, most
+    def __init__(self, folder: str, most_bytes: int = MOST_BYTES, most_logs: int = MOST_LOGS) -> None:
+        self.folder, self.most_bytes, self.most_logs = folder, most_bytes, most_logs
         self.lock = threading.Lock()
-        self.size: int | None = None  # of all files, None where it isn't known yet
+        self.known: LogRoom | None = None  # None where it isn't known which files there are
 
     def path_of(self, serial: int, attempt: int) -> str:
         """The path of the file of a try."""
         return os.path.join(self.folder, f"{serial:09}.{attempt:02}.log")
 
+    def room(self) -> LogRoom:
+        """The LogRoom of the files that there are. If they were written before, it isn't known yet whether their
+        occurrences are over."""
+        if self.known is None:
+            room = LogRoom(self.most_logs, self.most_bytes)
+            for one in sorted(kept(self.folder), key=lambda one: one.written):
+                found = FILE.fullmatch(os.path.basename(one.path))
+                assert found is not None  # `kept` asked that
+                room.stored(Log(int(found[1]), int(found[2])), one.size)
+            self.known = room
+        return self.known
+
     def put(self, serial: int, attempt: int, data: bytes) -> None:
-        """Keeps the end of a try's log in the place of what was there. Later tries are those of an earlier run, and
-        go."""
+        """Keeps the end of a try's log in the place of what was there. Later tries are those of an earlier run, and go.
+        Raises NoRoom."""
         with self.lock:
             os.makedirs(self.folder, 0o700, exist_ok=True)
-            if self.size is None:
-                self.size = sum(one.size for one in kept(self.folder))
-            for later in self.tries(serial):
-                if later > attempt:
-                    self.remove(self.path_of(serial, later))
-            self.write(self.path_of(serial, attempt), data)
-            if self.size > self.most:
-                self.make_room()
+            room, log = self.room(), Log(serial, attempt)
+            try:
+                for one in room.gives_way(serial, attempt, len(data)):
+                    if one != log:
+                        with contextlib.suppress(FileNotFoundError):  # somebody pruned it
+                            os.remove(self.path_of(*one))
+                        room.removed(one)
+                self.write(self.path_of(*log), data)
+            except OSError:
+                self.known = None  # it is read again
+                raise
+            room.stored(log, len(data))
 
-    def write(self, path: str, data: bytes) -> None:
+    @staticmethod
+    def write(path: str, data: bytes) -> None:
         """Writes a file whole."""
-        assert self.size is not None
         part = f"{path}.part"
         number = os.open(part, os.O_WRONLY | os.O_CREAT | os.O_TRUNC | os.O_NOFOLLOW | os.O_CLOEXEC, 0o600)
         try:
             with open(number, "wb") as file:
                 file.write(data)
-            old = size_of(path)
             os.replace(part, path)
         except OSError:
             with contextlib.suppress(OSError):
                 os.remove(part)
             raise
-        self.size += len(data) - old
-
-    def make_room(self) -> None:
-        """Takes the oldest files away, until a part of the room is free."""
-        found = sorted(kept(self.folder), key=lambda one: one.written)
-        self.size = sum(one.size for one in found)  # others may have taken some away
-        for one in found:
-            if self.size <= LEFT * self.most:
-                return
-            self.remove(one.path)
-
-    def remove(self, path: str) -> None:
-        """Takes a file away."""
-        size = size_of(path)
-        os.remove(path)
-        if self.size is not None:
-            self.size -= size
 
     def tries(self, serial: int) -> list[int]:
         """The tries of a serial that there are."""
@@ -103,14 +103,6 @@ class JobLogs:
 def beside(plan: str) -> str:
     """The folder of a plan."""
     return os.path.realpath(plan) + TAIL
-
-
-def size_of(path: str) -> int:
-    """The size of a file, 0 where there is none."""
-    try:
-        return os.stat(path, follow_symlinks=False).st_size
-    except FileNotFoundError:
-        return 0
 
 
 def kept(folder: str, form: re.Pattern[str] = FILE) -> Iterator[StoredLog]:

@@ -1,6 +1,8 @@
 """The journal of a desk: who asked what, when, and what it was answered; and when what happened, which a plan doesn't
 keep. It is a SQLite file beside the plan."""
 
+import array
+import bisect
 import contextlib
 import os
 import re
@@ -27,15 +29,21 @@ CREATE TABLE happened (
 CREATE INDEX happened_by_serial ON happened (serial);
 PRAGMA user_version = 1;
 """
-# of a log that is shared: which one it is, from which entry on it is kept here, how many jobs the plan had then, and
-# the digest of the log up to that entry, where it is known
-BEGUN = "CREATE TABLE begun (log TEXT NOT NULL, seq INTEGER NOT NULL, jobs INTEGER NOT NULL, digest TEXT)"
+# of a log that is shared: what LogStart has
+BEGUN = """CREATE TABLE begun (log TEXT NOT NULL, seq INTEGER NOT NULL, jobs INTEGER NOT NULL, digest TEXT, plan TEXT,
+    since INTEGER, stopped INTEGER, former TEXT)"""
 # columns that journals of earlier programs lack
-LATER = ("stream", "digest")
+LATER = {"entry": {"stream": "TEXT", "digest": "TEXT"},
+         "begun": {"digest": "TEXT", "plan": "TEXT", "since": "INTEGER", "stopped": "INTEGER", "former": "TEXT"}}
 COLUMNS = "seq, at, who, key, job, text, reply, stream"
 STATUS = re.compile(r"ok serial ([0-9]+) status ([WSECD])")
+# the serials of a plan that have a status, in order; what is in the history is complete
+PLACES = {status: f"SELECT serial FROM cp_row WHERE status = '{status}' ORDER BY serial" for status in "SE"} | {
+    "C": "SELECT serial FROM cp_row WHERE status = 'C' UNION SELECT serial FROM history_row ORDER BY serial"}
 TAIL = ".journal"
 NO_END = 1 << 62
+# seconds for which a key stands for its first entry
+WEEK = 7 * 24 * 3600
 # a disk with less room is full, in bytes: SQLite's logs take so much at once
 LEAST_ROOM = 1 << 16
 NEW_JOURNAL = ("If that was intended, begin a new journal: give --journal a file that doesn't exist yet. Keys and "
@@ -75,12 +83,18 @@ class JournalReply(NamedTuple):
 
 class LogStart(NamedTuple):
     """From where on a journal keeps a log that several desks share: which log, behind which entry, how many jobs the
-    plan had then, and the digest of the log up to that entry, where it is known."""
+    plan had then, and the digest of the log up to that entry, where it is known. The id of the plan among those of the
+    log, None in a journal of version 1.0; the entry after which the plan answers by itself; the entry at which its desk
+    stopped permanently, or 0; and the id that the plan had before, if it had one."""
 
     log: str
     seq: int
     jobs: int
     digest: str | None
+    plan: str | None
+    since: int
+    stopped: int
+    former: str | None
 
 
 class Journal:
@@ -91,6 +105,8 @@ class Journal:
     def __init__(self, path: str, floor: int = 0, is_copy: bool = False) -> None:
         self.path, self.floor = path, floor
         self.before: Set[int] | None = None
+        # serials of a plan that had these statuses when a desk began over it, in order
+        self.had = {status: array.array("q") for status in "SEC"}
         try:
             self.db = sqlite3.connect(path, isolation_level=None, check_same_thread=False)
             self.db.execute("PRAGMA journal_mode = WAL")
@@ -109,10 +125,11 @@ class Journal:
             self.db.executescript(f"BEGIN IMMEDIATE;{SCHEMA}COMMIT;")
         elif version != 1 or not {"entry", "happened"} <= names:
             raise Unreadable(f"{self.path}: it is a database, but not the journal of a desk")
-        columns = {name for _, name, *_ in self.db.execute("PRAGMA table_info(entry)")}
-        for name in LATER:
-            if name not in columns:
-                self.db.execute(f"ALTER TABLE entry ADD COLUMN {name} TEXT")
+        for table, later in LATER.items():
+            columns = {name for _, name, *_ in self.db.execute(f"PRAGMA table_info({table})")}
+            for name, kind in later.items():
+                if columns and name not in columns:
+                    self.db.execute(f"ALTER TABLE {table} ADD COLUMN {name} {kind}")
 
     def position(self) -> int:
         """The number of the last entry, at least the floor."""
@@ -124,15 +141,25 @@ class Journal:
         the same. Raises LogUnwritable."""
         with self.transaction():
             for one in entries:
-                if one.key is not None:  # that of an entry which is so old that its key was free
-                    self.db.execute("UPDATE entry SET key = NULL WHERE who = ? AND key = ? AND seq <> ?",
-                                    (one.who, one.key, one.seq))
                 put = self.db.execute("""INSERT INTO entry (seq, at, who, key, job, text, stream)
                     VALUES (?, ?, ?, ?, ?, ?, ?) ON CONFLICT (seq) DO NOTHING""",
-                                      (one.seq, one.at, one.who, one.key, one.job, stored(one.text), one.stream))
+                                      (one.seq, one.at, one.who, self.free_key(one), one.job, stored(one.text),
+                                       one.stream))
                 if not put.rowcount and not self.has(one):
                     raise LogUnwritable(f"entry {one.seq} of the journal {self.path} isn't that of the log")
             self.put_replies(replies)
+
+    def free_key(self, one: Entry) -> str | None:
+        """An Entry's key, taken from an entry that is so old that its key is free; None where another one keeps it: the
+        first entry of the key for a week, or one that came later."""
+        row = self.db.execute("SELECT seq, at FROM entry WHERE who = ? AND key = ? AND seq <> ?",
+                              (one.who, one.key, one.seq)).fetchone()
+        if row is None:
+            return one.key
+        if row[0] > one.seq or row[1] > entry.moment_before(one.at, WEEK):
+            return None
+        self.db.execute("UPDATE entry SET key = NULL WHERE seq = ?", (row[0],))
+        return one.key
 
     def has(self, one: Entry) -> bool:
         """Whether an Entry's text stands under its number."""
@@ -141,21 +168,37 @@ class Journal:
 
     def begun(self) -> LogStart | None:
         """From where on it keeps a log that several desks share, or None."""
-        columns = {name for _, name, *_ in self.db.execute("PRAGMA table_info(begun)")}
-        if not columns:
+        if not self.db.execute("PRAGMA table_info(begun)").fetchall():
             return None
-        digest = "digest" if "digest" in columns else "NULL"
-        row = self.db.execute(f"SELECT log, seq, jobs, {digest} FROM begun").fetchone()
+        row = self.db.execute("""SELECT log, seq, jobs, digest, plan, coalesce(since, seq), coalesce(stopped, 0), former
+            FROM begun""").fetchone()
         return None if row is None else LogStart(*row)
 
-    def begin(self, log_id: str, seq: int, jobs: int, digest: str | None = None) -> None:
-        """Keeps which log the plan shares from an entry on, whose digest is that. Raises LogUnwritable."""
+    def begin(self, log_id: str, seq: int, jobs: int, digest: str, plan: str) -> None:
+        """Keeps which log the plan shares from an entry on, whose digest is that, under a new id. What another plan
+        answered to later entries goes. Raises LogUnwritable."""
+        known = self.begun()
         with self.transaction():
+            self.db.execute("DELETE FROM entry WHERE seq > ?", (seq,))
+            self.db.execute("DELETE FROM happened WHERE seq > ?", (seq,))
             self.db.execute("DROP TABLE IF EXISTS begun")
             self.db.execute("DROP TABLE IF EXISTS of_plan")
             self.db.execute(BEGUN)
-            self.db.execute("INSERT INTO begun VALUES (?, ?, ?, ?)", (log_id, seq, jobs, digest))
+            self.db.execute("INSERT INTO begun VALUES (?, ?, ?, ?, ?, ?, 0, ?)",
+                            (log_id, seq, jobs, digest, plan, seq, known and known.plan))
         self.floor = seq
+
+    def name_plan(self, plan: str, former: str, digest: str | None) -> None:
+        """Keeps what a journal of version 1.0 lacks: the plan's id, that by which version 1.0 named it, and the digest
+        with which the journal begins. Raises LogUnwritable."""
+        with self.transaction():
+            self.db.execute("UPDATE begun SET plan = ?, former = ?, since = seq, stopped = 0, digest = ?",
+                            (plan, former, digest))
+
+    def stop(self, seq: int) -> None:
+        """Keeps at which entry the desk stopped permanently. Raises LogUnwritable."""
+        with self.transaction():
+            self.db.execute("UPDATE begun SET stopped = ?", (seq,))
 
     def keep_replies(self, replies: Iterable[JournalReply]) -> None:
         """Keeps what entries were answered. Raises LogUnwritable."""
@@ -227,6 +270,12 @@ class Journal:
             AND stream IS NOT NULL LIMIT 1""", (who, key, f"{key}#", f"{key}$")).fetchone()
         return None if row is None else str(row[0])
 
+    def lacks_upto(self, begins: int, last: int) -> int:
+        """The entry after which the journal has all entries up to `last`: `begins`, or `last` if there are gaps."""
+        (count,) = self.reader.execute("SELECT count(*) FROM entry WHERE seq > ? AND seq <= ?",
+                                       (begins, last)).fetchone()
+        return begins if count == last - begins else last
+
     def first(self) -> int:
         """The number of the first entry, one behind the position where there is none."""
         first: int | None
@@ -258,6 +307,11 @@ class Journal:
         """The last digests that are kept, up to an entry, by the numbers of their entries."""
         asked = "SELECT seq, digest FROM entry WHERE digest IS NOT NULL AND seq <= ? ORDER BY seq DESC LIMIT ?"
         return dict(self.reader.execute(asked, (upto, most)).fetchall())
+
+    def digests_at(self, seqs: Iterable[int]) -> dict[int, str]:
+        """The digests that are kept at these entries, by their numbers."""
+        asked = "SELECT seq, digest FROM entry WHERE seq = ? AND digest IS NOT NULL"
+        return dict(row for seq in seqs for row in self.reader.execute(asked, (seq,)))
 
     def find(self, who: str, key: str) -> Entry | None:
         """The Entry of a caller's key, or None."""
@@ -296,6 +350,18 @@ class Journal:
             self.db.execute("DELETE FROM of_plan")
             self.db.execute("INSERT INTO of_plan VALUES (?, ?, ?, ?)", (path, device, inode, jobs))
         self.before = None
+
+    def note_statuses(self, plan: Plan) -> None:
+        """Notes which occurrences of a plan were started: the journal may be younger than that."""
+        for status, text in PLACES.items():
+            self.had[status] = array.array("q", (serial for (serial,) in plan.db.execute(text)))
+
+    def statuses(self, serial: int) -> str:
+        """The statuses that an occurrence got, in order: what the plan had when the desk began, then what happened."""
+        had = [status for status, serials in self.had.items()
+               if serials[(place := bisect.bisect_left(serials, serial)) : place + 1] == array.array("q", [serial])]
+        asked = "SELECT status FROM happened WHERE serial = ? ORDER BY seq"
+        return "".join([*had, *(status for (status,) in self.reader.execute(asked, (serial,)))])
 
     def happened(self) -> list[StatusChange]:
         """What happened, in its order."""
@@ -395,15 +461,21 @@ def for_desk(path: str, plan: str) -> Journal:
                 journal_plan.check(journal, held)
             except journal_plan.JournalMismatch as why:
                 raise Unreadable(f"{why}. {NEW_JOURNAL}" if str(why).startswith(plan) else str(why)) from None
+            journal.note_statuses(held)
             left.pop_all()
     return journal
 
 
 def position_of(held: Plan) -> int:
     """How far a plan has a log by itself: the entry of the greatest number that a desk gave."""
+    return position_in(held.db)
+
+
+def position_in(db: sqlite3.Connection) -> int:
+    """The same of a plan's database."""
     asked = "SELECT max(number) FROM job WHERE number BETWEEN ? AND ?"
     greatest: int | None
-    (greatest,) = held.db.execute(asked, (entry.FIRST_JOB, entry.LAST_JOB)).fetchone()
+    (greatest,) = db.execute(asked, (entry.FIRST_JOB, entry.LAST_JOB)).fetchone()
     return greatest - entry.FIRST_JOB + 1 if greatest else 0
 
 

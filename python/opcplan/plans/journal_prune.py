@@ -120,9 +120,8 @@ def shorten(path: str, cut: Cut) -> None:
                 jobs = journal_plan.ranges_text(journal_plan.numbers_of(known) | gone)
                 db.execute("UPDATE of_plan SET jobs = ?", (jobs,))
         if "begun" in tables:
-            columns = {name for _, name, *_ in db.execute("PRAGMA table_info(begun)")}
-            also = ", digest = :digest" if "digest" in columns else ""
-            db.execute(f"UPDATE begun SET seq = :seq{also} WHERE seq < :seq", {"seq": cut.last, "digest": digest})
+            db.execute("UPDATE begun SET since = seq WHERE since IS NULL")
+            db.execute("UPDATE begun SET seq = ?, digest = ? WHERE seq < ?", (cut.last, digest, cut.last))
         db.execute(OVER, {"cut": cut.last, "runs": RUNS})
         db.execute("DELETE FROM entry WHERE seq <= ?", (cut.last,))
         db.execute("COMMIT")

@@ -1,7 +1,8 @@
 """Results of checks that are kept: a plan's file that was checked and hasn't changed since isn't checked again.
 
 A result is a small file in a cache folder of the user's own. Its name is made of the path of the plan's file. Its text
-says what that file and its log were when they were found sound, and by which rules. A file that isn't sound has no
+says what that file and its log were when they were found sound, and by which rules. What opcplan made of a sound file
+is sound too (`successions`). A file that isn't sound has no
 result, so it is checked and refused each time. A result counts only if its text is, byte by byte, what it would be now,
 and only if nobody else can have written it: the folder and the result belong to this user, and no other may write them.
 
@@ -16,7 +17,7 @@ from typing import NamedTuple
 
 # what decides whether a plan is sound, below the package
 RULES = ("plans/page_sums.py", "plans/plan_file.py", "plans/sound_pairs.py", "plans/sound_rows.py",
-         "rules/definitions.py", "rules/loops.py")
+         "plans/successions.py", "rules/definitions.py", "rules/loops.py")
 PACKAGE = os.path.dirname(os.path.dirname(os.path.abspath(__file__)))
 FOLDER, PART = "opcplan", ".part"
 MOST_KEPT, LONGEST = 500, 4096

@@ -5,7 +5,8 @@ it only reads, and a file without its log is an older plan. So the file and its 
 (`opened`), or the file is read as bytes that nobody changes, if nothing is in its log, and the answer counts only if
 nobody has changed them (`answer`). Each subcommand reads by these two alone.
 
-A file is checked before anything of it is shown, and again once it has changed (`kept_checks`)."""
+A file is checked before anything of it is shown, and again once it has changed (`kept_checks`). Where opcplan opens a
+copy anyway, it checks the plan, and this package doesn't (`by_program`)."""
 
 import contextlib
 import os
@@ -37,6 +38,8 @@ SECOND = 1_000_000_000
 ROWS_SHARE = 0.6
 # of a file its head, which has the counter of changes, and of a log
 OF_HEAD = 100
+# KiB of pages that SQLite holds: a check looks up each row in the indexes of its table, here and there
+HELD_PAGES = 24_000
 
 
 class Stamp(NamedTuple):
@@ -80,23 +83,36 @@ class State(NamedTuple):
         return f"{[tuple(seen) for seen in self.stamps]} {list(self.heads)}"
 
 
-class Plan:
-    """A plan that is read; `written` is when its file or log was written last, in seconds."""
+class Checking(NamedTuple):
+    """What a plan's check is about: the private copy, the state of the file that it is a copy of, the result that is
+    kept once it is found sound (None: none is), and whether it was."""
 
-    def __init__(self, path: str, db: sqlite3.Connection, written: float) -> None:
+    copy: str
+    state: State
+    kept: kept_checks.StoredResult | None
+    is_sound: bool
+
+
+class Plan:
+    """A plan that is read; `written` is when its file or log was written last, in seconds. Without a `checking` nobody
+    asks whether it is sound."""
+
+    def __init__(self, path: str, db: sqlite3.Connection, written: float, checking: Checking | None = None) -> None:
         self.path = path
         self.db = db
         self.written = written
+        self.checking = checking
         self.meta = meta_of(db)
         self.is_created = bool(self.meta["created"])
         self.version: int = self.meta["version"]
 
 
 @contextlib.contextmanager
-def opened(path: str | os.PathLike[str], is_own: bool = False) -> Iterator[Plan]:
+def opened(path: str | os.PathLike[str], is_own: bool = False, by_program: bool = False) -> Iterator[Plan]:
     """A Plan of a private copy of the file, which goes when the context ends. Raises Unreadable, also for what is found
     later. The rows of a file of this command's `own`, which opcplan alone has written or is going to check, aren't
-    checked."""
+    checked. With `by_program` they aren't checked here: whoever asks has opcplan open a copy, and says what came of it
+    by `check` or `found_sound` before anything of the plan is shown."""
     path = os.fspath(path)
     real = place_of(path)
     with tempfiles.folder("plan-") as folder:
@@ -113,7 +129,7 @@ def opened(path: str | os.PathLike[str], is_own: bool = False) -> Iterator[Plan]
             raise Unreadable(f"{path}: it is empty, so it is not a plan")
         with reading(path), contextlib.closing(sqlite3.connect(copy, isolation_level=None)) as db:
             prepare(db)
-            yield Plan(path, db, state.written) if is_own else checked(path, db, copy, state)
+            yield Plan(path, db, state.written) if is_own else checked(path, db, copy, state, by_program)
 
 
 def answer(path: str | os.PathLike[str], make: Callable[[Plan], T]) -> T:
@@ -202,25 +218,77 @@ def prepare(db: sqlite3.Connection) -> None:
     db.row_factory = sqlite3.Row
     db.execute("PRAGMA trusted_schema = OFF")
     db.execute("PRAGMA synchronous = OFF")  # nobody needs the copy later
+    db.execute(f"PRAGMA cache_size = -{HELD_PAGES}")
 
 
-def checked(path: str, db: sqlite3.Connection, copy: str, state: State) -> Plan:
-    """The Plan of a copy of a file that was in a state. It is checked, unless it was found sound in that state; what is
-    found is kept, if a later change of the file would show."""
+def checked(path: str, db: sqlite3.Connection, copy: str, state: State, by_program: bool = False) -> Plan:
+    """The Plan of a copy of a file that was in a state. It is checked, unless it was found sound in that state, or
+    opcplan checks it; what is found is kept, if a later change of the file would show."""
     real = os.path.realpath(path)
     kept = None if tempfiles.is_held(real) else kept_checks.of_file(real, state.text)
     if kept is not None and kept_checks.is_there(kept):
-        return Plan(path, db, state.written)
+        return Plan(path, db, state.written, Checking(copy, state, kept, True))
+    checking = Checking(copy, state, kept, False)
+    if by_program:
+        try:
+            return Plan(path, db, state.written, checking)
+        except (Error, sqlite3.Error):
+            ask_sums(db, copy)  # which say better what is damaged
+            raise
     with progress.of(f"checks {path}") as far:
         ask_sums(db, copy)
-        plan = Plan(path, db, state.written)
-        for done in sound_rows.asked(db, plan.version):
-            far.at(done * ROWS_SHARE)
-        for done in sound_pairs.asked(db, plan.version):
-            far.at(ROWS_SHARE + done * (1 - ROWS_SHARE))
-    if kept is not None and state.is_settled:
-        kept_checks.put(kept)
+        plan = Plan(path, db, state.written, checking)
+        ask_rows(plan, far)
+    keep(plan)
     return plan
+
+
+def ask_rows(plan: Plan, far: progress.Progress) -> None:
+    """Asks that the rows of a plan are sound. Raises Unsound."""
+    for done in sound_rows.asked(plan.db, plan.version):
+        far.at(done * ROWS_SHARE)
+    for done in sound_pairs.asked(plan.db, plan.version):
+        far.at(ROWS_SHARE + done * (1 - ROWS_SHARE))
+
+
+def check(plan: Plan) -> None:
+    """Checks a plan that opcplan didn't take, or that it was not asked of: whoever gets no sentence here may go on.
+    Raises NotAPlan and Unsound."""
+    if plan.checking is None or is_sound(plan):
+        return
+    with progress.of(f"checks {plan.path}") as far:
+        ask_sums(plan.db, plan.checking.copy)
+        ask_rows(plan, far)
+    keep(plan)
+
+
+def found_sound(plan: Plan) -> None:
+    """Notes that opcplan opened a copy of a plan, so its rows are sound. What opcplan doesn't read is asked here: that
+    indexes say the same as the tables. Raises Unsound."""
+    if not is_sound(plan):
+        sound_rows.ask_tables(plan.db)
+        keep(plan)
+
+
+def is_sound(plan: Plan) -> bool:
+    """Whether it is known that a plan is sound."""
+    return plan.checking is not None and plan.checking.is_sound
+
+
+def check_sums(plan: Plan) -> None:
+    """Asks that each page of a plan matches its sum, where pages have one. Raises NotAPlan."""
+    if plan.checking is not None:
+        with progress.of(f"checks the pages of {plan.path}"):
+            ask_sums(plan.db, plan.checking.copy)
+
+
+def keep(plan: Plan) -> None:
+    """Notes that a plan was found sound, and keeps that, if a later change of its file would show."""
+    if plan.checking is None:
+        return
+    plan.checking = plan.checking._replace(is_sound=True)
+    if plan.checking.kept is not None and plan.checking.state.is_settled:
+        kept_checks.put(plan.checking.kept)
 
 
 def kept_state(path: str) -> State | None:

@@ -24,3 +24,11 @@ def built_program() -> str:
     if not is_of_top() and (found := shutil.which("opcplan")):
         return found
     raise Unreadable("there is no planner to try it with: run ./opcplan to build one, or name one with --program")
+
+
+def is_own(program: str) -> bool:
+    """Whether a program is the one that is taken where none is named."""
+    try:
+        return os.path.samefile(program, built_program())
+    except (OSError, Unreadable):
+        return False

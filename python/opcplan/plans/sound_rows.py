@@ -236,9 +236,7 @@ def asked(db: sqlite3.Connection, version: int) -> Iterator[float]:
     sizes = {table: 1 + db.execute(f"SELECT count(*) FROM {table}").fetchone()[0] for table in RULES}
     whole, done = sum(sizes.values()) * (1 + RELATIONS_SHARE), 0.0
     for table, rules in RULES.items():
-        (found,) = db.execute(f"PRAGMA integrity_check({table})").fetchone()
-        if found != "ok":
-            raise Unsound(f"its table {table} is damaged: {found}")
+        ask_table(db, table)
         ask_values(db, table, {column: rule for column, rule in rules.items() if version > 1 or column != LATER})
         done += sizes[table]
         yield done / whole
@@ -248,6 +246,19 @@ def asked(db: sqlite3.Connection, version: int) -> Iterator[float]:
         done += (whole - done) / 2
         yield done / whole
     ask_replies(db)
+
+
+def ask_tables(db: sqlite3.Connection) -> None:
+    """Asks that no table is damaged, and that its indexes have what it has. Raises Unsound."""
+    for table in RULES:
+        ask_table(db, table)
+
+
+def ask_table(db: sqlite3.Connection, table: str) -> None:
+    """Asks the same of one table. Raises Unsound."""
+    (found,) = db.execute(f"PRAGMA integrity_check({table})").fetchone()
+    if found != "ok":
+        raise Unsound(f"its table {table} is damaged: {found}")
 
 
 def ask_replies(db: sqlite3.Connection) -> None:

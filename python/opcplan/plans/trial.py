@@ -3,15 +3,14 @@
 import contextlib
 import dataclasses
 import os
-import sqlite3
 import subprocess
 from collections.abc import Callable, Iterator
 from typing import Any, Generic, TypeVar
 
 from opcplan.errors import Unreadable
-from opcplan.plans import plan_file, progress, stream_file, stream_state, tempfiles, waits
+from opcplan.plans import own_runs, plan_file, progress, stream_file, stream_state, tempfiles, waits
 from opcplan.plans.plan_file import Plan
-from opcplan.plans.program import built_program
+from opcplan.plans.program import built_program, is_own
 from opcplan.plans.stream_state import Known
 from opcplan.rules import explanations, stream
 from opcplan.rules.stream import Item, Source
@@ -34,6 +33,13 @@ class Trial(Generic[F]):
     said: str  # by the planner on standard error
     stream: str  # the path of a copy of the stream
     program: str
+    result: str | None  # the path of the file that opcplan made, if that is sound
+
+    def keep(self, path: str) -> None:
+        """Keeps that a file is sound, where the stream was run over it too and nobody else wrote to it: it has the same
+        bytes then."""
+        if self.result is not None:
+            own_runs.keep_equal(path, self.result)
 
 
 @contextlib.contextmanager
@@ -47,16 +53,31 @@ def tried(
         raise Unreadable(f"{path}: it is not a plan, but {name} may be one; did you swap them?")
     with tempfiles.folder("trial-") as folder:
         text, copy, said = (os.path.join(folder, name) for name in ("stream.in", "plan.db", "said"))
-        with plan_file.opened(path or new_plan(program, folder), is_own=path is None) as plan:
-            copy_stream(name, text)
-            copy_plan(plan, copy)
-            before = stream_state.of_plan(plan)
-            with contextlib.ExitStack() as held:
-                before.made = MadeRows(copy, held).key_of
-                found, status = answered(program, copy, text, said, lambda items, output: take(items, output, before))
+        new = new_plan(program, folder) if path is None else None
+        with plan_file.opened(new or path or "", is_own=new is not None, by_program=True) as plan:
+            with judged(plan):
+                copy_stream(name, text)
+                copy_plan(plan, copy)
+                before = stream_state.of_plan(plan)
+                with contextlib.ExitStack() as held:
+                    before.made = MadeRows(copy, held).key_of
+                    found, status = answered(program, copy, text, said, lambda items, out: take(items, out, before))
+            by_own = status in SOUND and is_own(program)
+            (plan_file.found_sound if by_own else plan_file.check)(plan)
+            result = copy if by_own else None
             with plan_file.opened(copy, is_own=True) as after, open(said, "rb") as file:
                 message = file.read(MOST_SAID).decode(errors="replace").replace(copy, path or name)
-                yield Trial(plan, after, found, status, message, text, program)
+                yield Trial(plan, after, found, status, message, text, program, result)
+
+
+@contextlib.contextmanager
+def judged(plan: Plan) -> Iterator[None]:
+    """A context in which opcplan checks a plan. What fails may fail because the plan isn't sound: then that is told."""
+    try:
+        yield
+    except Exception:
+        plan_file.check(plan)
+        raise
 
 
 class MadeRows:
@@ -103,12 +124,14 @@ def copy_stream(name: str, copy: str) -> None:
 
 
 def copy_plan(plan: Plan, copy: str) -> None:
-    """Makes the file of a copy. Raises Unreadable."""
+    """Makes the file of a copy, and its log, byte by byte, so that opcplan makes of them what it makes of the plan
+    itself. Raises Unreadable."""
+    source: str = plan.db.execute("PRAGMA database_list").fetchone()["file"]
     try:
-        with contextlib.closing(sqlite3.connect(copy)) as other:
-            plan.db.backup(other)
-    except sqlite3.Error as error:
-        raise Unreadable(f"{plan.path}: a private copy can't be made: {error}") from None
+        for tail in plan_file.TAILS[:2]:
+            plan_file.take(source + tail, copy + tail)
+    except OSError as error:
+        raise Unreadable(f"{plan.path}: a private copy can't be made: {error.strerror}") from None
 
 
 def answered(
@@ -139,12 +162,25 @@ def done(trial: Trial[F], path: str, output: str) -> tuple[int, str]:
     return ran.returncode, said
 
 
+class Planner(subprocess.Popen[bytes]):
+    """A run of the planner, which doesn't outlive a signal that comes while it is started."""
+
+    def __init__(self, words: list[str], **how: Any) -> None:
+        try:
+            super().__init__(words, **how)
+        except BaseException:
+            if getattr(self, "pid", None) is not None and self.returncode is None:
+                self.kill()
+                self.wait()
+            raise
+
+
 @contextlib.contextmanager
 def running(program: str, path: str, **how: Any) -> Iterator[subprocess.Popen[bytes]]:
     """A run of the planner over a file, which has ended when the context ends. Raises Unreadable where there is no such
     program."""
     try:
-        ran = subprocess.Popen([program, "--db", path], **how)
+        ran = Planner([program, "--db", path], **how)
     except OSError as error:
         raise Unreadable(f"{program}: it can't be run: {error.strerror}") from None
     with ran:

@@ -1,11 +1,16 @@
 """Occurrences of a plan, where they stand, and what they wait for. why, why-day and late stand on it."""
 
-import itertools
-from collections.abc import Iterator
-from typing import NamedTuple
+from __future__ import annotations
 
-from opcplan.plans.plan_file import Plan
-from opcplan.rules import moments, statuses
+import itertools
+from collections.abc import Iterable, Iterator
+from typing import TYPE_CHECKING, NamedTuple
+
+from opcplan.rules import moments, statuses, usual_due
+
+if TYPE_CHECKING:
+    from opcplan.plans.plan_file import Plan
+    from opcplan.rules.definitions import Definitions
 
 DAY = moments.DAY
 
@@ -78,6 +83,12 @@ def rows_of_current(plan: Plan, statuses: str) -> list[Row]:
     return [Row(*row) for row in plan.db.execute(asked, (statuses,))]
 
 
+def added(plan: Plan) -> list[Row]:
+    """The rows of the current plan that were added by hand and are neither complete nor deleted, by input arrival."""
+    asked = f"{SETS[0]} WHERE run_cycle IS NULL AND instr(?, status) ORDER BY ia, app, serial"
+    return [Row(*row) for row in plan.db.execute(asked, (statuses.UNFINISHED,))]
+
+
 def unfinished(plan: Plan) -> tuple[list[Row], list[tuple[int, int]]]:
     """The rows of the current plan that are neither complete nor deleted, by input arrival, and pairs of these."""
     rows = rows_of_current(plan, statuses.UNFINISHED)
@@ -87,6 +98,12 @@ def unfinished(plan: Plan) -> tuple[list[Row], list[tuple[int, int]]]:
         JOIN cp_row AS earlier ON earlier.serial = predecessor
         WHERE instr(?1, later.status) AND instr(?1, earlier.status)"""
     return rows, cursor.execute(asked, (statuses.UNFINISHED,)).fetchall()
+
+
+def usual_deadlines(rows: Iterable[Row], defined: Definitions) -> dict[int, int]:
+    """By serial the usual deadline of those of some rows that were added by hand and have one."""
+    added = ((row.serial, usual_due.of_run(defined, row.app, row.ia)) for row in rows if row.cycle is None)
+    return {serial: usual for serial, usual in added if usual is not None}
 
 
 def rows_of_key(plan: Plan, app: str, ia: int) -> list[Row]:
@@ -204,3 +221,15 @@ def jobs_of_key(plan: Plan, app: str, ia: int) -> list[Job]:
         if name != "define" and (options.get("--app"), options.get("--ia")) == (app, arrival):
             found.append(Job(number, name, reply))
     return found
+
+
+def notes_on(plan: Plan, now: int) -> list[str]:
+    """What is to be said of the moment."""
+    if not plan.is_created:
+        return ["there is no long-term plan yet, so nothing can be late"]
+    meta = plan.meta
+    if meta["first_day"] * DAY <= now < (meta["last_day"] + 1) * DAY:
+        return []
+    first, last = moments.day_text(meta["first_day"]), moments.day_text(meta["last_day"])
+    return [f"this is as of {moments.moment_text(now)}, but the plan goes from {first} to {last}; --now sets the "
+            "moment"]

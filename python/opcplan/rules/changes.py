@@ -12,16 +12,27 @@ from opcplan.rules.naming_words import count_text, few
 
 @dataclasses.dataclass(frozen=True)
 class Change:
-    """A sentence on one change, the record that it is about, and whether something is lost or turned by it."""
+    """A sentence on one change, the record that it is about, whether something is lost or turned by it, and the
+    sentence as it reads behind the name."""
 
     text: str
     about: tuple[str, ...] = ()
     is_loss: bool = True
+    brief: str = ""
 
 
 def of_name(kind: str, name: str, old: Any, new: Any) -> list[Change]:
     """What the definition `new` of a name changes of the definition `old`."""
     return list(KINDS[kind](name, old, new))
+
+
+def change(form: str, name: str, about: tuple[str, ...] = (), is_loss: bool = True) -> Change:
+    """A change of a name, which stands in the form as ` of NAME`, ` to NAME`, ` NAME` or `it`, in braces."""
+    texts = {"{of}": f" of {name}", "{to}": f" to {name}", "{name}": f" {name}", "{it}": name}
+    text, brief = form, form
+    for place, said in texts.items():
+        text, brief = text.replace(place, said), brief.replace(place, "it" if place == "{it}" else "")
+    return Change(text, about, is_loss, brief)
 
 
 def of_options(before: Definitions, after: Definitions) -> Iterator[Change]:
@@ -36,14 +47,14 @@ def of_calendar(name: str, old: Calendar, new: Calendar) -> Iterator[Change]:
     held, now = entries_of(old), entries_of(new)
     lost, more = [entry for entry in held if entry not in now], [entry for entry in now if entry not in held]
     if lost:
-        yield Change(f"drops {count_text(len(lost), 'entry', 'entries')} of {name}: {few(lost)}")
+        yield change(f"drops {count_text(len(lost), 'entry', 'entries')}{{of}}: {few(lost)}", name)
     for is_work, what in ((True, "work"), (False, "free")):
         turned = [entry for entry in now if entry in held and held[entry] != now[entry] == is_work]
         if turned:
-            yield Change(f"turns {count_text(len(turned), 'entry', 'entries')} of {name} to {what}: {few(turned)}")
+            yield change(f"turns {count_text(len(turned), 'entry', 'entries')}{{of}} to {what}: {few(turned)}", name)
     if more:
         shown = few([f"{entry} {'WORK' if now[entry] else 'FREE'}" for entry in more])
-        yield Change(f"adds {count_text(len(more), 'entry', 'entries')} to {name}: {shown}", is_loss=False)
+        yield change(f"adds {count_text(len(more), 'entry', 'entries')}{{to}}: {shown}", name, is_loss=False)
 
 
 def entries_of(calendar: Calendar) -> dict[str, bool]:
@@ -55,21 +66,21 @@ def entries_of(calendar: Calendar) -> dict[str, bool]:
 def of_period(name: str, old: Period, new: Period) -> Iterator[Change]:
     if "N" not in (old.kind, new.kind) or old.kind != new.kind:
         if old != new:
-            yield Change(f"changes the period {name}: {period_text(old)}, then {period_text(new)}", (name,))
+            yield change(f"changes the period{{name}}: {period_text(old)}, then {period_text(new)}", name, (name,))
         return
     held = {entry.origin: entry.end for entry in old.entries}
     now = {entry.origin: entry.end for entry in new.entries}
     lost, more = [day for day in held if day not in now], [day for day in now if day not in held]
     if lost:
         shown = few(list(map(moments.day_text, lost)))
-        yield Change(f"drops {count_text(len(lost), 'interval')} of {name}: from {shown} on", (name,))
+        yield change(f"drops {count_text(len(lost), 'interval')}{{of}}: from {shown} on", name, (name,))
     ends = [day for day in now if day in held and held[day] != now[day]]
     if ends:
         shown = few([f"of {moments.day_text(day)} {end_text(held[day])}, then {end_text(now[day])}" for day in ends])
-        yield Change(f"changes the end of {count_text(len(ends), 'interval')} of {name}: {shown}", (name,))
+        yield change(f"changes the end of {count_text(len(ends), 'interval')}{{of}}: {shown}", name, (name,))
     if more:
         shown = few(list(map(moments.day_text, more)))
-        yield Change(f"adds {count_text(len(more), 'interval')} to {name}: from {shown} on", (name,), False)
+        yield change(f"adds {count_text(len(more), 'interval')}{{to}}: from {shown} on", name, (name,), False)
 
 
 def period_text(period: Period) -> str:
@@ -86,28 +97,28 @@ def end_text(day: int | None) -> str:
 
 def of_application(name: str, old: Application, new: Application) -> Iterator[Change]:
     if old.is_active != new.is_active:
-        text = f"makes {name} active" if new.is_active else f"makes {name} pending, so it is no longer planned"
-        yield Change(text, (name,), old.is_active)
+        form = "makes {it} active" if new.is_active else "makes {it} pending, so it is no longer planned"
+        yield change(form, name, (name,), old.is_active)
     if old.calendar != new.calendar:
         was, now = (calendar or "the default one" for calendar in (old.calendar, new.calendar))
-        yield Change(f"changes the calendar of {name}: {was}, then {now}", (name,))
+        yield change(f"changes the calendar{{of}}: {was}, then {now}", name, (name,))
 
 
 def of_run_cycles(app: str, old: dict[str, RunCycle], new: dict[str, RunCycle]) -> Iterator[Change]:
     lost, more = sorted(old.keys() - new.keys()), sorted(new.keys() - old.keys())
     if lost:
-        yield Change(f"drops {named(lost, 'run cycle')} of {app}")
+        yield change(f"drops {named(lost, 'run cycle')}{{of}}", app)
     for name in sorted(old.keys() & new.keys()):
         was, now = old[name], new[name]
         if was.due != now.due:
             texts = f"{due_text(was.due)}, then {due_text(now.due)}"
-            yield Change(f"moves the deadline of run cycle {name} of {app}: {texts}", (app, name))
+            yield change(f"moves the deadline of run cycle {name}{{of}}: {texts}", app, (app, name))
         turned = [f"{said} {text(getattr(was, field))}, then {text(getattr(now, field))}"
                   for field, said, text in FIELDS if getattr(was, field) != getattr(now, field)]
         if turned:
-            yield Change(f"changes run cycle {name} of {app}: {'; '.join(turned)}", (app, name))
+            yield change(f"changes run cycle {name}{{of}}: {'; '.join(turned)}", app, (app, name))
     if more:
-        yield Change(f"adds {named(more, 'run cycle')} to {app}", is_loss=False)
+        yield change(f"adds {named(more, 'run cycle')}{{to}}", app, is_loss=False)
 
 
 def offsets_text(offsets: list[int]) -> str:
@@ -130,13 +141,13 @@ def due_text(due: Due | None) -> str:
 def of_predecessors(app: str, old: dict[str, int | None], new: dict[str, int | None]) -> Iterator[Change]:
     lost, more = sorted(old.keys() - new.keys()), sorted(new.keys() - old.keys())
     if lost:
-        yield Change(f"drops {named(lost, 'predecessor')} of {app}")
+        yield change(f"drops {named(lost, 'predecessor')}{{of}}", app)
     for name in sorted(old.keys() & new.keys()):
         if old[name] != new[name]:
             texts = f"{limit_text(old[name])}, then {limit_text(new[name])}"
-            yield Change(f"changes the limit of predecessor {name} of {app}: {texts}", (app, name))
+            yield change(f"changes the limit of predecessor {name}{{of}}: {texts}", app, (app, name))
     if more:
-        yield Change(f"adds {named(more, 'predecessor')} to {app}", is_loss=False)
+        yield change(f"adds {named(more, 'predecessor')}{{to}}", app, is_loss=False)
 
 
 def limit_text(hours: int | None) -> str:

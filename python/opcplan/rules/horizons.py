@@ -6,7 +6,7 @@ from collections import defaultdict
 from collections.abc import Callable, Collection
 from typing import NamedTuple
 
-from opcplan.rules import naming
+from opcplan.rules import naming, nth_weekday
 from opcplan.rules.definitions import Calendar, Definitions, Period, RunCycle, WorkDays
 from opcplan.rules.moments import EPOCH, day_text
 from opcplan.rules.naming_words import few
@@ -26,6 +26,18 @@ class Shortfall(NamedTuple):
     kind: str
     about: tuple[object, ...]
     text: str
+
+    @property
+    def ends(self) -> int:
+        """The last day that it covers."""
+        day = self.about[-2]
+        assert isinstance(day, int), "the day before the plan's last one"
+        return day
+
+    @property
+    def names(self) -> tuple[str, ...]:
+        """What tells it from others, however far the plan goes."""
+        return (self.kind, *map(str, self.about[:-2]), day_text(self.ends))
 
 
 class Last(NamedTuple):
@@ -168,6 +180,8 @@ def way_on(name: str, period: Period, last: int) -> str:
     """The command that adds the intervals which a period lacks."""
     verb = form_of(period)
     to = day_text(last) if verb == "weeks" else day_text(last)[:7]
+    if verb is None and (nth := nth_weekday.of_origins([entry.origin for entry in period.entries])) is not None:
+        verb = f"weekday {nth.text}"
     if verb is None:
         return f"`./plan edit PLAN.db period {name} add ORIGIN END` adds an interval."
     return f"`./plan edit PLAN.db period {name} {verb} ..{to}` adds the rest."

@@ -32,6 +32,11 @@ class Act:
         deleted is no predecessor of others any more."""
         return self.after in "WD"
 
+    @property
+    def is_final(self) -> bool:
+        """Whether no change of a status gives the row back its status of before."""
+        return self.after in "CD"
+
 
 @dataclasses.dataclass(frozen=True)
 class Kind:

@@ -4,7 +4,8 @@
 It is read as opcplan reads it, a line at a time; of a long line or block no more is held than there."""
 
 import dataclasses
-from collections.abc import Iterator
+import re
+from collections.abc import Callable, Iterator
 from typing import NamedTuple, Protocol
 
 from opcplan.errors import Unreadable
@@ -17,6 +18,14 @@ HELD_OF_LINE, HELD_OF_BLOCK = MOST_OF_LINE + 2, MOST_OF_BLOCK + 1
 HELD_OF_DATA_LINE = 100
 PIECE = 65_536
 BLANKS = b" \t"
+NAMES = {name.encode("ascii") for name in statement_words.NAMES}
+# a byte that no statement has, and what a reader is shown for bytes
+ODD = re.compile(rb"[^\t -~]")
+SHOWN = {byte: "\t" if byte == 9 else f"\\x{byte:02x}" for byte in range(256) if not 32 <= byte < 127}
+# whole lines that are passed over
+SKIPPED = re.compile(rb"(?>(?:[ \t]{0,%d}|\*[^\n]{0,%d})\r?\n)+" % (MOST_OF_LINE, MOST_OF_LINE - 1))
+# of a text in memory: after so many bytes, or lines of data that begin as their end does, others may have a turn
+STEP, STEP_LINES = 65_536, 1000
 
 
 @dataclasses.dataclass(frozen=True)
@@ -31,6 +40,7 @@ class Bounds:
 
 
 OF_STREAM = Bounds(64 << 20, 1_000_000)
+Read = Callable[[bytes, int], tuple[statement_words.Statement | None, str]]
 BOUND = f"A stream of more than {OF_STREAM} isn't read."
 
 
@@ -116,8 +126,7 @@ class Item:
 
     def shown(self, most: int = 100) -> str:
         """The line for a reader: printable, and cut where it is long."""
-        text = "".join(chr(byte) if 32 <= byte < 127 else "\t" if byte == 9 else f"\\x{byte:02x}" for byte in self.text)
-        text = " ".join(text.split())
+        text = " ".join(self.text.decode("latin-1").translate(SHOWN).split())
         return text if len(text) <= most else text[: most - 3] + "..."
 
 
@@ -135,6 +144,64 @@ def items(source: Source) -> Iterator[Item]:
         if has_data:
             item.data, item.data_length, item.odd_ends = data_of(source)
         yield item
+
+
+def steps(text: bytes, name: str, read: Read | None = None, bounds: Bounds = OF_STREAM) -> Iterator[Item | None]:
+    """The items of a stream in memory, as `items` finds them, but without what is wrong with a line, and without
+    `odd_ends`; and None after each piece of it that has no item, so that its reader may do something else meanwhile.
+    `read` reads the lines that begin with the name of a statement, as `read_line` does. Raises Unreadable."""
+    if len(text) > bounds.size or text.count(b"\n") + (not text.endswith(b"\n")) > bounds.lines:
+        raise Unreadable(f"{name}: it has more than {bounds}, so it wasn't read to its end")
+    place, number, counted = 0, 1, 0
+    while place < len(text):
+        skipped = SKIPPED.match(text, place, place + STEP)
+        if skipped is not None:
+            place = skipped.end()
+            yield None
+            continue
+        end = text.find(b"\n", place)
+        after = end + 1 if end >= 0 else len(text)
+        tail = text[max(place, after - 2) : after]
+        length = after - place - len(tail) + len(tail.removesuffix(b"\n").removesuffix(b"\r"))
+        line, begin, place = text[place : place + min(length, HELD_OF_LINE)], place, after
+        word = first_word(line[:MOST_OF_LINE])
+        has_data = word == b"define"
+        if not has_data and is_skipped(line, length):  # the last line, without an end
+            continue
+        number, counted = number + text.count(b"\n", counted, begin), begin
+        found = (read or read_line)(line, length) if word in NAMES else (None, "")
+        item = Item(number, line, length, *found, has_data)
+        if has_data:
+            for ends in data_ends(text, place):
+                if ends is None:
+                    yield None
+                    continue
+                item.data, item.data_length = text[place : min(ends.begin, place + HELD_OF_BLOCK)], ends.begin - place
+                place = ends.after
+                break
+            else:
+                item.data_length, place = len(text) - place, len(text)
+        yield item
+
+
+class DataEnd(NamedTuple):
+    """Where the line that ends data begins, and the place behind it."""
+
+    begin: int
+    after: int
+
+
+def data_ends(text: bytes, begin: int) -> Iterator[DataEnd | None]:
+    """The end of the data that begin at a place, if they have one; and None after each piece that has none."""
+    at, looks = begin - 1, 0
+    while (at := text.find(b"\n/*", at)) >= 0:
+        rest = text[at + 3 : at + 5]
+        if rest[:1] in (b"", b"\n") or rest == b"\r\n" or rest == b"\r":
+            yield DataEnd(at + 1, min(len(text), at + 3 + len(rest[: rest.find(b"\n") + 1] or rest)))
+            return
+        at, looks = at + 1, looks + 1
+        if looks % STEP_LINES == 0:
+            yield None
 
 
 def data_of(source: Source) -> tuple[bytes | None, int, tuple[int, ...]]:
@@ -170,9 +237,10 @@ def read_line(line: bytes, length: int) -> tuple[statement_words.Statement | Non
     """The statement of a line and nothing, or None and why the line is none."""
     if length > MOST_OF_LINE:
         return None, f"the line has {length:,} bytes, but a statement has at most {MOST_OF_LINE:,}"
-    for place, byte in enumerate(line, 1):
-        if byte != 9 and not 32 <= byte <= 126:
-            return None, f"byte {place} of the line is {byte:02X} hexadecimal, which isn't a printable character"
+    odd = ODD.search(line)
+    if odd is not None:
+        return None, (f"byte {odd.end()} of the line is {odd.group()[0]:02X} hexadecimal, which isn't a printable "
+                      "character")
     return statement_words.read(line.decode("ascii").replace("\t", " ").split())
 
 

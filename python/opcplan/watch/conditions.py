@@ -1,20 +1,25 @@
-"""What the rules of a watch find in what it has seen. No I/O.
+"""What the rules of a watch find in what it has seen: a rule chooses kinds of needs (`opcplan.needs`). No I/O.
 
-A level says how bad something is: each time that it gets twice as bad, the level goes up by one."""
+The needs of a plan are those that its desk lists. A watch itself finds desks, agents and nodes of etcd that don't
+answer, because it may know several desks, and disks of its own machine."""
 
 import fnmatch
-import math
-from collections.abc import Iterator, Mapping
+from collections.abc import Iterable, Iterator, Mapping, Sequence
 from typing import Any, NamedTuple
 
-from opcplan.plans.waits import length_text
+from opcplan.needs import machines, need
+from opcplan.needs.facts import Away, Disk
+from opcplan.needs.need import KINDS, Need
+from opcplan.plans import actual
 from opcplan.rules import moments
 from opcplan.watch.rulebook import Rule
 from opcplan.watch.sightings import Sightings
 from opcplan.watch.state import Found, Looked
 
-WORST = 9
-MISSING = "the watch can't examine it: "
+# the kinds that a watch finds itself
+OWN = ("desk", "agent", "etcd")
+# a chain is first at risk and then late, under one name
+CHAINS = ("risk", "late")
 
 
 class Seen(NamedTuple):
@@ -26,24 +31,31 @@ class Seen(NamedTuple):
     disks: Mapping[str, float | str]
 
 
-def looked(rule: Rule, seen: Seen, now: float) -> Looked | None:
-    """What a rule finds at a moment, in seconds since 1970; None if what it is about can't be seen."""
-    match rule.on:
-        case "desk":
-            return Looked(tuple(away(rule, "desk", seen.sightings.desks, seen.sightings.why, now)))
-        case "disk":
-            return Looked(tuple(disk(rule, seen.disks[rule.path])))
+def looked(rule: Rule, seen: Seen, now: float, known: Iterable[str] = ()) -> Looked | None:
+    """What a rule finds at a moment, in seconds since 1970, with the keys of events that are known; None if nothing
+    that it is about can be seen."""
+    found = [*own(rule, seen, now)]
+    if rule.path:
+        return Looked(tuple(found))
     if seen.status is None:
+        return Looked(tuple(found), rule.kinds == ("desk",)) if "desk" in rule.kinds else None
+    listed = needs_of(seen.status)
+    found += [one for one in (of_need(rule, each, seen.status) for each in listed if each.kind not in OWN) if one]
+    found += shared_agents(rule, listed, found)
+    kept = frozenset(key for key in known if is_counted(name_of(rule, key), seen.status, listed))
+    return Looked(tuple(found), bool(seen.status["is_whole"]), kept)
+
+
+def needs_of(status: Mapping[str, Any]) -> Sequence[Need]:
+    """The needs that a desk lists. Raises KeyError, TypeError and ValueError."""
+    return [need.of_values(one) for one in status["needs"]]
+
+
+def of_plan(looked: Looked | None, plan: str) -> Looked | None:
+    """What a rule found, with the name of the plan in what to do first."""
+    if looked is None:
         return None
-    match rule.on:
-        case "agent":
-            last = {name: at for name, at in seen.sightings.agents.items() if matches(name, rule.names)}
-            return Looked(tuple(away(rule, "agent", last, {}, now)))
-        case "etcd":
-            return Looked(tuple(away(rule, "etcd", seen.sightings.members, seen.sightings.why, now)))
-        case "plan-end":
-            return Looked(tuple(plan_end(rule, seen.status)))
-    return Looked(tuple(of_rows(rule, seen.status)), bool(seen.status["is_whole"]))
+    return looked._replace(found=tuple(one._replace(first=one.first.replace("{plan}", plan)) for one in looked.found))
 
 
 def matches(name: str, patterns: tuple[str, ...]) -> bool:
@@ -51,82 +63,87 @@ def matches(name: str, patterns: tuple[str, ...]) -> bool:
     return any(fnmatch.fnmatchcase(name, one) for one in patterns)
 
 
-def doublings(value: float, unit: float) -> int:
-    """How often a unit can be doubled without exceeding a value, at most WORST; 0 if the value is less."""
-    return min(WORST, int(math.log2(value / unit))) if unit > 0 and value >= unit else 0
+def key_of(rule: Rule, one: Need) -> str:
+    """The key of the event that a need is to a rule: the name of the need, after that of the rule unless the rule is
+    named by its kind."""
+    return one.name if one.name.startswith(f"{rule.name}:") else f"{rule.name}:{one.name}"
 
 
-def moment_of(text: str) -> int:
-    """The moment of a desk's text. Raises ValueError."""
-    found = moments.moment_of(text)
-    if found is None:
-        raise ValueError(text)
-    return found
+def name_of(rule: Rule, key: str) -> str:
+    """The name of the need whose event has a key."""
+    rest = key.removeprefix(f"{rule.name}:")
+    return rest if rest.partition(":")[0] in KINDS else key
 
 
-def of_rows(rule: Rule, status: Mapping[str, Any]) -> Iterator[Found]:
-    """The rows that a rule on errors, late rows or risks finds. Raises KeyError, TypeError and ValueError."""
-    now = moment_of(status["now"])
-    for row in status["rows"]:
-        if not matches(row["app"], rule.apps):
-            continue
-        key, late = f"{rule.name}:{row['serial']}", now - moment_of(row["deadline"])
-        name = f"{row['app']} {row['ia'].replace('/', ' ')} (serial {row['serial']})"
-        waits = f"; it waits for {row['waits_for']}" if row["waits_for"] else ""
-        is_in_error = row["state"] == "in error"
-        if rule.on == "error" and is_in_error:
-            due = f"{'was' if row['late'] else 'is'} due {row['deadline'].replace('/', ' ')}"
-            yield Found(key, int(row["late"]), f"{name} is in error; it {due}")
-        elif rule.on == "late" and row["late"] and late >= rule.minutes:
-            text = f"{name} is late by {length_text(late)}, {row['state']}{waits}"
-            yield Found(key, doublings(late, max(rule.minutes, 1)), text)
-        elif rule.on == "risk" and (row["at_risk"] or row["late"] and not is_in_error):
-            text = f"{name} is late now{waits}" if row["late"] else risk_text(name, row, waits)
-            yield Found(key, int(row["late"]), text, row["at_risk"])
+def found_of(rule: Rule, one: Need, level: int, opens: bool = True) -> Found:
+    """What a need is to a rule."""
+    return Found(key_of(rule, one), level, one.text, opens, one.advice)
 
 
-def risk_text(name: str, row: Mapping[str, Any], waits: str) -> str:
-    """The sentence about a row that is at risk."""
-    due, end = row["deadline"].replace("/", " "), row["expected"]
-    least = "not before " if row["or_later"] else ""
-    likely = f", and is expected to end {least}{end.replace('/', ' ')}" if end else ""
-    return f"{name} is at risk: it is due {due}{likely}{waits}"
+# What a desk lists.
 
 
-def plan_end(rule: Rule, status: Mapping[str, Any]) -> Iterator[Found]:
-    """Finds that the current plan ends soon, or has ended. Raises ValueError and TypeError."""
-    if status["plan_end"] is None:
-        return
-    end = moment_of(status["plan_end"])
-    left = end - moment_of(status["now"])
-    if left > rule.hours * 60:
-        return
-    key, text = f"{rule.name}:plan", moments.moment_text(end)
-    if left <= 0:
-        yield Found(key, WORST + 1, f"the current plan ended {text}, {length_text(-left)} ago")
-    else:
-        yield Found(key, doublings(rule.hours * 60, left), f"the current plan ends {text}, in {length_text(left)}")
+def of_need(rule: Rule, one: Need, status: Mapping[str, Any]) -> Found | None:
+    """What a need is to a rule, None if it is nothing to it."""
+    is_chain = one.kind in CHAINS and any(kind in rule.kinds for kind in CHAINS)
+    if not is_chain and one.kind not in rule.kinds or one.apps and not any(matches(app, rule.apps) for app in one.apps):
+        return None
+    opens = one.kind in rule.kinds and is_due(rule, one, status)
+    is_only_risk = one.kind == "late" and "late" not in rule.kinds
+    return found_of(rule, one, min(one.level, 1) if is_only_risk else one.level, opens)
 
 
-def away(
-    rule: Rule, what: str, last: Mapping[str, float], why: Mapping[str, str], now: float
-) -> Iterator[Found]:
-    """Finds who hasn't answered for too long; `last` has since when, in seconds since 1970, and `why` the reason."""
-    for name, at in sorted(last.items()):
-        minutes = (now - at) / 60
-        if minutes >= rule.minutes and now > at:
-            more = f": {why[name]}" if why.get(name) else ""
-            text = f"the {what} {name} hasn't {'contacted its desk' if what == 'agent' else 'answered'} for " \
-                f"{length_text(int(minutes))}{more}"
-            yield Found(f"{rule.name}:{name}", doublings(minutes, max(rule.minutes, 1)), text)
+def is_due(rule: Rule, one: Need, status: Mapping[str, Any]) -> bool:
+    """Whether a need has lasted for the minutes of a rule, and is about an end within its hours or days."""
+    now = need.moment_of(status["now"])
+    # a clock that was set back says nothing of how long a need has lasted, so it is called at once
+    if one.since is not None and 0 <= now - one.since < rule.minutes_of(one.kind):
+        return False
+    if one.kind in ("plan-end", "roll") and rule.hours and status["plan_end"]:
+        return need.moment_of(status["plan_end"]) - now <= rule.hours * 60
+    if one.kind in ("definitions", "long-term-end") and rule.days:
+        day = moments.day_of(one.name.rpartition(":")[2])
+        return day is None or day - now // moments.DAY <= rule.days
+    return True
 
 
-def disk(rule: Rule, used: float | str) -> Iterator[Found]:
-    """Finds that a disk is nearly full, or that its use isn't known."""
-    key = f"{rule.name}:{rule.path}"
-    if isinstance(used, str):
-        yield Found(key, 0, f"{rule.path}: {MISSING}{used}")
-    elif used >= rule.percent:
-        free = max(100 - used, 0.1)
-        level = doublings(max(100 - rule.percent, 0.1), free)
-        yield Found(key, level, f"the disk of {rule.path} is full to {used:.1f}%")
+def is_counted(name: str, status: Mapping[str, Any], listed: Sequence[Need]) -> bool:
+    """Whether a need that isn't listed is counted by one that is: a chain may become part of another one, and the need
+    of an agent that is gone counts what that agent should start or report."""
+    kind, _, about = name.partition(":")
+    serial = about.partition(":")[0]
+    counts = str(status["followers"].get(serial, ""))
+    if kind == "late":
+        return bool(counts) or any(one.kind in CHAINS and str(one.serial) == serial for one in listed)
+    return kind in ("error", "unstarted", "unknown") and counts.startswith("agent:")
+
+
+# What a watch finds itself.
+
+
+def own(rule: Rule, seen: Seen, now: float) -> Iterator[Found]:
+    """The desks, agents, nodes of etcd and disks that a rule finds."""
+    sightings, status = seen.sightings, seen.status
+    listed = {} if status is None else {one.name: one for one in needs_of(status) if one.kind == "agent"}
+    last = {"desk": sightings.desks}
+    if status is not None:
+        last |= {"agent": sightings.agents, "etcd": sightings.members}
+    for kind in (kind for kind in OWN if kind in rule.kinds and kind in last):
+        for name, at in sorted(last[kind].items()):
+            minutes, unit = (now - at) / 60, rule.minutes_of(kind)
+            if minutes >= unit and now > at and (kind != "agent" or matches(name, rule.names)):
+                one = machines.of_away(kind, Away(name, actual.moment(at), sightings.why.get(name, "")), minutes, unit)
+                yield found_of(rule, listed.get(one.name, one), one.level)
+    if rule.path:
+        for one in machines.of_disk(Disk(rule.path, seen.disks[rule.path]), rule.percent):
+            yield found_of(rule, one, one.level)
+
+
+def shared_agents(rule: Rule, listed: Sequence[Need], found: Sequence[Found]) -> Iterator[Found]:
+    """The agents that share a user, which only a desk tells apart."""
+    keys = {one.key for one in found}
+    for one in listed:
+        name = one.name.partition(":")[2]
+        if one.kind == "agent" and "agent" in rule.kinds and "/" in name and matches(name, rule.names) \
+                and key_of(rule, one) not in keys:
+            yield found_of(rule, one, one.level)

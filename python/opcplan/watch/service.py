@@ -1,199 +1,22 @@
-"""./plan watch as a process: it queries desks, stores its state, and calls."""
+"""./plan watch as a process: its rules, its token, its lock, and what each of its options does."""
 
 import contextlib
-import dataclasses
 import fcntl
-import json
 import os
-import shutil
 import signal
-import sys
 import threading
 import time
-import urllib.parse
-from collections.abc import Callable, Iterator, Sequence
-from typing import Any
+from collections.abc import Iterator, Sequence
 
-from opcplan.cli import output
 from opcplan.desk import client
-from opcplan.errors import Error, UsageError
-from opcplan.watch import calls, conditions, rulebook
+from opcplan.errors import UsageError
+from opcplan.watch import acknowledgements, calls, checks, rulebook, tokens
+from opcplan.watch.driver import Settings as Settings, Watch as Watch, WatchNotStarted, print_message, stored
 from opcplan.watch.rulebook import Rulebook
-from opcplan.watch.sightings import Sightings
-from opcplan.watch.state import Call, InvalidState, State, of_kept
+from opcplan.watch.state import InvalidState
 
-# seconds to wait for a desk's answer
-PATIENCE = 30
-TAIL, LOCK = ".state", ".lock"
+LOCK = ".lock"
 MOST_BYTES = 1 << 20
-
-
-class WatchNotStarted(Error):
-    """Why a watch doesn't start."""
-
-
-@dataclasses.dataclass(frozen=True)
-class Settings:
-    """The options of a watch: the desks of one plan, with commas between them; the files of its rules and of its state;
-    how many seconds it rests between two looks; a moment in place of the desk's clock, or None."""
-
-    desk: str
-    rules: str
-    state: str
-    every: float = 30.0
-    now: str | None = None
-
-
-class Quick(client.Client):
-    """A client of one desk, with a short timeout."""
-
-    def connection(self) -> Any:
-        """A connection to the desk."""
-        return self.places[0].connection(PATIENCE)
-
-
-class Watch:
-    """Looks, and calls somebody. `clock` returns seconds since 1970. `moment` returns the moment for which desks are
-    queried, as statements have it, or None for the desk's clock."""
-
-    def __init__(self, given: Settings, rules: Rulebook, token: str | None, clock: Callable[[], float] = time.time,
-                 moment: Callable[[], str | None] | None = None) -> None:
-        self.given, self.rules, self.clock = given, rules, clock
-        self.moment = moment or (lambda: given.now)
-        self.desks = [Quick(name, token) for name in client.BETWEEN.split(given.desk)]
-        self.state, self.sightings = State(), Sightings()
-        self.said: dict[str, str] = {}  # the last message about each thing
-
-    def load(self) -> None:
-        """Loads the state that an earlier watch stored. Raises WatchNotStarted."""
-        try:
-            with open(self.given.state, encoding="utf-8") as file:
-                kept = json.load(file)
-            self.state, self.sightings = of_kept(kept["watch"]), Sightings.of_kept(kept["sightings"])
-        except FileNotFoundError:
-            return
-        except (InvalidState, KeyError, TypeError, ValueError, AttributeError) as error:
-            why = str(error) if isinstance(error, InvalidState) else "this isn't the state of a watch"
-            raise WatchNotStarted(f"{self.given.state}: {why}; move the file away to start without it (then calls may "
-                                  "be sent a second time)") from None
-        except OSError as error:
-            raise WatchNotStarted(f"{self.given.state}: it can't be read: {error.strerror}") from None
-        self.state.settle(self.rules.calls())
-
-    # One look.
-
-    def look(self) -> None:
-        """Looks once, and notes what is new, worse or over."""
-        answers = {desk.name: self.ask(desk) for desk in self.desks}
-        now = self.clock()
-        self.sightings.take(now, answers)
-        good = [one for one in answers.values() if not isinstance(one, str)]
-        status = max(good, key=lambda one: int(one["position"]), default=None)
-        disks = {rule.path: used_of(rule.path) for rule in self.rules.rules if rule.on == "disk"}
-        seen = conditions.Seen(status, self.sightings, disks)
-        for rule in self.rules.rules:
-            self.state.take(now, rule.name, rule.call, conditions.looked(rule, seen, now))
-        for name, one in answers.items():
-            self.say(name, one if isinstance(one, str) else "")
-
-    def ask(self, desk: Quick) -> dict[str, Any] | str:
-        """A desk's answer to `GET /status`, or why there is none."""
-        moment = self.moment()
-        query = f"?now={urllib.parse.quote(moment)}" if moment else ""
-        try:
-            found: dict[str, Any] = json.loads(desk.asked("GET", f"/status{query}")[1])
-            checked(found)
-        except (client.DeskUnreachable, client.RequestRefused) as why:
-            return str(why)
-        except (ValueError, TypeError, KeyError, AttributeError):
-            return "its answer isn't that of a desk; check the address"
-        return found
-
-    def say(self, what: str, wrong: str) -> None:
-        """Prints once what is wrong with something, and once that nothing is any more."""
-        if wrong != self.said.get(what, ""):
-            print_message(f"{what}: {wrong}" if wrong and not wrong.startswith(what)
-                          else wrong or f"{what}: all is well again")
-        self.said[what] = wrong
-
-    # Calls.
-
-    def keep(self) -> None:
-        """Stores the state. If that fails, prints it once; calls may then be sent again after a stop."""
-        kept = {"watch": self.state.kept(), "sightings": self.sightings.kept()}
-        try:
-            output.put(os.path.realpath(self.given.state), json.dumps(kept, indent=1).encode(), True)
-            self.say(self.given.state, "")
-        except OSError as error:
-            self.say(self.given.state, f"it can't be written: {error.strerror}; if the watch stops before it can, "
-                     "calls are sent a second time")
-        self.state.is_changed = False
-
-    def step(self, is_over: Callable[[], bool] = lambda: False) -> None:
-        """Looks, and calls."""
-        self.look()
-        self.keep()
-        self.call_all(is_over)
-
-    def call_all(self, is_over: Callable[[], bool] = lambda: False) -> None:
-        """Sends the calls that are due now. The state is stored before each one and after it."""
-        while not is_over() and (call := self.state.call(self.clock())) is not None:
-            if self.state.is_changed:
-                self.keep()
-            self.send(call)
-        if self.state.is_changed:
-            self.keep()
-
-    def send(self, call: Call) -> None:
-        """Sends a call once, and notes whether it was delivered."""
-        try:
-            calls.deliver(self.rules.targets[call.target], call, self.given.desk, self.rules.sendmail)
-        except calls.Undelivered as why:
-            self.state.failed(call.target, self.clock())
-            self.say(call.target, f"{why}; the watch tries again")
-            return
-        self.state.sent(call.target)
-        self.say(call.target, "")
-        print_message(f"called {call.target}: {calls.subject(call)}")
-
-    def shown(self) -> list[str]:
-        """What would be sent now, to whom and how, in lines. Nothing is sent."""
-        lines = []
-        while (call := self.state.call(self.clock())) is not None:
-            target = self.rules.targets[call.target]
-            way = f"mail to {target.mail}" if target.mail else f"POST {target.webhook}" if target.webhook else \
-                f"run {target.command[0]}"
-            lines += [f"{call.target}: {way}", *(f"  {line}" for line in calls.lines(call))]
-            self.state.sent(call.target)
-        return lines
-
-
-def checked(found: Any) -> None:
-    """Checks that an answer has the fields of `GET /status`. Raises KeyError, TypeError and ValueError."""
-    int(found["position"])
-    conditions.moment_of(found["now"])
-    for name, one in found["agents"].items():
-        int(one["looks"])
-    for one in found["etcd"]:
-        str(one["endpoint"]), bool(one["answers"])
-    for row in found["rows"]:
-        conditions.moment_of(row["deadline"]), row["app"], row["ia"], row["state"], row["late"], row["at_risk"]
-        row["serial"], row["waits_for"], row["expected"], row["or_later"]
-    bool(found["is_whole"])
-    if found["plan_end"] is not None:
-        conditions.moment_of(found["plan_end"])
-
-
-def used_of(path: str) -> float | str:
-    """How much of the disk of a path is used, in percent, or why that isn't known."""
-    try:
-        found = shutil.disk_usage(path)
-    except OSError as error:
-        return error.strerror or str(error)
-    return 100.0 * found.used / max(1, found.used + found.free)
-
-
-# A watch as a service.
 
 
 def rules_of(path: str) -> Rulebook:
@@ -211,16 +34,34 @@ def rules_of(path: str) -> Rulebook:
         raise rulebook.InvalidRules(f"watch: {path}: {why}") from None
 
 
-def made(given: Settings) -> Watch:
-    """A Watch with the stored state. Raises UsageError and WatchNotStarted."""
-    rules = rules_of(given.rules)
+def token() -> str | None:
+    """The token for the desk. Raises WatchNotStarted."""
     try:
-        found = Watch(given, rules, client.token())
-    except client.InvalidAddress as why:
-        raise UsageError(f"watch: {why}") from None
+        return tokens.private_token()
     except OSError as error:
         raise WatchNotStarted(f"watch: {error.filename}: the token can't be read: {error.strerror}; name another "
                               "file in OPCPLAN_TOKEN_FILE") from None
+
+
+def check(given: Settings, rules: Rulebook, targets: Sequence[str], is_strict: bool) -> None:
+    """Checks that some targets can be called. Raises InvalidRules."""
+    try:
+        unknown = checks.check(rules, targets, is_strict)
+    except rulebook.InvalidRules as why:
+        raise rulebook.InvalidRules(f"watch: {given.rules}: {why}") from None
+    for one in unknown:
+        print_message(f"{given.rules}: {one}; the watch begins, and tries to call all the same")
+
+
+def made(given: Settings, is_strict: bool = False) -> Watch:
+    """A Watch with the stored state, whose targets can all be called. Raises UsageError and WatchNotStarted."""
+    secret = token()
+    rules = rules_of(given.rules)
+    check(given, rules, list(rules.targets), is_strict)
+    try:
+        found = Watch(given, rules, secret)
+    except client.InvalidAddress as why:
+        raise UsageError(f"watch: {why}") from None
     found.load()
     return found
 
@@ -230,22 +71,23 @@ def locked(path: str) -> Iterator[None]:
     """A context in which no other watch uses a state file. Raises WatchNotStarted."""
     try:
         number = os.open(f"{path}{LOCK}", os.O_WRONLY | os.O_CREAT | os.O_CLOEXEC | os.O_NOFOLLOW, 0o600)
+        acknowledgements.prepare(path)
     except OSError as error:
         raise WatchNotStarted(f"watch: {path}: the state can't be stored there: {error.strerror}; name another file "
                               "with --state") from None
-    try:
-        fcntl.flock(number, fcntl.LOCK_EX | fcntl.LOCK_NB)
+    with os.fdopen(number, "w"):
+        try:
+            fcntl.flock(number, fcntl.LOCK_EX | fcntl.LOCK_NB)
+        except BlockingIOError:
+            raise WatchNotStarted(f"watch: {path}: another watch uses this state; end it, or name another file with "
+                                  "--state") from None
         yield
-    except BlockingIOError:
-        raise WatchNotStarted(f"watch: {path}: another watch uses this state; end it, or name another file with "
-                              "--state") from None
-    finally:
-        os.close(number)
 
 
 def tried(given: Settings) -> Sequence[str]:
     """What a watch would send now, in lines. Raises UsageError and WatchNotStarted."""
-    found = made(given)
+    found = made(given, is_strict=True)
+    found.is_trial = True
     found.look()
     return found.shown()
 
@@ -254,6 +96,7 @@ def once(given: Settings) -> bool:
     """Looks once and calls; whether all calls were delivered. Raises UsageError and WatchNotStarted."""
     with locked(given.state):
         found = made(given)
+        found.sightings.is_anew = False  # such runs follow each other like the looks of one watch
         found.step()
         return found.state.next_try() is None
 
@@ -261,24 +104,50 @@ def once(given: Settings) -> bool:
 def run(given: Settings) -> None:
     """Watches until a signal. Raises UsageError and WatchNotStarted."""
     stop = threading.Event()
-    for one in (signal.SIGTERM, signal.SIGINT):
-        signal.signal(one, lambda *_: stop.set())
     with locked(given.state):
         found = made(given)
+
+        def end(*_: object) -> None:
+            stop.set()
+            found.crew.wake()
+
+        for one in (signal.SIGTERM, signal.SIGINT):
+            signal.signal(one, end)
         print_message(f"watches {given.desk} by the rules in {given.rules}")
-        next_look = time.monotonic()
-        while not stop.is_set():
-            if time.monotonic() >= next_look:
-                found.step(stop.is_set)
-                next_look = time.monotonic() + given.every
-            else:
-                found.call_all(stop.is_set)
-            again = found.state.next_try()
-            rest = next_look - time.monotonic()
-            stop.wait(max(0.1, rest if again is None else min(rest, again - found.clock())))
+        found.run(stop.is_set)
 
 
-def print_message(text: str) -> None:
-    """Prints a line on standard error; errors of writing are ignored."""
-    with contextlib.suppress(OSError):
-        print(f"watch: {text}", file=sys.stderr, flush=True)
+def tested(given: Settings, name: str) -> str:
+    """Sends a test call to somebody; how long that took, as a sentence. Raises UsageError and Undelivered."""
+    rules = rules_of(given.rules)
+    if name not in rules.targets:
+        raise UsageError(f"watch: {given.rules}: there is no table [who.{name}]; it has "
+                         f"{', '.join(rules.targets)}")
+    check(given, rules, [name], True)
+    begun = time.monotonic()
+    caller = calls.From(given.plan or given.desk, given.desk, given.state, rules.sendmail)
+    try:
+        calls.deliver(rules.targets[name], calls.test(name, time.time()), caller)
+    except calls.Undelivered as why:
+        raise calls.Undelivered(f"watch: {name}: {why}") from None
+    return f"A test call was delivered to {name} ({rules.targets[name].way}) in {time.monotonic() - begun:.1f} s."
+
+
+def acknowledge(state: str, call: str) -> str:
+    """Acknowledges a call; what happens then, as a sentence. Raises UsageError and WatchNotStarted."""
+    if not acknowledgements.ID.fullmatch(call):
+        raise UsageError(f"watch: {call!r} isn't the id of a call; a call has its id in its last line, or as `id`")
+    try:
+        if not stored(state)[0].acknowledge(call):
+            raise WatchNotStarted(f"watch: {state}: call {call} is about nothing that is still the case; there is "
+                                  "nothing to acknowledge")
+        acknowledgements.put(state, call)
+    except InvalidState as why:
+        raise WatchNotStarted(f"watch: {state}: {why}; name the file that the watch has in --state") from None
+    except FileNotFoundError:
+        raise WatchNotStarted(f"watch: {state}: no watch uses this state; name the file that the watch has in "
+                              "--state") from None
+    except OSError as error:
+        raise WatchNotStarted(f"watch: {error.filename}: {error.strerror}; run the command as the user of the watch, "
+                              "or as root") from None
+    return f"Call {call} is acknowledged: the watch takes that with its next poll, and calls nobody else about it."

@@ -3,11 +3,10 @@ and the chain that decides when all is done."""
 
 from collections.abc import Mapping, Sequence
 
-from opcplan.plans import actual, forecast, late_ends
+from opcplan.plans import actual, forecast, late_ends, row_model
 from opcplan.plans.actual import Actual, Run, Usual
 from opcplan.plans.plan_file import Plan
 from opcplan.plans.waits import Row
-from opcplan.webpage import page_model
 from opcplan.webpage.page_values import Ran
 
 
@@ -23,7 +22,7 @@ def of_rows(
     if known is None:
         return None
     places = {row.serial: place for place, row in enumerate(rows)}
-    open_rows = [row for row in rows if row.place in page_model.OPEN]
+    open_rows = [row for row in rows if row.place in row_model.OPEN]
     is_open = {row.serial for row in open_rows}
     open_pairs = [pair for pair in pairs if is_open.issuperset(pair)]
     ends = late_ends.of_plan(plan, open_rows, open_pairs, known, now)

@@ -6,13 +6,14 @@ import os
 import time
 from collections.abc import Mapping, Sequence
 
-from opcplan.plans import actual, plan_file
+from opcplan.needs import found, loaded
+from opcplan.plans import actual, plan_file, row_model
 from opcplan.plans.plan_file import Plan
+from opcplan.plans.row_model import Model
 from opcplan.plans.waits import Row
-from opcplan.rules import horizons, moments, printable
+from opcplan.rules import moments, printable
 from opcplan.rules.definitions import Definitions, RunCycle
-from opcplan.webpage import page_actual, page_model, page_queries, page_values
-from opcplan.webpage.page_model import Model
+from opcplan.webpage import page_actual, page_queries, page_values
 from opcplan.webpage.page_queries import Lists
 
 MOST_CHANGES = 5000
@@ -109,17 +110,17 @@ def of_model(
         "cycles": cycles,
         "rows": packed(rows, model, {name: place for place, name in enumerate(names)},
                        {name: place for place, name in enumerate(cycles)}),
-        "state": "".join(model.states), "marks": marks(model), "holds": model.holds, "holdCount": model.hold_count,
-        "short": shortfalls(plan, defined), "jobs": jobs, "jobCount": job_count, "since": None,
+        "state": "".join(model.states), "marks": marks(model), "jobs": jobs, "jobCount": job_count,
+        "since": None,
     }
 
 
-def shortfalls(plan: Plan, defined: Definitions) -> list[str]:
-    """A sentence about each definition that ends before the long-term plan does."""
-    if not plan.is_created:
-        return []
-    found = horizons.shortfalls(defined, plan.meta["plan_end"] // moments.DAY, plan.meta["last_day"])
-    return [printable.fit(one.text) for one in found]
+def needs_of(plan: Plan, now: int, journal: str | None) -> page_values.Needs:
+    """What of a plan needs a person at a moment, without what only a desk knows; by a journal, else by the one beside
+    the plan if there is one."""
+    facts, lacks = loaded.of_file(plan, plan.path, now, journal)
+    values = found.of_facts(facts).values()
+    return {"needs": values["needs"], "followers": values["followers"], "is_whole": values["is_whole"], "lacks": lacks}
 
 
 def changed_since(plan: Plan, defined: Definitions, old: Plan, old_defined: Definitions) -> page_values.Since:
@@ -140,9 +141,10 @@ def data_of(
     last: int | None = None,
     since: str | None = None,
     journal: str | None = None,
+    has_needs: bool = True,
 ) -> page_values.Data:
-    """The data of the page for a plan file, at a moment, for days, since an older copy, and with a journal. Raises
-    Unreadable."""
+    """The data of the page for a plan file, at a moment, for days, since an older copy, with a journal, and with what
+    needs a person unless that comes from a desk. Raises Unreadable."""
     clock = moments.now()
     with contextlib.ExitStack() as files:
         plan = files.enter_context(plan_file.opened(path))
@@ -150,11 +152,13 @@ def data_of(
         now, note = moment_of(plan, now, clock)
         first, last = span(plan, now, first, last)
         rows, pairs = page_queries.occurrences(plan, first, last) if plan.is_created else ([], [])
-        model = page_model.of_rows(rows, pairs, now)
+        model = row_model.of_rows(rows, pairs, now)
         defined, lists = page_queries.applications(plan)
         data = of_model(plan, rows, model, defined, lists, now, first, last)
         apps = {name: place for place, (name, *_) in enumerate(data["apps"])}
         data["actual"] = page_actual.of_rows(plan, rows, pairs, apps, actual.of_journal(journal, plan), now)
+        if has_needs:
+            data["needs"] = needs_of(plan, now, journal)
         if old:
             data["since"] = changed_since(plan, defined, old, page_queries.applications(old)[0])
     data["made"], data["sample"], data["note"] = clock, now != clock, note

@@ -77,16 +77,25 @@ def row_of(data: Data, arrivals: list[int], place: int) -> tuple[str, int, int]:
     return data["apps"][rows["app"][place]][0], arrivals[place], arrivals[place] + rows["due"][place]
 
 
+def need_lines(data: Data) -> list[str]:
+    """What needs a person, for a browser without scripts; nothing if only a desk knows that."""
+    needs = data["needs"]["needs"] if "needs" in data else []
+    lines = [f"<p>Needs a person: {html.escape(str(one['text']))}. First: {html.escape(str(one['advice']))}.</p>"
+             for one in needs[:MOST_WITHOUT_SCRIPT]]
+    more = f"<p>These are {MOST_WITHOUT_SCRIPT} of {len(needs):,}.</p>"
+    return [*lines, more] if len(needs) > MOST_WITHOUT_SCRIPT else lines
+
+
 def without_script(data: Data) -> str:
-    """The text for a browser without scripts: how many rows are in each state, and those in error or late."""
+    """The text for a browser without scripts: how many rows are in each state, what needs a person, and the rows in
+    error or late."""
     arrivals = list(itertools.accumulate(data["rows"]["arrival"]))
     late = {place for place, mark in enumerate(data["marks"]) if mark == "l"}
     places = late | {place for place, state in enumerate(data["state"]) if state == "E"}
     rows = sorted(((row_of(data, arrivals, place), data["state"][place], place in late) for place in places),
                   key=lambda one: (one[0][2], one[0]))
     counts = ", ".join(f"{data['state'].count(state)} {words}" for state, words in STATES.items())
-    lines = [f"<p>{html.escape(title(data))}. Of the current plan: {counts}.</p>"]
-    lines += [f"<p>{html.escape(text)}</p>" for text in data["short"]]
+    lines = [f"<p>{html.escape(title(data))}. Of the current plan: {counts}.</p>", *need_lines(data)]
     if rows:
         lines.append("<table><tr><th>Application<th>Arrived<th>Due<th>Status</tr>")
         for (app, arrival, due), state, is_late in rows[:MOST_WITHOUT_SCRIPT]:

@@ -5,16 +5,6 @@ from typing import NamedTuple, NotRequired, TypedDict
 Limits = list[int | None]  # hours
 
 
-class Hold(NamedTuple):
-    """A row that holds others up, by its place: how many, how many of these are late, and which of them is due
-    first."""
-
-    place: int
-    held: int
-    late: int
-    first: int
-
-
 class Job(NamedTuple):
     """A job: its number, its statement, and its reply."""
 
@@ -105,8 +95,19 @@ class Ran(TypedDict):
     chain: list[int]
 
 
+class Needs(TypedDict):
+    """What needs a person, as `needs.need.Found.values` has it; `lacks` says why no journal could be read, empty if one
+    could."""
+
+    needs: list[dict[str, object]]
+    followers: dict[str, str]
+    is_whole: bool
+    lacks: str
+
+
 class Data(Definitions):
-    """All data of the page. A complete value also has the last four."""
+    """All data of the page. A complete value also has the last five, but the live page gets its needs from its
+    desk."""
 
     file: str
     now: int
@@ -117,13 +118,11 @@ class Data(Definitions):
     rows: Rows
     state: str
     marks: str
-    holds: list[Hold]
-    holdCount: int
-    short: list[str]
     jobs: list[Job]
     jobCount: int
     since: Since | None
     actual: NotRequired[Ran | None]
+    needs: NotRequired[Needs]
     made: NotRequired[int]
     sample: NotRequired[bool]
     note: NotRequired[str]

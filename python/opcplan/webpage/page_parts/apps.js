@@ -42,12 +42,23 @@ function appsPart(title, others, linkOf) {
 
 const statusOf = active => active === 1 ? 'active' : active === 0 ? 'pending' : 'no longer defined';
 
+/** The next run of an application: the first that is neither started nor over, wherever it is planned. */
+const nextRun = k => (perApp.get(k) || []).find(i => 'RBFL'.includes(state(i)));
+
+function nextLine(k) {
+  const i = nextRun(k);
+  if (i === undefined) return h('p', { class: 'quiet' }, 'No run is planned.');
+  return h('p', {}, 'Next run: ', h('button', { class: 'in', 'data-i': i, on: () => choose(i) },
+    dayName(ia[i]) + ' ' + clock(ia[i])), ', due ' + at(due[i]));
+}
+
 function drawApp(k) {
   const [title, active, calendar, cycles] = D.apps[k], rows = perApp.get(k) || [];
   const followers = D.apps.map((_, other) => other).filter(other => D.lists[other].includes(k));
   const isDefined = D.calendars[calendar][1] ? '' : ' (not defined)';
   fill('#card', close(), h('h2', {}, title),
     h('p', { class: 'quiet' }, statusOf(active) + ', calendar ' + D.calendars[calendar][0] + isDefined),
+    nextLine(k),
     part('Not complete', rows.filter(isOpen)),
     part('Next', rows.filter(i => state(i) === 'L' && ia[i] >= D.now), 8),
     part('Last', rows.filter(i => 'CH'.includes(state(i))).reverse(), 5),

@@ -55,7 +55,11 @@ const close = () => tool('close', 'Close', shut, { class: 'shut', 'aria-label': 
 
 function dueNote(i) {
   if (due[i] < ia[i]) return ' (before it arrives)';
-  return byHand(i) ? ' (a day after it arrives, as for all that are added by hand)' : '';
+  if (!byHand(i)) return '';
+  const usual = usualDue(i);
+  const more = usual === null ? '' : '; it is usually due ' +
+    (dayOf(usual) === dayOf(ia[i]) ? '' : dayName(usual) + ' ') + clock(usual);
+  return ' (a day after it arrives, as for all that are added by hand' + more + ')';
 }
 
 function drawCard(i) {

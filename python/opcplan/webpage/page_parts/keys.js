@@ -6,15 +6,10 @@ function drawTop() {
   $('#file').textContent = D.file;
   fill('#asof', 'as of ', h('b', {}, dayName(D.now) + ' ' + year(D.now) + ' ' + clock(D.now)),
     created ? ' · planned ' + date(first) + ' to ' + date(last) : '');
-  const isPast = created && !D.note && D.plan.end <= D.now;
-  const notes = [D.note, isPast ? 'The current plan ended ' + at(D.plan.end) +
-    ': what arrives after that isn’t in it until dp-extend.' : ''].filter(Boolean);
-  $('#note').hidden = !notes.length;
-  $('#note').textContent = notes.join(' ');
-  $('#short').hidden = !D.short.length;
-  $('#short').replaceChildren(...D.short.map(text => h('li', {}, text)));
+  $('#note').hidden = !D.note;
+  $('#note').textContent = D.note;
   if (D.apps.length <= 2000) $('#names').append(...D.apps.map(one => h('option', { value: one[0] })));
-  if (!created) for (const part of ['#needs', '#next', '#day']) $(part).hidden = true;
+  if (!created) for (const part of ['#next', '#day']) $(part).hidden = true;
 }
 
 /** Says how old the page is, by the viewer's clock; the page itself keeps its moment. */
@@ -172,7 +167,7 @@ function listen() {
   $('#lines').addEventListener('mouseleave', () => showArrows(view.pick));
   $('#lines').addEventListener('focusin', event => { if (rowOf(event)?.matches(':focus-visible')) look(event); });
   $('#grid').addEventListener('click', event => {
-    const cell = event.target.closest('td[data-d]');
+    const cell = event.target.closest('td[data-d], [data-day]');
     if (cell) chooseCell(cell);
   });
   $('#find').addEventListener('input', find);

@@ -10,20 +10,33 @@ const allows = (act, i) => desk.acts[act].from.includes(statusOfRow(i)) && !(act
 
 const streamName = i => '--app ' + name(i) + ' --ia ' + isoDay(dayOf(ia[i])) + '/' + clock(ia[i]);
 
-/** A row's buttons. Each keeps its place, whether it is allowed or not, so that a second press hits no other. */
+// in the order of the buttons: what can be undone comes first, and for what is in error that is Reset
+const IN_ORDER = ['reset', 'start', 'fail', 'complete', 'delete'];
+
+/** What is kept of a row; not a question whether it is to be done if the row's status is another by now. */
+function keptOf(i) {
+  const kept = answers.get(serial[i]) || {};
+  return kept.sure && kept.of !== statusOfRow(i) ? {} : kept;
+}
+
+/** The button of an act. Each keeps its place, whether it is allowed or not, so that a second press hits no other. */
+function actButton(i, act, kept) {
+  const isSure = kept.sure === act;
+  return tool('act ' + act, capital(act) + (isSure ? ': sure?' : ''), event => press(i, act, event), {
+    class: isSure ? 'sure' : '', disabled: kept.busy || !allows(act, i) ? '' : undefined, 'data-act': act, 'data-i': i });
+}
+
+/** A row's buttons: first those of what can be undone, and apart from them the others. */
 function actsOf(i) {
   if (!may('operate') || !isInPlan(i)) return '';
   for (const [number, one] of answers) if (one.sure && number !== serial[i]) answers.delete(number);
-  const kept = answers.get(serial[i]) || {};
-  const buttons = Object.keys(desk.acts).map(act => {
-    const isSure = kept.sure === act, text = isSure ? 'Delete: sure?' : capital(act);
-    return tool('act ' + act, text, () => press(i, act), { class: isSure ? 'sure' : '',
-      disabled: kept.busy || !allows(act, i) ? '' : undefined, 'data-act': act, 'data-i': i });
-  });
-  const text = kept.text || [];
-  return h('div', { class: 'acts', role: 'group', 'aria-label': 'Actions' },
-    h('p', { class: 'answer ' + (kept.look || ''), tabindex: -1, id: 'answer' }, text),
-    h('div', { class: 'buttons' }, buttons));
+  const kept = keptOf(i), buttons = isFinal => IN_ORDER.filter(act => desk.acts[act].final === isFinal)
+    .map(act => actButton(i, act, kept));
+  return h('div', { class: 'acts', role: 'group', 'aria-label': 'Actions', tabindex: -1, id: 'acts' },
+    h('p', { class: 'answer ' + (kept.look || ''), tabindex: -1, id: 'answer' }, kept.text || []),
+    h('div', { class: 'buttons' }, buttons(false)),
+    h('div', { class: 'buttons final', role: 'group', 'aria-labelledby': 'final' },
+      h('span', { id: 'final' }, 'Can’t be undone'), buttons(true)));
 }
 inCard.push(actsOf);
 
@@ -39,17 +52,25 @@ function answerOf(number, kept) {
     : rowName(rowOfSerial(number)) + ': ' + plainText(kept.text));
 }
 
-/** A press of a button. Delete needs a second press. */
-async function press(i, act) {
-  const number = serial[i], kept = answers.get(number) || {};
+const WARNINGS = { complete: { E: 'Its job ended in error, and this says all the same that its work is done. ' } };
+
+/** What is said before an act that can't be undone: what it means, and who waits for the row. */
+function warning(i, act) {
+  const told = WARNINGS[act]?.[statusOfRow(i)] ?? '', waits = asText(whoWaits(i)) || 'Nothing waits for it';
+  return [waits + '. ' + told + 'It can’t be undone: press “' + capital(act) + '” once more to do it.'];
+}
+
+/** A press of a button. What can't be undone needs a second press, which the second click of a double one isn't. */
+async function press(i, act, event) {
+  const number = serial[i], kept = keptOf(i), text = 'cp-' + act + ' ' + streamName(i);
   if (kept.busy) return;
-  if (act === 'delete' && kept.sure !== 'delete') {
-    const waiting = behind(i).length;
-    answerOf(number, { sure: 'delete', look: 'is-late', text: ['Press “Delete” once more to delete it' +
-      (waiting ? '; ' + many(waiting, 'other row waits', 'other rows wait') + ' for it.' : '.')] });
-    return;
+  if (desk.acts[act].final && kept.open !== text) {
+    if (kept.sure !== act) {
+      return answerOf(number, { sure: act, of: statusOfRow(i), look: 'is-late', text: warning(i, act) });
+    }
+    if (event.detail > 1) return;
   }
-  const text = 'cp-' + act + ' ' + streamName(i), key = kept.open === text ? kept.key : newKey();
+  const key = kept.open === text ? kept.key : newKey();
   ownKeys.add(key);
   answerOf(number, { busy: true, text: ['Sent, waiting for the answer …'] });
   const found = await ask(text, key);

@@ -10,21 +10,34 @@ const newKey = () => Array.from(crypto.getRandomValues(new Uint8Array(16)),
   byte => byte.toString(16).padStart(2, '0')).join('');
 
 /** The desk's answer to a statement: its `lines`, or in `wrong` why there are none; `isOpen` if it may have been done
- * all the same. The statement is sent under its key until it is answered, so that it is done once. */
+ * all the same. */
 async function ask(text, key, tag) {
-  const headers = { 'X-Opcplan': 'desk', 'Content-Type': 'text/plain', Accept: 'application/x-ndjson' };
+  const found = await sendTo('/statements', text + '\n', { 'Content-Type': 'text/plain',
+    Accept: 'application/x-ndjson' }, key, tag);
+  if (found.told !== undefined) found.lines = found.told.trim().split('\n').map(line => JSON.parse(line));
+  return found;
+}
+
+/** The desk's answer to an act or a preview: its `act`, `why_not`, `answers` and so on, or what `ask` has in `wrong`. */
+async function askAct(asked, key, tag) {
+  const found = await sendTo('/acts', JSON.stringify(asked), { 'Content-Type': 'application/json' }, key, tag);
+  return found.told === undefined ? found : { ...JSON.parse(found.told), status: found.status, tag: found.tag };
+}
+
+/** Sends a body until it is answered, under its key, so that it is done once. */
+async function sendTo(path, body, heads, key, tag) {
+  const headers = { 'X-Opcplan': 'desk', ...heads };
   if (key) headers['Idempotency-Key'] = key;
   if (tag) headers['If-Match'] = tag;
   let wrong = '';
   for (const seconds of [0, ...RESTS]) {
     await pause(seconds);
     try {
-      const found = await fetch('/statements', { method: 'POST', body: text + '\n', headers, redirect: 'error' });
+      const found = await fetch(path, { method: 'POST', body, headers, redirect: 'error' });
       const told = await found.text();
       if (found.ok) {
         if (live.lost) lookAfter();
-        const lines = told.trim().split('\n').map(line => JSON.parse(line));
-        return { status: 200, lines, tag: found.headers.get('ETag') };
+        return { status: 200, told, tag: found.headers.get('ETag') };
       }
       wrong = told.trim();
       if (found.status !== 503) return { status: found.status, wrong: sentence(found.status, wrong) };

@@ -79,8 +79,10 @@ function fetchRows() {
 async function fetchNow() {
   Object.assign(live, { isOld: false, isFetching: true });
   const begun = performance.now(), found = await fetchedRows(live.position);
+  live.isFetching = false;
   if (found) takeFetched(found);
-  Object.assign(live, { isFetching: false, isOld: live.isOld || !found, failed: found ? 0 : live.failed + 1 });
+  Object.assign(live, { isOld: live.isOld || !found, failed: found ? 0 : live.failed + 1 });
+  if (listing.isOld || isBehind()) fetchNeeds();
   const rest = found ? Math.min(20000, (performance.now() - begun) / 2) : Math.min(10000, 500 * 2 ** live.failed);
   live.resting = setTimeout(() => {
     live.resting = 0;
@@ -103,7 +105,7 @@ async function fetchedRows(since) {
 }
 
 function takeFetched({ plan, desk: own }) {
-  Object.assign(desk, own);
+  Object.assign(desk, own, own.position < live.position ? { tag: desk.tag } : {});
   live.begun = Date.now();
   live.shown = own.position;
   drawAll(() => {
@@ -139,6 +141,7 @@ function onState({ tag, position }) {
   desk.tag = tag;
   if (position < live.shown) location.reload();
   else if (isAnew) fetchRows();
+  if (isBehind()) fetchNeeds();
 }
 
 /** Requests the desk's health, and listens again if no events come. */

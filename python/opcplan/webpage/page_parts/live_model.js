@@ -1,6 +1,5 @@
-// What follows from the rows' statuses at a moment: states, what is late, roots, what is held up.
+// What follows from the rows' statuses at a moment: states, what is late, roots, what is at risk.
 const ROOT_RANK = { E: 0, S: 1, R: 2, B: 3, F: 4 };
-const MOST_HELD = 5000, MOST_HEADS = 300;
 
 /** Gives a row of the current plan another status; `settle` finds whether a waiting row is ready.  */
 function setStatus(i, status) {
@@ -8,8 +7,8 @@ function setStatus(i, status) {
   D.state[i] = status === 'W' ? 'R' : status;
 }
 
-/** Finds what follows from the statuses at a moment: states, what is late, roots, what is at risk, what is held up. It
- *  goes through all rows in arrays of numbers, because a plan may have 200,000. */
+/** Finds what follows from the statuses at a moment: states, what is late, roots, what is at risk. It goes through all
+ *  rows in arrays of numbers, because a plan may have 200,000. */
 function settle(now) {
   D.now = now;
   if (typeof D.state === 'string') D.state = Array.from(D.state);
@@ -28,23 +27,20 @@ function settle(now) {
     D.state[i] = ia[i] > now ? 'F' : left[i] ? 'B' : 'R';
   }
   const waits = left.map(number => number > 0);
-  const heads = findRoots(open, waits, left);
+  findRoots(open, waits, left);
   for (let i = 0; i < rowCount; i++) {
     if (roots[i] >= 0 && !late.has(i) && (D.state[roots[i]] === 'E' || late.has(roots[i]))) risk.add(i);
   }
-  findHolds(heads, waits);
 }
 
-/** Gives each waiting row the worst of its roots: first those in error, then those started, then by deadline. Returns
- *  the rows that wait for nothing and have others waiting. */
+/** Gives each waiting row the worst of its roots: first those in error, then those started, then by deadline. */
 function findRoots(open, waits, left) {
   const rank = i => ROOT_RANK[D.state[i]];
   const isWorse = (a, b) => (rank(a) - rank(b) || due[a] - due[b] || a - b) < 0;
-  const heads = [];
+  const done = [];
   for (let i = 0; i < rowCount; i++) {
-    if (open[i] && !waits[i] && (after.get(i) || []).some(k => waits[k])) heads.push(i);
+    if (open[i] && !waits[i] && (after.get(i) || []).some(k => waits[k])) done.push(i);
   }
-  const done = heads.slice();
   while (done.length) {
     const i = done.pop(), root = roots[i] < 0 ? i : roots[i];
     for (const later of after.get(i) || []) {
@@ -53,35 +49,6 @@ function findRoots(open, waits, left) {
       if (!--left[later]) done.push(later);
     }
   }
-  return heads;
-}
-
-/** What waits for a row, also through others, without itself; cut soon after the most. */
-function reached(start, waits, seen, mark) {
-  const found = [], queue = [start];
-  seen[start] = mark;
-  while (queue.length && found.length < MOST_HELD) {
-    for (const i of after.get(queue.pop()) || []) {
-      if (!waits[i] || seen[i] === mark) continue;
-      seen[i] = mark;
-      found.push(i);
-      queue.push(i);
-    }
-  }
-  return found;
-}
-
-/** The rows that arrived, wait for nothing and hold others up, the worst first. */
-function findHolds(all, waits) {
-  const notError = i => +(state(i) !== 'E'), seen = new Int32Array(rowCount);
-  const heads = all.filter(i => 'ESR'.includes(state(i)))
-    .sort((a, b) => notError(a) - notError(b) || due[a] - due[b] || a - b);
-  D.holdCount = heads.length;
-  D.holds = heads.slice(0, MOST_HEADS).map((i, k) => {
-    const rows = reached(i, waits, seen, k + 1);
-    const first = rows.reduce((a, b) => (due[b] - due[a] || b - a) < 0 ? b : a);
-    return [i, rows.length, rows.filter(j => late.has(j)).length, first];
-  }).sort((a, b) => notError(a[0]) - notError(b[0]) || b[2] - a[2] || b[1] - a[1] || due[a[0]] - due[b[0]]);
 }
 
 /** The title of the tab, which says how bad it is. */

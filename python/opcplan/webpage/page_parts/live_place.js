@@ -84,7 +84,7 @@ function redraw(boxes, draw, isNew) {
     draw();
     for (const [, was, spare] of old) {
       if (isNew || !isSame(was, spare)) was.replaceChildren(...spare.childNodes);
-      was.className = spare.className;
+      Object.assign(was, { className: spare.className, hidden: spare.hidden });
     }
   } finally {
     for (const [box, was, spare] of old) {
@@ -116,7 +116,7 @@ function drawAll(change, isNew) {
 
 function drawTopAnew() {
   $('#names').replaceChildren();
-  for (const part of ['#needs', '#next', '#day']) $(part).hidden = false;
+  for (const part of ['#next', '#day']) $(part).hidden = false;
   drawTop();
 }
 

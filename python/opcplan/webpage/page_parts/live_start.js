@@ -14,14 +14,17 @@ function addLiveParts() {
   chooseWork(true);
 }
 
-/** Takes the key that leads to the buttons of the chosen row. */
+/** Takes the key that leads to the buttons of the chosen row: to the first one that can be undone, or that first
+ * shows what it would do, so that Enter does nothing for good. */
 function onActKey(event) {
   const isPlain = !event.ctrlKey && !event.metaKey && !event.altKey;
   if (event.key !== 'a' || !isPlain || event.target.matches('input, select, textarea')) return;
-  const button = $('.acts button:not([disabled])');
-  if (!button) return say(view.pick < 0 ? 'No row is chosen.' : 'Nothing can be done with it.');
+  if (!$('.acts button:not([disabled]), .verbs button:not([disabled])')) {
+    return say(view.pick < 0 ? 'No row is chosen.' : 'Nothing can be done with it.');
+  }
+  const button = $('.acts .buttons:not(.final) button:not([disabled]), .verbs .buttons button:not([disabled])');
   event.preventDefault();
-  button.focus();
+  (button || $('#acts')).focus();
 }
 
 addLiveParts();
@@ -35,6 +38,9 @@ else for (const [box, draw] of [['#changed', drawChanges], ['#card', showCard]])
 fit();
 hear();
 fetchLately();
+fetchNeeds();
+addEventListener('visibilitychange', fetchNeeds);
+setInterval(fetchNeeds, NEEDS_EVERY);
 setInterval(() => {
   if (clockNow() !== D.now) drawSoon();
   if (Date.now() - live.begun > HOUR) fetchRows();  // other days are shown by then

@@ -75,6 +75,21 @@ const isTrouble = i => state(i) === 'E' || late.has(i) || risk.has(i);
 const byHand = i => D.rows.cycle[i] < 0;
 const openBefore = i => (before.get(i) || []).filter(isOpen);
 const dayOf = minute => Math.floor(minute / DAY);
+
+/** When a row that was added by hand is usually due, or null: by the run cycle whose time is nearest to its arrival, as
+ * rules/usual_due.py has it. */
+function usualDue(i) {
+  const day = dayOf(ia[i]), found = [];
+  for (const [, kind, , , , time, days, minute, begins, ends] of D.apps[app(i)][3]) {
+    const isEver = begins <= day && (ends === null || day < ends && ends !== begins + 1);
+    if (kind === 'X' || minute === null || !isEver) continue;
+    for (const one of [day - 1, day, day + 1])
+      found.push([Math.abs(one * DAY + time - ia[i]), (one + days) * DAY + minute]);
+  }
+  found.sort((one, other) => one[0] - other[0] || one[1] - other[1]);
+  return found.length ? found[0][1] : null;
+}
+
 const lastShown = i => late.has(i) ? Math.max(D.now, ia[i] + 1) : Math.max(due[i], ia[i] + 1);
 
 const MOST_WALKED = 3000;

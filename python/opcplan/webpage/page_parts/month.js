@@ -61,7 +61,7 @@ function monthRow(k, cells, first, row) {
 function headRow(days) {
   const plain = D.calendars.findIndex(calendar => calendar[0] === D.plan.calendar);
   return h('tr', {}, h('th', { scope: 'col' }, 'Application'), days.map(day =>
-    h('th', { scope: 'col', class: (isFree(plain, day) ? 'free ' : '') + (isToday(day) ? 'today' : '') },
+    h('th', { scope: 'col', 'data-day': day, class: (isFree(plain, day) ? 'free ' : '') + (isToday(day) ? 'today' : '') },
       WEEKDAYS[dateOf(day * DAY).getUTCDay()].slice(0, 2), h('br'), String(dateOf(day * DAY).getUTCDate()))),
   h('th', { scope: 'col' }, 'All'));
 }
@@ -90,7 +90,8 @@ function drawMonthTools(run, idle) {
 
 function sumRow(sums, first) {
   return h('tr', { class: 'sum' }, h('th', { scope: 'row' }, isFiltered() ? 'All of these' : 'All applications'),
-    sums.map((sum, n) => h('td', { class: isToday(first + n) ? 'today' : '' }, sum ? String(sum) : '')),
+    sums.map((sum, n) => h('td', { 'data-day': first + n, tabindex: -1, class: isToday(first + n) ? 'today' : '' },
+      sum ? String(sum) : '')),
     h('td', {}, String(sums.reduce((x, y) => x + y, 0))));
 }
 
@@ -126,8 +127,16 @@ function drawMonth(isAgain) {
   if (!isAgain) requestAnimationFrame(scrollToToday);
 }
 
-/** Shows the day of a chosen cell, and its first occurrence. */
+/** Shows all of a day. */
+function openDay(day) {
+  view.kind = 'all';
+  showFrom(day * DAY);
+  say(dayName(day * DAY));
+}
+
+/** Shows the day of a chosen cell, and the first occurrence of its application; of a sum or a head the day. */
 function chooseCell(cell) {
+  if (cell.dataset.day) return openDay(+cell.dataset.day);
   const k = +cell.dataset.a, day = +cell.dataset.d;
   const first = (perApp.get(k) || []).find(i => dayOf(ia[i]) === day && !isGone(i));
   Object.assign(view, { from: day * DAY, kind: 'all', most: 400 });
@@ -137,13 +146,14 @@ function chooseCell(cell) {
   } else choose(first);
 }
 
-const CELLS = 'tbody button[data-a], td[data-d]';
+const CELLS = 'tbody button[data-a], td[data-d], td[data-day]';
 
 /** The cell, or the application's name in front of the cells, to which an arrow key leads. */
 function nextCell(cell, [across, down]) {
   const row = cell.closest('tr'), other = down > 0 ? row.nextElementSibling : row.previousElementSibling;
+  const day = cell.dataset.d || cell.dataset.day;
+  if (down) return other?.querySelector(day ? `td[data-d="${day}"], td[data-day="${day}"]` : 'button[data-a]');
   const cells = [...row.querySelectorAll(CELLS)], column = cells.indexOf(cell);
-  if (down) return other?.querySelectorAll(CELLS)[column];
   return cells[Math.min(Math.max(column + across, 0), cells.length - 1)];
 }
 

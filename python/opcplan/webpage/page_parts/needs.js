@@ -1,58 +1,59 @@
-// What needs somebody, each row once and the worst first; and beside it what may be started, and what arrives next.
-const MOST_NEEDS = 5;
+// What needs a person: the one list, drawn as the desk or ./plan page made it; and beside it what may be started, and
+// what arrives next.
+const MOST_NEEDS = 5, OVER = 9;
+const NAMED = /(\S+ \d{4}-\d\d-\d\d \d\d\.\d\d \(serial \d+\))/;
+/** The list, null as long as there is none; and what it was made from, or why there is none. */
+const needed = {
+  list: D.needs ?? null,
+  note: () => 'Made from the plan’s file ' + (D.needs.lacks ? 'alone: ' + D.needs.lacks : 'and its journal') +
+    '. A desk lists agents, machines and calls too.',
+};
 
 const byDue = (a, b) => due[a] - due[b] || a - b;
 
-/** What is in error, what is late, and what the late wait for: these rows, those that wait for each with the number of
- *  late ones among them, and those that are started in time and hold others up. What waits for several is under the
- *  worst. */
-function needsOf() {
-  const needed = new Set(), waiting = new Map(), busy = [];
-  for (let i = 0; i < rowCount; i++) {
-    const isLate = late.has(i), key = state(i);
-    if (!isLate && key !== 'E' && key !== 'S' || !isWanted(i)) continue;
-    if (isLate || key === 'E') needed.add(roots[i] >= 0 && isWanted(roots[i]) ? roots[i] : i);
-    else if (isWaitedFor(i)) busy.push(i);
+/** The moment of a word like 2026-11-25/06.00. */
+const momentOf = word => Date.parse(word.replace('/', 'T').replace('.', ':') + 'Z') / 60000;
+
+/** The row that a need is about, or undefined: it is about none, or the page hasn't got this row. */
+function rowOfNeed({ serial: number, app: title, ia: arrival }) {
+  const i = number === null ? undefined : rowOfSerial(number);
+  return i !== undefined && name(i) === title && ia[i] === momentOf(arrival) ? i : undefined;
+}
+
+/** The rows that needs count: those of each need by its name, by deadline. */
+function countedRows({ followers }) {
+  const found = new Map();
+  for (const [number, title] of Object.entries(followers)) {
+    const i = rowOfSerial(+number);
+    if (i !== undefined && isWanted(i)) put(found, title, i);
   }
-  for (const i of needed) waiting.set(i, { rows: [], late: 0 });
-  for (let i = 0; i < rowCount; i++) {
-    const found = roots[i] >= 0 && isWanted(i) ? waiting.get(roots[i]) : undefined;
-    if (!found) continue;
-    found.rows.push(i);
-    found.late += late.has(i);
-  }
-  const isError = i => +(state(i) === 'E'), of = i => waiting.get(i);
-  const rows = [...needed].sort((a, b) => isError(b) - isError(a) || of(b).late - of(a).late ||
-    late.has(b) - late.has(a) || of(b).rows.length - of(a).rows.length || byDue(a, b));
-  return { rows, needed, waiting, busy: busy.filter(i => !needed.has(i)).sort(byDue) };
+  for (const rows of found.values()) rows.sort(byDue);
+  return found;
 }
 
-/** Whether a row of the current plan waits for this one. */
-const isWaitedFor = i => (after.get(i) || []).some(k => 'BF'.includes(state(k)));
+/** A text in which words between backticks are code. */
+const withCode = text => text.split('`').map((part, k) => k % 2 ? h('code', {}, part) : part);
 
-let heldOf = null, held;
-/** How many rows a row holds up. */
-function heldBy(i) {
-  if (heldOf !== D.holds) [heldOf, held] = [D.holds, new Map(D.holds.map(([k, number]) => [k, number]))];
-  if (!held.has(i)) held.set(i, isWaitedFor(i) ? behind(i).length : 0);
-  return held.get(i);
+/** A row as needs name it. */
+const fullName = i => name(i) + ' ' + isoDay(dayOf(ia[i])) + ' ' + clock(ia[i]) + ' (serial ' + serial[i] + ')';
+
+/** A need's text, in which the rows that it names are buttons; without the need's own row, which is above it. */
+function needText(text, own) {
+  const isOwn = own !== undefined && text.startsWith(fullName(own));
+  const parts = (isOwn ? text.slice(fullName(own).length).trimStart() : capital(text)).split(NAMED);
+  return parts.map((part, k) => {
+    const i = k % 2 ? rowOfSerial(+part.match(/\d+(?=\)$)/)[0]) : undefined;
+    return i !== undefined && fullName(i) === part ? reference(i) : withCode(part);
+  });
 }
 
-/** How many wait for a row, where several do: `rows` are those of them that wait for nothing worse. */
-function heldText(i, rows) {
-  const number = heldBy(i), lates = rows.filter(k => late.has(k)).length;
-  const all = (number > 5000 ? 'over 5000' : number) + (number === 1 ? ' waits for it' : ' wait for it');
-  const part = rows.length >= number ? '' : isFiltered() ? ', ' + rows.length + ' of those that are shown'
-    : ', ' + rows.length + ' of them for nothing worse';
-  return all + part + (lates ? ', ' + lates + ' late' : '') + '; first due: ' + rowName(rows[0]) + ', by ' +
-    soon(due[rows[0]]);
-}
-
-/** The rows that wait for one, in a part that a click opens. */
-function waitingPart(i, rows) {
-  const lines = h('ul', { class: 'list' });
-  const part = h('details', { class: 'group', 'data-key': 'waiting for ' + serial[i] },
-    h('summary', {}, heldText(i, rows)), lines);
+/** The rows that a need counts, in a part that a click opens. */
+function countedPart(title, rows) {
+  const lines = h('ul', { class: 'list' }), lates = rows.filter(i => late.has(i)).length;
+  const part = h('details', { class: 'group', 'data-key': 'counted in ' + title },
+    h('summary', {}, 'Counts ' + rows.length + ' more' + (isFiltered() ? ' of those that are shown' : '') +
+      (lates ? ', ' + lates + ' late' : '') + '; first due: ' + rowName(rows[0]) + ', by ' + soon(due[rows[0]])),
+    lines);
   part.drawLines = () => {
     if (lines.children.length) return;
     lines.append(...rows.slice(0, MOST_LINES).map(dueLine), restLine(rows.length, MOST_LINES));
@@ -62,19 +63,20 @@ function waitingPart(i, rows) {
 }
 
 const dueLine = i => line(i, ['due ' + soon(due[i]), quiet(lateness(i))], why(i));
+const look = level => 'entry need' + (level > OVER ? ' over' : level ? ' worse' : '');
 
-/** A row that needs somebody: what is wrong, and what waits for it. */
-function needLine(i, rows) {
-  const [only] = rows, isOne = rows.length === 1 && heldBy(i) <= 1;
-  const reason = rootOf.has(i) ? why(i) : [WORD[state(i)] + ', ' + (state(i) === 'F' ? 'arrives ' : 'arrived ') +
-    soon(ia[i])];
-  const others = rows.length || isFiltered() ? 0 : heldBy(i);
-  const told = others ? ['; ' + others + (others === 1 ? ' waits' : ' wait') + ' for it, and for what is worse']
-    : isOne ? ['; ', h('span', { class: 'waits' }, reference(only)), ' waits for it, due ' + soon(due[only]) +
-      (late.has(only) ? ', ' + lateness(only) : '')] : [];
-  const entry = line(i, ['due ' + soon(due[i]), quiet(lateness(i))], [...reason, ...told]);
-  if (rows.length && !isOne) entry.append(waitingPart(i, rows));
-  return entry;
+/** A need: its row if it is about one, what is wrong, what to do first unless the next one says the same, and what it
+ *  counts. */
+function needLine(need, next, rows) {
+  const i = rowOfNeed(need), text = needText(need.text, i);
+  const since = need.since === null ? Infinity : momentOf(need.since);
+  const when = h('span', { class: 'when quiet' }, since > D.now ? '' : 'since ' + soon(since));
+  return h('li', { class: look(need.level), 'data-need': need.name },
+    i === undefined ? h('p', { class: 'what' }, h('span', {}, text), when)
+      : [h('button', { class: 'go', 'data-i': i, on: () => choose(i) }, badge(i), nameAndTime(i), when),
+        h('p', { class: 'why' }, text)],
+    next?.advice === need.advice ? '' : h('p', { class: 'why' }, 'First: ', withCode(need.advice), '.'),
+    rows.length ? countedPart(need.name, rows) : '');
 }
 
 /** The rows that were started in time and hold others up, in a part that a click opens. */
@@ -85,22 +87,41 @@ function busyPart(rows) {
     rows.length), h('ul', { class: 'list pane' }, lines, restLine(rows.length, MOST_LINES)));
 }
 
-function drawNeeds({ rows, waiting, busy }) {
-  const text = 'Nothing is in error, nothing is late, and nothing holds up what is late.';
-  fill('#needs', list('Needs you', rows, i => needLine(i, waiting.get(i).rows.sort(byDue)),
-    none(text, 'None of these is in error, is late, or holds up what is late.'), MOST_NEEDS), busyPart(busy));
+/** The rows that were started in time, have others waiting, and aren't in the list. */
+function busyRows(listed) {
+  const rows = [], isWaitedFor = i => (after.get(i) || []).some(k => 'BF'.includes(state(k)));
+  for (let i = 0; i < rowCount; i++) {
+    if (state(i) === 'S' && !late.has(i) && isWanted(i) && !listed.has(i) && isWaitedFor(i)) rows.push(i);
+  }
+  return rows.sort(byDue);
 }
 
-/** What may be started, by deadline, and what arrives next: of each application the next one. */
-function drawNext({ needed }) {
+/** Draws the list, and beside it what nobody has to repair. */
+function drawNeeds() {
+  const found = needed.list, note = needed.note();
+  const rows = found ? countedRows(found) : new Map(), of = need => rows.get(need.name) || [];
+  const shown = (found?.needs || []).filter(need => !isFiltered() || need.apps.some(matches) || of(need).length);
+  const listed = new Set([...shown.map(rowOfNeed), ...shown.flatMap(of)]);
+  const empty = found ? none('Nothing needs a person.', 'None of these needs a person.') : note;
+  const more = found && !found.is_whole ? h('p', { class: 'quiet beside' }, 'The list has the ' + found.needs.length +
+    ' worst; there are more.') : '';
+  $('#needs').hidden = !D.plan.created && !shown.length;
+  fill('#needs', list('Needs you', shown, (need, k, all) => needLine(need, all[k + 1], of(need)), empty, MOST_NEEDS),
+    more, found ? h('p', { class: 'quiet beside', id: 'about' }, note) : '', busyPart(busyRows(listed)));
+  drawNext(listed);
+}
+
+/** What may be started, by deadline, and what arrives next: of each application the next one; without the rows that the
+ *  list has. */
+function drawNext(listed) {
   const ready = [], next = new Map(), later = new Map();
   let elsewhere = 0;
   for (let i = 0; i < rowCount; i++) {
     const key = state(i);
     if (key !== 'R' && key !== 'F' || !isWanted(i)) continue;
-    if (needed.has(i)) elsewhere += key === 'R';
+    if (listed.has(i)) elsewhere += key === 'R';
     else if (key === 'R') ready.push(i);
-    else if (roots[i] >= 0 && needed.has(roots[i])) continue;
+    else if (roots[i] >= 0 && listed.has(roots[i])) continue;
     else if (next.has(app(i))) later.set(app(i), (later.get(app(i)) || 0) + 1);
     else next.set(app(i), i);
   }

@@ -15,7 +15,7 @@ function list(title, items, line, none, most, count = items.length) {
       view.whole.add(title);
       draw(MOST_LINES);
       lines.append(restLine(count, all));
-      lines.children[most]?.querySelector('button')?.focus();
+      lines.children[most]?.querySelector('button, summary')?.focus();
       event.target.remove();
     } }, all < count ? 'Show the first ' + all + ' of ' + count : 'Show all ' + count));
   }
@@ -88,8 +88,6 @@ const none = (text, ofFiltered) => isFiltered() ? ofFiltered : text;
 
 function drawNow() {
   drawTiles();
-  const needs = needsOf();
-  drawNeeds(needs);
-  drawNext(needs);
+  drawNeeds();
   drawEnds();
 }

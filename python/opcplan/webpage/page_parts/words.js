@@ -53,12 +53,13 @@ function lateness(i) {
 const ofRoot = i => WORD[state(i)] + (late.has(i) ? ', ' + lateness(i) : '');
 
 /** What waits for a row, as parts: texts, and numbers for rows. */
-function waiters(i) {
+function whoWaits(i) {
   const rows = behind(i);
-  if (!rows.length) return [];
-  if (rows.length === 1) return ['; ', rows[0], ' waits for it'];
-  return ['; ' + (rows.length >= MOST_WALKED - 1 ? MOST_WALKED + ' or more' : rows.length) + ' wait for it'];
+  if (rows.length < 2) return rows.length ? [rows[0], ' waits for it'] : [];
+  return [(rows.length >= MOST_WALKED - 1 ? MOST_WALKED + ' or more' : rows.length) + ' wait for it'];
 }
+
+const waiters = i => whoWaits(i).flatMap((part, n) => n ? [part] : ['; ', part]);
 
 /** Why a row has its state, as parts. */
 function why(i) {

@@ -1,17 +1,27 @@
 """What the rows of a plan mean at a moment: states, what is late, roots, what is held up. No SQL and no HTML."""
 
 from collections import defaultdict
-from collections.abc import Iterable, Mapping, Sequence
+from collections.abc import Callable, Iterable, Mapping, Sequence
 from dataclasses import dataclass, field
+from typing import NamedTuple
 
 from opcplan.plans.waits import Row
-from opcplan.webpage.page_values import Hold
 
 OPEN = "WSE"  # places in the current plan that are neither complete nor deleted
 COMPLETE = "CH"
 # the rank of a root by its state, the worst first
 RANK = {"E": 0, "S": 1, "R": 2, "B": 3, "F": 4}
 MOST_HELD, MOST_HEADS = 5000, 300
+
+
+class Hold(NamedTuple):
+    """A row that holds others up, by its place: how many, how many of these are late, and which of them is due
+    first."""
+
+    place: int
+    held: int
+    late: int
+    first: int
 
 
 @dataclass
@@ -36,13 +46,12 @@ def is_late(row: Row, now: int) -> bool:
 
 
 def of_rows(rows: Sequence[Row], pairs: Iterable[tuple[int, int]], now: int) -> Model:
-    """The model of rows, sorted by input arrival, and of their pairs of serials."""
+    """The model of rows, sorted by input arrival, and of their pairs of serials; without what holds others up."""
     model = of_waits(rows, pairs, now)
     model.at_risk = sorted(
         place for place, root in model.roots.items()
         if not model.is_late[place] and (model.states[root] == "E" or model.is_late[root])
     )
-    find_holds(model, rows)
     return model
 
 
@@ -76,11 +85,12 @@ def find_waits(model: Model) -> None:
 
 def find_roots(model: Model, rows: Sequence[Row]) -> None:
     """Gives each waiting row the worst of its roots: first those in error, then those started, then by deadline."""
+    model.roots = worst_roots(model, lambda place: (RANK[model.states[place]], rows[place].deadline, place))
 
-    def rank(place: int) -> tuple[int, int, int]:
-        return RANK[model.states[place]], rows[place].deadline, place
 
-    roots = model.roots
+def worst_roots(model: Model, rank: Callable[[int], tuple[int, ...]]) -> dict[int, int]:
+    """By waiting row the worst of its roots: the one with the least rank."""
+    roots: dict[int, int] = {}
     left = {place: len(waits) for place, waits in model.waits.items()}
     done = [place for place in model.behind if place not in model.waits]
     while done:
@@ -90,6 +100,7 @@ def find_roots(model: Model, rows: Sequence[Row]) -> None:
                 found = {roots.get(place, place) for place in model.waits[later]}
                 roots[later] = min(found, key=rank) if len(found) > 1 else found.pop()
                 done.append(later)
+    return roots
 
 
 def reached(start: int, steps: Mapping[int, Sequence[int]], most: int) -> set[int]:

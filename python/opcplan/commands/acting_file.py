@@ -1,0 +1,147 @@
+"""An act over the plan of a file."""
+
+import io
+import os
+import sys
+import time
+
+from opcplan.acts import loaded, previews, resolver, steps, undoing, verbs
+from opcplan.acts.previews import Preview
+from opcplan.acts.undoing import Done
+from opcplan.acts.verbs import Act, Ambiguous, NotDoable
+from opcplan.acts.world import World
+from opcplan.cli import words
+from opcplan.commands import acting, edit_change, run, send
+from opcplan.commands.acting import NotChosen, Settings
+from opcplan.errors import Error, Unreadable
+from opcplan.plans import begun_acts, job_numbers, journal, plan_file, printed_numbers
+from opcplan.plans.begun_acts import Begun
+from opcplan.plans.plan_file import Plan
+from opcplan.plans.program import built_program
+from opcplan.rules import moments, printable, statement_words, stream
+
+
+def done(settings: Settings, path: str) -> int:
+    """Does what is wanted, once it was shown and somebody said so; the exit status."""
+    run.ask_file(path, False)
+    name, wanted = os.path.realpath(path), settings.wanted.text
+    begun = begun_acts.find(name, wanted)
+    if begun is not None and not settings.is_dry:
+        left = goes_on(settings, path, begun)
+        if left is not None:
+            return left
+    before = plan_file.stamps(name)
+    found = previewed(settings, path)
+    for line in found.lines:
+        print(printable.fit(line))
+    sys.stdout.flush()
+    if settings.is_dry:
+        return 0
+    acting.agree(settings)
+    if plan_file.stamps(name) != before:
+        raise Error(f"{path}: nothing was done, because another program wrote to it meanwhile; type it again")
+    text = numbered(path, found)
+    begun_acts.note(name, wanted, Begun(text))
+    return sent(settings, path, text)
+
+
+def previewed(settings: Settings, path: str) -> Preview:
+    """What would be done, of the occurrence that is chosen if several fit. Raises Error."""
+    with plan_file.opened(path) as plan:
+        world = loaded.world_of(plan)
+        while True:
+            try:
+                act = act_of(settings, path, plan, world)
+                return previews.of_act(world, act)
+            except Ambiguous as several:
+                found = several.found
+                serials = [row.serial for row in found.several]
+                chosen = acting.chosen(settings, resolver.lines_of(found), serials, settings.wanted.of)
+                settings = chosen
+            except NotDoable as why:
+                raise NotChosen(f"{why}. Nothing was done") from None
+
+
+def act_of(settings: Settings, path: str, plan: Plan, world: World) -> Act:
+    """The act that is wanted. Raises Ambiguous, NotDoable and Unreadable."""
+    wanted = settings.wanted
+    if wanted.verb != "undo":
+        return verbs.act_of(world, wanted, moments.now())
+    if settings.job is not None:
+        kept = loaded.kept_job(plan, settings.job)
+        if kept is None:
+            raise NotDoable(f"{path} keeps no job {settings.job}")
+        if not kept.reply.startswith("ok"):
+            raise NotDoable(f"job {settings.job} was answered `{kept.reply}`, so it changed nothing")
+        return undoing.act_of(world, wanted, [kept], [])
+    entries = entries_of(settings, path)
+    chosen = undoing.last_of(entries, None) if wanted.entry is None else undoing.of_entry(entries, wanted.entry)
+    return undoing.act_of(world, wanted, chosen, entries)
+
+
+def entries_of(settings: Settings, path: str) -> list[Done]:
+    """The entries of the journal. Raises NotDoable and Unreadable."""
+    named = settings.journal or journal.beside(path)
+    if settings.journal is None and not os.path.isfile(named):
+        raise NotDoable(f"{path} has no journal beside it, and a plan doesn't keep which change was the last, nor what "
+                        "was before it; `--job N` takes the statement back that the plan keeps under job N, if that "
+                        "can be known")
+    return loaded.entries_of(named)
+
+
+def numbered(path: str, found: Preview) -> str:
+    """The stream with job numbers that nothing else has. Raises Unwritable and ChangeRefused."""
+    text = found.stream
+    with plan_file.opened(path) as plan:
+        numbers = printed_numbers.numbered(
+            path, f"{time.time_ns()} {text}", job_numbers.after_greatest(plan.db),
+            lambda first: edit_change.numbers_of(plan, len(found.act.steps), first))
+    return steps.numbered(found.act.steps, numbers)
+
+
+def goes_on(settings: Settings, path: str, begun: Begun) -> int | None:
+    """Goes on with an act that was begun: the exit status; None if nothing of it was done, so that it begins anew."""
+    name, wanted = os.path.realpath(path), settings.wanted.text
+    lines = [one.splitlines()[0] for one in statements_of(begun.stream)]
+    with plan_file.opened(path) as plan:
+        kept = sum(is_kept(plan, line) for line in lines)
+    if not kept:
+        begun_acts.drop(name, wanted)
+        return None
+    print(f"`{wanted}` was stopped: {kept} of its {len(lines)} statements {'is' if kept == 1 else 'are'} done.")
+    for line in lines[kept:]:
+        print(printable.fit(f"  left: {line}"))
+    sys.stdout.flush()
+    if kept < len(lines):
+        acting.agree(settings, "Go on?")
+    return sent(settings, path, begun.stream)
+
+
+def statements_of(text: str) -> list[str]:
+    """The statements of a stream, each with its data."""
+    found = [item.line for item in stream.items(stream.Source(io.BytesIO(text.encode()), "the act"))]
+    lines = text.splitlines(keepends=True)
+    return ["".join(lines[begin - 1:end - 1]) for begin, end in zip(found, [*found[1:], len(lines) + 1])]
+
+
+def is_kept(plan: Plan, line: str) -> bool:
+    """Whether a plan keeps a statement under its job number."""
+    statement, _ = statement_words.read(line.split(" "))
+    kept = loaded.kept_job(plan, statement.job) if statement is not None and statement.job is not None else None
+    return kept is not None and kept.line == line
+
+
+def sent(settings: Settings, path: str, text: str) -> int:
+    """Has opcplan do a stream over the plan, and prints its answers; the exit status."""
+    program = os.path.abspath(settings.program or built_program())
+    data = text.encode("ascii")
+    try:
+        ran = send.sent(program, path, data, 0)
+    except OSError as error:
+        raise Unreadable(f"{program}: it can't be run: {error.strerror}") from None
+    status = send.shown(data, ran, path=path)
+    if status in (0, 4):
+        begun_acts.drop(os.path.realpath(path), settings.wanted.text)
+    else:
+        words.print_message("type the same command again, and it goes on with what is left")
+    return status

@@ -1,0 +1,161 @@
+"""Bugs that a test has to catch: each is planted into a copy of the package, over which the test runs and has to fail.
+
+A bug is here if it once passed the tests beside it, or breaks a promise that only a process from outside can see."""
+
+import importlib.util
+import os
+import re
+import shutil
+import subprocess
+import sys
+import tempfile
+from pathlib import Path
+from typing import NamedTuple
+
+from support import TOP
+
+# what is copied; all else of the repository is linked
+COPIED = ("plan", "python", "tests")
+LONGEST = 1500  # seconds for one bug that hangs
+
+
+class Bug(NamedTuple):
+    """What is wrong, the file below python/opcplan with a text that it has once, the text with the bug, the test that
+    catches it, and what that test then shows, as a regular expression."""
+
+    name: str
+    file: str
+    old: str
+    new: str
+    test: str
+    shows: str
+
+
+BUGS = (
+    # the agent's jobs
+    Bug("root's groups are kept", "agent/runner.py", "extra_groups=user.groups)", "extra_groups=None)",
+        "test_agent_skin.Users.test_a_job_has_the_groups_of_its_user_and_no_others", r"Lists differ: \[4, 24, 27"),
+    Bug("a job lacks the groups of its user", "agent/runner.py", "os.getgrouplist(name, found.pw_gid))",
+        "[found.pw_gid])", "test_agent_skin.Users.test_a_user_with_groups_of_its_own", r"Lists differ: .*70001"),
+    Bug("SIGKILL to one process of a group", "agent/runner.py", "    signaled(job.pid, signal.SIGKILL)\n",
+        "    job.kill()\n", "test_agent_skin.Processes.test_at_its_limit_the_whole_group_ends",
+        r"Lists differ: \[[0-9, ]+\] != \[\]"),
+    Bug("SIGKILL at once to who ends by itself", "agent/runner.py", "while is_left and time", "while False and time",
+        "test_agent_skin.Processes.test_at_its_limit_the_whole_group_ends", "False is not true"),
+    Bug("the pause counts from the begin of a try", "agent/executor.py", "fromisoformat(one.ended).timestamp()",
+        "fromisoformat(one.began).timestamp()", "test_agent_jobs.Tries.test_a_pause_lasts_from_the_end_of_a_try",
+        "it is tried again within its pause"),
+    Bug("OPCPLAN_TOKEN_FILE in a job", "agent/runner.py", '"OPCPLAN_TOKEN_FILE", "CRED', '"CRED',
+        "test_agent_skin.Environments.test_a_token_in_a_file", r"Lists differ: \['OPCPLAN_TOKEN_FILE'\]"),
+    Bug("CREDENTIALS_DIRECTORY in a job", "agent/runner.py", ', "CREDENTIALS_DIRECTORY")', ")",
+        "test_agent_skin.Environments.test_a_token_in_a_file", r"Lists differ: \['CREDENTIALS_DIRECTORY'\]"),
+    # its settings
+    Bug("jobs.toml is compared by size", "agent/jobs.py", "text == self.text:", "len(text) == len(self.text or b''):",
+        "test_agent_trust.Settings.test_another_content_of_the_same_size_and_time_counts", "2 != 3"),
+    Bug("settings fall away with jobs.toml", "agent/jobs.py", "            if not self.has_settings:\n",
+        "            self.found, self.rules = {}, Rules()\n            if not self.has_settings:\n",
+        "test_agent_trust.Settings.test_settings_stay_in_force_whatever_becomes_of_the_file", "'root' != 'nobody'"),
+    Bug("an agent starts without its jobs.toml", "agent/remembered.py", "if self.paths & self.own and not",
+        "if False and not", "test_agent_trust.Start.test_a_folder_that_had_settings_and_has_none",
+        r"Tuples differ: \(None, "),
+    Bug("the group may write", "agent/trusted_paths.py", "stat.S_IWGRP | stat.S_IWOTH", "stat.S_IWOTH",
+        "test_agent_trust.Paths.test_a_mode_by_which_others_may_write", "mode='0o775'"),
+    Bug("a name is checked, and not what was opened", "agent/trusted_paths.py",
+        "    number = Walk(trusted).opened(path, READ)\n    try:\n",
+        "    ask(path, trusted)\n    number = os.open(path, os.O_RDONLY)\n    try:\n",
+        "test_agent_trust.Paths.test_a_name_that_is_exchanged_meanwhile", "what is evil was read"),
+    # what is stored, synced and sent
+    Bug("no sync before a rename", "plans/atomic_files.py", "        os.fsync(number)\n    os.replace",
+        "    os.replace", "test_agent_skin.Order.test_an_agent_stores_before_it_sends_and_before_it_runs",
+        "got its name before its content was synced"),
+    Bug("no sync of a name", "plans/atomic_files.py", "    sync_folder(os.path.dirname(path))\n", "",
+        "test_agent_skin.Order.test_an_agent_stores_before_it_sends_and_before_it_runs",
+        "the name of .* wasn't synced before the next send"),
+    Bug("no sync of a file that a command writes", "cli/output.py", "            os.fsync(target.fileno())\n", "",
+        "test_synced.Synced.test_a_file_that_is_written", "got its name before its content was synced"),
+    Bug("no sync of a backup", "plans/checked_copy.py", "        os.fsync(number)\n", "",
+        "test_synced.Synced.test_backup_and_restore", "got its name before its content was synced"),
+    Bug("no sync of the name of a pruned journal", "plans/journal_prune.py",
+        "        sync(os.path.dirname(path))\n", "", "test_synced.Synced.test_a_journal_that_is_pruned",
+        "the name of .* wasn't synced before the next end"),
+    Bug("a job begins before that is stored", "agent/runner.py", "    keep(folder, begun)\n", "",
+        "test_agent_skin.Order.test_a_runner_stores_that_the_job_begins_before_it_does", "Lists differ: .*'start'"),
+    Bug("a journal that isn't synced", "plans/journal.py", "'NORMAL' if is_copy else 'FULL'", "'NORMAL'",
+        "test_agent_skin.Order.test_a_journal_has_an_entry_on_the_disk_before_it_returns", "Tuples differ: .*'write'"),
+    # answers with a fault
+    Bug("roll takes a fault on the last line for done", "commands/roll.py",
+        'sum(not reply.startswith("fault") for reply in replies)', "len(replies)",
+        "test_roll.Roll.test_a_fault_in_place_of_the_last_answer_is_reported", "4 != 8"),
+    Bug("a client takes a fault on the last line for done", "desk/client.py",
+        'return last if last.startswith("fault") else ""', 'return ""', "test_faults.Faults.test_send",
+        "Tuples differ"),
+    Bug("an agent takes a fault for an answer", "agent/desk_queries.py", "if fault := client.fault_of(found):",
+        'if fault := "":', "test_agent_skin.Faults.test_a_fault_is_no_answer", "the desk answers `fault"),
+    Bug("a desk takes a fault for a reply", "desk/planner.py", 'line.startswith("fault") or not self', "not self",
+        "test_desk.Ends.test_a_statement_that_faults_each_time_stops_the_desk", r"Tuples differ: \(200"),
+    # several desks
+    Bug("digests aren't compared", "desk/digests.py", "if known.get(seq, digest) != digest), default",
+        "if False), default", "test_digest_states.States.test_walks_at_random_through_a_larger_world",
+        "is on, and not (held|stopped)"),
+    Bug("a copy's mark isn't compared", "desk/digests.py", "mark.jobs == plan.jobs", "mark.jobs <= plan.jobs",
+        "test_digest_states.Parts.test_what_a_plan_begins_with", "Start.seq=5"),
+    Bug("a stop isn't kept", "plans/journal.py", "UPDATE begun SET stopped = ?", "UPDATE begun SET stopped = 0 * ?",
+        "test_etcd_words.Kept.test_it_begins_where_the_plan_does", "LogStart.* != .* 700, 701, None"),
+    Bug("the keys of a stream end early", "plans/journal.py", 'f"{key}$")', 'f"{key}#1")',
+        "test_key_states.Parts.test_keys_of_a_journal_and_before_it", r"{1: Entry.* != {0: None"),
+    Bug("memory drops what the journal lacks", "desk/state.py", "while over < self.kept - self.recent_from and",
+        "while over < count and", "test_desk_states.States.test_walks_at_random_through_a_larger_world",
+        "the journal has replies up to entry"),
+    Bug("a copy while a change has no answer", "desk/snapshot.py", "if not stands.is_exact:", "if False:",
+        "test_desk_true.Positions.test_a_desk_that_begins_is_not_ahead_of_its_plan", "200 != 503"),
+    Bug("lists stay after a change", "desk/core.py", "                self.lists.changed()\n", "                pass\n",
+        "test_desk_lists.Kept.test_a_list_is_given_again_while_nothing_changes", "First differing element 0:\n'W'"),
+    # definitions
+    Bug("edit undefines a period in use", "commands/edit_period.py", "if is_gone and users:", "if False:",
+        "test_edit.Edit.test_the_last_interval_of_a_period_in_use_stays", r"Tuples differ: \(0, 'undefine"),
+)
+
+
+def why_passed(bug: Bug) -> str:
+    """Why a planted bug counts as not caught; empty if its test fails as it has to, and "skipped" if it can't run."""
+    with tempfile.TemporaryDirectory(prefix="planted-") as folder:
+        top = Path(folder)
+        copied(top)
+        path = top / "python" / "opcplan" / bug.file
+        text = path.read_text(encoding="utf-8")
+        if text.count(bug.old) != 1:
+            return f"{bug.file} has its text {text.count(bug.old)} times"
+        path.write_text(text.replace(bug.old, bug.new), encoding="utf-8")
+        Path(importlib.util.cache_from_source(str(path))).unlink(missing_ok=True)
+        ran = run(top, bug.test)
+    if "(skipped=" in ran.stderr:
+        return "skipped"
+    if ran.returncode == 0:
+        return f"{bug.test} passes"
+    if not re.search(bug.shows, ran.stderr):
+        return f"{bug.test} doesn't show `{bug.shows}`, but: {ran.stderr}"
+    return ""
+
+
+def run(top: Path, test: str) -> subprocess.CompletedProcess[str]:
+    """A test's run over a copy of the repository."""
+    words = [sys.executable, "-B", "-W", "ignore", "-m", "unittest", "--failfast", test]
+    return subprocess.run(words, cwd=top / "tests", capture_output=True, encoding="utf-8", check=False, timeout=LONGEST,
+                          env={**os.environ, "OPCPLAN": str(program())})
+
+
+def program() -> Path:
+    """The program that the tests take."""
+    return Path(os.environ.get("OPCPLAN") or TOP / "crates" / "opcplan" / "out" / "opcplan")
+
+
+def copied(top: Path) -> None:
+    """Puts a copy of the repository's package and tests into a folder, with what is compiled of them, and links to all
+    else."""
+    for one in TOP.iterdir():
+        if one.name == "python" or one.name == "tests":
+            shutil.copytree(one, top / one.name)
+        elif one.name in COPIED:
+            shutil.copy(one, top / one.name)
+        elif not one.name.startswith("."):
+            (top / one.name).symlink_to(one)

@@ -1,0 +1,345 @@
+"""./plan rerun, move, cancel, undo and so on: over a file and at a desk, stopped after each statement, and what they
+say if nothing is done."""
+
+import contextlib
+import io
+import json
+import os
+import sqlite3
+import subprocess
+import tempfile
+import unittest
+from pathlib import Path
+from unittest import mock
+
+from support import act_worlds, desks, expected, plans
+
+from opcplan import __main__ as program
+from opcplan.acts import steps, verbs
+from opcplan.acts.verbs import Intention
+from opcplan.acts.world import World
+from opcplan.desk import client
+
+import opcplan
+
+# PAY, then BANK, then MAIL, on each day
+PLAN = """define periods --job 1
+DAY,A,2026-01-01,1
+/*
+define applications --job 2
+PAY,A,
+BANK,A,
+MAIL,A,
+/*
+define run-cycles --job 3
+PAY,RC,N,DAY,3,1,2026-01-01,,06.00,0,22.00
+BANK,RC,N,DAY,3,1,2026-01-01,,07.00,0,23.00
+MAIL,RC,N,DAY,3,1,2026-01-01,,08.00,1,06.00
+/*
+define predecessors --job 4
+BANK,PAY
+MAIL,BANK
+/*
+ltp-create --from 2026-11-23 --to 2026-11-30 --job 5
+dp-extend --to 2026-11-25/00.00 --job 6
+""" + "".join(f"cp-{what} --app {app} --ia 2026-11-23/0{hour}.00 --job {number}\n" for hour, app, what, number in (
+    (6, "PAY", "start", 60), (6, "PAY", "complete", 61), (7, "BANK", "start", 70), (7, "BANK", "complete", 71),
+    (8, "MAIL", "start", 80), (8, "MAIL", "complete", 81)))
+# does the first statements of a stream, and is then killed
+STOPPED = """#!/bin/sh
+head -n %d | %s "$@" >/dev/null 2>&1
+kill -9 $$
+"""
+
+
+def plan(*words):
+    """What ./plan answers to its words, run in this process; it may print bytes too."""
+    out, err = (io.TextIOWrapper(io.BytesIO(), encoding="utf-8") for _ in "12")
+    with contextlib.redirect_stdout(out), contextlib.redirect_stderr(err):
+        status = program.status_of([str(word) for word in words])
+    texts = []
+    for one in (out, err):
+        one.flush()
+        texts.append(one.buffer.getvalue().decode())
+    return subprocess.CompletedProcess(words, status, *texts)
+
+
+class Case(unittest.TestCase):
+    def setUp(self):
+        room = tempfile.TemporaryDirectory(prefix="acting-")
+        self.addCleanup(room.cleanup)
+        self.room = Path(room.name)
+        given = mock.patch.dict(os.environ, {"XDG_STATE_HOME": str(self.room / "state")})
+        given.start()
+        self.addCleanup(given.stop)
+        os.environ.pop("OPCPLAN_DESK", None)
+        self.plan = plans.copy_of(plans.of_stream(PLAN), self.room)
+        self.words = ("--program", plans.PROGRAM)
+
+    def ask(self, verb, *words, status=0, more=("--yes",)):
+        """What a verb prints; its status is asked for."""
+        ran = plan(verb, self.plan, *words, *self.words, *more)
+        self.assertEqual(ran.returncode, status, (ran.stdout, ran.stderr))
+        return ran
+
+    def assert_plan(self, *lines):
+        """Asks that the plan has what these statements make of the first one, whatever their job numbers are."""
+        stream = "".join(f"{line} --job {number}\n" for number, line in enumerate(lines, 700_000_000))
+        self.assertEqual(expected.of_file(self.plan), expected.of_stream(PLAN, stream))
+
+    def jobs(self, asked="count(*)"):
+        """How many jobs the plan keeps, or something else of them."""
+        with contextlib.closing(sqlite3.connect(plans.copy_of(self.plan, self.room, "jobs.db"))) as db:
+            return db.execute(f"SELECT {asked} FROM job").fetchone()[0]
+
+    def states(self):
+        """The notes of acts that were begun."""
+        folder = self.room / "state" / "opcplan" / "acts"
+        return sorted(os.listdir(folder)) if folder.exists() else []
+
+
+@unittest.skipUnless(plans.PROGRAM.exists(), "opcplan is not built")
+class OverAFile(Case):
+    def test_a_week_without_a_serial(self):
+        """Worked by hand from the rules of the statements."""
+        self.ask("rerun", "pay", "2026-11-23")
+        self.ask("complete", "MAIL", "2026-11-24", "--chain")
+        self.ask("cancel", "PAY", "2026-11-28")
+        self.ask("move", "BANK", "2026-11-29/07.00", "09.30")
+        self.ask("add", "MAIL", "2026-11-24", "12.00")
+        self.ask("start", "PAY", "06.01")
+        self.ask("fail", "PAY")
+        self.ask("reset", "PAY")
+        key = "--app PAY --ia 2026-11-23/06.01"
+        lines = [f"cp-add {key}"]
+        for app, hour in (("PAY", 6), ("BANK", 7), ("MAIL", 8)):
+            lines += [f"cp-{what} --app {app} --ia 2026-11-24/0{hour}.00" for what in ("start", "complete")]
+        lines += ["ltp-delete --app PAY --ia 2026-11-28/06.00"]
+        first = "".join(f"{line} --job {number}\n" for number, line in enumerate(lines, 700_000_000))
+        moved = ("define run-cycles --job 800000001\nBANK,NOT1,X,DAY,3,1,2026-11-29,2026-11-30,07.00,,\n"
+                 "BANK,ONCE1,N,DAY,3,1,2026-11-29,2026-11-30,09.30,0,23.00\n"
+                 "BANK,RC,N,DAY,3,1,2026-01-01,,07.00,0,23.00\n/*\nltp-modify-one --app BANK --job 800000002\n")
+        last = "".join(f"{line} --job {number}\n" for number, line in enumerate(
+            ["cp-add --app MAIL --ia 2026-11-24/12.00", *(f"cp-{what} {key}" for what in ("start", "fail", "reset"))],
+            800_000_003))
+        self.assertEqual(expected.of_file(self.plan), expected.of_stream(PLAN, first, moved, last))
+        self.assertEqual(self.states(), [])
+
+    def test_it_shows_and_does_nothing(self):
+        before = plans.prints(self.plan)
+        ran = self.ask("rerun", "PAY", "2026-11-23", "--with-followers", more=("--dry-run",))
+        self.assertIn("PAY 2026-11-23 06.01 is made", ran.stdout)
+        self.assertIn("MAIL 2026-11-23 08.01 waits for BANK 2026-11-23 07.01", ran.stdout)
+        self.assertIn("it is usually due 22.00", ran.stdout)
+        self.assertIn("3 statements:", ran.stdout)
+        ran = self.ask("rerun", "PAY", "2026-11-23", more=(), status=1)
+        self.assertIn("nothing was done, because there is no terminal to ask on", ran.stderr)
+        self.assertEqual(plans.prints(self.plan), before)
+
+    def test_several_and_none(self):
+        for words, status, out, err in (
+            (("start", "MAIL"), 1, "", "MAIL 2026-11-24 08.00 waits for BANK 2026-11-24 07.00"),
+            (("rerun", "PAX"), 1, "", "isn't defined (did you mean PAY?)"),
+            (("cancel", "PAY", "2026-12-24"), 1, "", "the last before it is 2026-11-30 06.00"),
+            (("start", "PAY", "2026-11-23"), 1, "", "is complete, in the current plan, so `start` isn't for it"),
+            (("move", "PAY", "2026-11-24", "2026-12-24"), 1, "", "the plan goes from 2026-11-23 to 2026-11-30"),
+            (("add", "PAY", "2026-11-24/06.00"), 1, "", "PAY 2026-11-24/06.00 is there already"),
+            (("undo",), 1, "", "has no journal beside it"),
+            (("move", "PAY"), 2, "", "needs the occurrence, and where it is moved to"),
+            (("add", "PAY"), 2, "", "needs an application, and the moment"),
+            (("start", "P-Y"), 2, "", "names no occurrence"), (("start",), 2, "", "needs the occurrence"),
+            (("move", "PAY", "2026-11-24", "06.70"), 2, "", "there is no 06.70"),
+        ):
+            ran = self.ask(*words, status=status)
+            self.assertIn(err, ran.stderr, words)
+            self.assertEqual((ran.stdout, ran.stderr.count("\n")), (out, 1), (words, ran.stderr))
+        ran = self.ask("cancel", "BANK", "07.00", status=0)
+        self.assertIn("BANK 2026-11-24 07.00 waits", ran.stdout)
+        ran = self.ask("cancel", "BANK", "07.00", status=1)
+        self.assertEqual(ran.stdout.splitlines()[0], "1  BANK 2026-11-25 07.00  planned, serial 8")
+        self.assertIn("6 occurrences fit BANK 07.00; name one of them", ran.stderr)
+
+    def test_the_same_call_goes_on_wherever_it_was_stopped(self):
+        calls = (("rerun", "PAY", "2026-11-23", "--with-followers"), ("complete", "MAIL", "2026-11-24", "--chain"),
+                 ("move", "BANK", "2026-11-24", "2026-11-28/09.00"))
+        wanted = {"rerun": Intention("rerun", "PAY 2026-11-23", followers=True),
+                  "complete": Intention("complete", "MAIL 2026-11-24", chain=True),
+                  "move": Intention("move", "BANK 2026-11-24", "2026-11-28/09.00")}
+        for verb, *words in calls:
+            act = verbs.act_of(World(act_worlds.Source(PLAN)), wanted[verb])
+            whole = steps.numbered(act.steps, range(700_000_000, 700_000_100))
+            lengths = [len(step.text.splitlines()) for step in act.steps]
+            for count in range(len(lengths) + 1):
+                with self.subTest(verb=verb, count=count):
+                    self.plan = plans.copy_of(plans.of_stream(PLAN), self.room)
+                    stopped = self.room / "stopped"
+                    stopped.write_text(STOPPED % (sum(lengths[:count]), plans.PROGRAM), encoding="ascii")
+                    stopped.chmod(0o755)
+                    self.words = ("--program", stopped)
+                    ran = self.ask(verb, *words, status=8)
+                    self.assertIn("type the same command again", ran.stderr)
+                    self.words = ("--program", plans.PROGRAM)
+                    ran = self.ask(verb, *words)
+                    self.assertEqual(f"{count} of its {len(lengths)} statements" in ran.stdout, count > 0, ran.stdout)
+                    self.assertEqual(expected.of_file(self.plan), expected.of_stream(PLAN, whole))
+                    self.assertEqual(self.jobs(), plans.as_bytes(PLAN + whole).count(b" --job "))
+                    self.assertEqual(self.states(), [])
+
+    def test_a_kept_job_is_undone_without_a_journal(self):
+        self.ask("start", "PAY", "2026-11-24")
+        number = self.jobs("max(number)")
+        ran = self.ask("undo", "--job", number)
+        self.assertIn("cp-fail --app PAY --ia 2026-11-24/06.00, cp-reset", ran.stdout)
+        self.assert_plan(*(f"cp-{what} --app PAY --ia 2026-11-24/06.00" for what in ("start", "fail", "reset")))
+        self.assertIn("keeps no job 999", self.ask("undo", "--job", "999", status=1).stderr)
+        self.assertIn("none that takes `dp-extend` back", self.ask("undo", "--job", "6", status=1).stderr)
+
+    def test_why_and_send_take_the_same_texts(self):
+        ran = plan("why", self.plan, "pay", "2026-11-24")
+        self.assertTrue(ran.stdout.startswith("PAY 2026-11-24 06.00 waits in the current plan (serial 4,"), ran.stdout)
+        ran = plan("why", self.plan, "PAY", "06.00")
+        self.assertEqual((ran.returncode, ran.stdout.splitlines()[:2]), (1, [
+            "2 occurrences fit PAY 06.00; name one of them:", "1  PAY 2026-11-23 06.00  complete, serial 1"]))
+        ran = plan("send", "--db", self.plan, "--program", plans.PROGRAM, "start", "PAY")
+        self.assertEqual((ran.returncode, ran.stdout), (0, "ok serial 4 status S\n"), ran.stderr)
+        for words, text in ((("complete", "MAIL", "2026-11-24"), "MAIL 2026-11-24 08.00 waits"),
+                            (("reset", "PAX"), "isn't defined (did you mean PAY?)")):
+            ran = plan("send", "--db", self.plan, "--program", plans.PROGRAM, *words)
+            self.assertEqual((ran.returncode, ran.stdout), (2, ""))
+            self.assertIn(text, ran.stderr)
+
+    def test_scripts_have_it(self):
+        with opcplan.Plan(str(self.plan)) as held:
+            act = held.act("rerun", "PAY 2026-11-23", followers=True)
+            self.assertEqual(act.stream.count("cp-add"), 3)
+            self.assertEqual([(was, row.key, row.status) for was, row in act.changes][0],
+                             (None, "--app PAY --ia 2026-11-23/06.01", "W"))
+            self.assertEqual(act.inverse.count("cp-delete"), 3)
+            with self.assertRaises(opcplan.Plan.NotDoable) as several:
+                held.act("cancel", "PAY 2026-11-24/09.00")
+            self.assertEqual(several.exception.choices, ())
+            with self.assertRaises(ValueError):
+                held.act("go", "PAY")
+
+
+@unittest.skipIf(desks.why_not(), desks.why_not())
+class AtADesk(desks.Case):
+    TEXT = PLAN.encode()
+
+    def setUp(self):
+        super().setUp()
+        given = mock.patch.dict(os.environ, {"XDG_STATE_HOME": str(self.room / "state")})
+        given.start()
+        self.addCleanup(given.stop)
+        self.serving = self.desk()
+        self.script = opcplan.Desk(self.serving.socket)
+
+    def ask(self, verb, *words, status=0, more=("--yes",)):
+        ran = plan(verb, "--desk", self.serving.socket, *words, *more)
+        self.assertEqual(ran.returncode, status, (ran.stdout, ran.stderr))
+        return ran
+
+    def test_verbs_and_undo(self):
+        ran = self.ask("rerun", "PAY", "2026-11-23", "--with-followers")
+        self.assertIn("ok serial 25\nok serial 26\nok serial 27\n", ran.stdout)
+        self.assertEqual([(row.key, row.status) for row in self.script.rows("cp", app="MAIL", status="W")],
+                         [("--app MAIL --ia 2026-11-23/08.01", "W"), ("--app MAIL --ia 2026-11-24/08.00", "W")])
+        ran = self.ask("undo")  # the whole act
+        self.assertEqual(ran.stdout.count("status D"), 3)
+        self.ask("cancel", "PAY", "2026-11-28")
+        self.assertIn("would be due 2026-11-29 06.00", self.ask("undo", status=1).stderr)
+        self.ask("start", "PAY", "2026-11-24")
+        ran = self.ask("undo", "--entry", "8")
+        self.assertIn("it takes back `cp-start --app PAY --ia 2026-11-24/06.00", ran.stdout)
+        self.assertIn("has changed since", self.ask("undo", "--entry", "8", status=1).stderr)
+        self.ask("move", "BANK", "2026-11-28/07.00", "09.00")
+        self.assertEqual(self.ask("undo").returncode, 0)
+        self.assertEqual([row.ia.hour for row in self.script.rows("ltp", app="BANK", first="2026-11-28",
+                                                                  last="2026-11-28")], [7])
+        self.end(self.serving)
+
+    def test_the_role_of_each_statement_is_asked_for(self):
+        users = self.room / "users"
+        users.write_text("anna operate\nbert read\n", encoding="ascii")
+        self.end(self.serving)
+        desk = self.desk("--users", str(users), "--proxy", desks.own_name(), "--host", "localhost")
+
+        def asked(who, body, **heads):
+            caller = client.Client(str(desk.socket))
+            try:
+                found = caller.request("POST", "/acts", json.dumps(body).encode(), {"X-Forwarded-User": who, **heads})
+                return 200, json.loads(found[1])
+            except client.RequestRefused as why:
+                return why.status, str(why)
+
+        for verb, of, wanted in (("start", "PAY 2026-11-24", (403, 200)), ("cancel", "PAY 2026-11-28", (403, 403))):
+            for who, status in zip(("bert", "anna"), wanted):
+                found = asked(who, {"verb": verb, "of": of})[1]
+                done = asked(who, {"stream": found["act"]["stream"]}, **{"If-Match": found["tag"]})
+                self.assertEqual(done[0], status, (verb, who, done))
+        self.end(desk)
+
+    def test_a_preview_is_done_in_its_state_alone_and_once(self):
+        found = self.act({"verb": "rerun", "of": "PAY 2026-11-23", "followers": True})
+        do = {"stream": found["act"]["stream"]}
+        self.serving.posted("cp-start --app PAY --ia 2026-11-24/06.00\n")
+        self.assertEqual(self.act(do, If_Match=found["tag"]), 412)
+        again = self.act({"verb": "rerun", "of": "PAY 2026-11-23", "followers": True})
+        self.assertEqual(again["act"], found["act"])
+        done = self.act(do, If_Match=again["tag"], Idempotency_Key="act-1")
+        self.assertEqual([one["reply"] for one in done["answers"]], ["ok serial 25", "ok serial 26", "ok serial 27"])
+        self.assertEqual(self.act(do, If_Match=again["tag"], Idempotency_Key="act-1")["answers"], done["answers"])
+        self.assertEqual(self.act({"stream": "cp-start --app PAY --ia 2026-11-23/06.01\n"}, If_Match=again["tag"],
+                                  Idempotency_Key="act-1"), 409)
+        self.end(self.serving)
+
+    def act(self, body, **heads):
+        """The answer to an act, or its status if it is refused."""
+        status, _, text = self.serving.asked("POST", "/acts", json.dumps(body), **{"X_Opcplan": "desk", **heads})
+        return json.loads(text) if status == 200 else status
+
+    def test_a_call_that_was_stopped_goes_on(self):
+        """The answer is lost after the desk has done all, or before it has begun."""
+        from opcplan.commands import acting_desk
+
+        class Stopped(Exception):
+            pass
+
+        real = acting_desk.asked
+        for has_begun in (False, True):
+            def asked(desk, body, heads=client.NO_HEADS, has_begun=has_begun):
+                if "stream" in body:
+                    if has_begun:
+                        real(desk, body, heads)
+                    raise Stopped
+                return real(desk, body, heads)
+
+            with mock.patch.object(acting_desk, "asked", asked), contextlib.suppress(Stopped):
+                plan("rerun", "--desk", self.serving.socket, "PAY", "2026-11-23", "--yes")
+            ran = self.ask("rerun", "PAY", "2026-11-23")
+            self.assertEqual("`rerun PAY 2026-11-23` was stopped: 1 of its 1 statements is done" in ran.stdout,
+                             has_begun, ran.stdout)
+        self.assertEqual([(row.ia.hour, row.ia.minute) for row in self.script.rows("cp", app="PAY", status="W")],
+                         [(6, 1), (6, 2), (6, 0)])
+        self.end(self.serving)
+
+    def test_send_takes_the_same_texts(self):
+        ran = plan("send", "--desk", self.serving.socket, "start", "pay")
+        self.assertEqual((ran.returncode, ran.stdout), (0, "ok serial 4 status S\n"), ran.stderr)
+        ran = plan("send", "--desk", self.serving.socket, "delete", "PAY", "2026-11-30")
+        self.assertIn("PAY 2026-11-30 06.00 is in the long-term plan", ran.stderr)
+        self.assertEqual(ran.returncode, 2)
+        self.end(self.serving)
+
+    def test_scripts_have_it(self):
+        act = self.script.act("complete", "MAIL 2026-11-24", chain=True, dry_run=True)
+        self.assertEqual((act.stream.count("cp-start"), act.answers, act.inverse), (3, (), None))
+        self.assertTrue(self.script.act("complete", "MAIL 2026-11-24", chain=True).ok)
+        with self.assertRaises(opcplan.Desk.NotDoable) as several:
+            self.script.act("cancel", "PAY 06.00")
+        self.assertEqual(len(several.exception.choices), 6)
+        self.end(self.serving)
+
+
+if __name__ == "__main__":
+    unittest.main()
