@@ -14,7 +14,10 @@ GET_REGISTERS = 12
 # places in the registers that the kernel gives
 R10, R8, RAX, RDX, RSI, RDI, NUMBER = 7, 9, 10, 12, 13, 14, 15
 OF_A_FILE = {1: "write", 18: "write", 20: "write", 44: "write", 46: "write", 74: "sync", 75: "sync"}
-RENAMES = {82: (RDI, RSI), 86: (RDI, RSI), 264: (RSI, R10), 265: (RSI, R10), 316: (RSI, R10)}
+# by number the places of the old and the new path, and with each that of the folder in which it is, if it has one
+RENAMES = {82: ((RDI, None), (RSI, None)), 86: ((RDI, None), (RSI, None)), 264: ((RSI, RDI), (R10, RDX)),
+           265: ((RSI, RDI), (R10, RDX)), 316: ((RSI, RDI), (R10, RDX))}
+AT_CWD = -100
 STARTS = {56, 57, 58, 435}
 
 
@@ -60,17 +63,20 @@ def call_of(child: int, registers: list[int]) -> Call | None:
         is_sent = path.startswith("socket:") and OF_A_FILE[number] == "write"
         return Call("send" if is_sent else OF_A_FILE[number], path)
     if number in RENAMES:
-        old, new = (text_at(child, registers[place]) for place in RENAMES[number])
+        old, new = (path_at(child, registers[path], AT_CWD if folder is None else registers[folder])
+                    for path, folder in RENAMES[number])
         return Call("rename", old, new)
     return Call("start") if number in STARTS else None
 
 
-def text_at(child: int, address: int) -> str:
-    """The text at an address in a process, as an absolute path."""
+def path_at(child: int, address: int, folder: int) -> str:
+    """The text at an address in a process as an absolute path, in the folder that it has open under a number."""
     with open(f"/proc/{child}/mem", "rb", buffering=0) as memory:
         memory.seek(address)
         text = os.fsdecode(memory.read(4096).partition(b"\0")[0])
-    return os.path.normpath(os.path.join(os.readlink(f"/proc/{child}/cwd"), text))
+    number = ctypes.c_int(folder & 0xFFFFFFFF).value
+    base = f"/proc/{child}/cwd" if number == AT_CWD else f"/proc/{child}/fd/{number}"
+    return os.path.normpath(os.path.join(os.readlink(base), text))
 
 
 def unsynced(calls: Iterable[Call], after: Iterable[str] = ("send", "start")) -> list[str]:
