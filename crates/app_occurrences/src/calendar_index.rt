@@ -53,10 +53,21 @@ impl CalendarIndex {
 /// How many indexes are kept at most.
 pub const MOST_KEPT_INDEXES: usize = 8;
 
-/// A cache of indexes that were used lately. An index is out of the cache while it is in use.
+/// A cache of at most [`MOST_KEPT_INDEXES`] indexes that were used lately. An index is out of the cache while it is in
+/// use. Contracts see the cached indexes, the oldest one first.
 #[derive(Drop)]
 pub struct CalendarIndexes {
     kept: Vec<CalendarIndex>,
+}
+
+impl Model for CalendarIndexes {
+    ghost use Rattle.std.specs.Prelude.{Bool, List, length, ◌≤◌};
+
+    ghost Value = { List (List Bool) };
+
+    ghost view = { λ c. c.kept.items };
+
+    ghost invariant = { λ c. length c.kept.items ≤ 8 };
 }
 
 impl CalendarIndexes {
