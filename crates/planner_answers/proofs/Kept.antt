@@ -3,7 +3,6 @@ use Rattle.std.proofs.Common.{◌≡◌, ℕ, List, [], ◌∷◌, All, refl, sy
 use Rattle.std.proofs.lemmas.List.Elements.{All-cons, All-nil}
 use Rattle.occurrences.specs.declared.reply.Reply.{Reply}
 use Rattle.external_dependencies.specs.Link.{AreNamedOnce}
-use Rattle.external_dependencies.proofs.OrderLemmas.{named_once}
 use Rattle.planner_machine.specs.declared.job.Job.{Job as KeptJob}
 use Rattle.planner_machine.specs.Content.{Content, nothing_known}
 use Rattle.planner_machine.specs.Days.{days}
@@ -11,11 +10,11 @@ use Rattle.planner_machine.specs.Decision.{Decides, Decision, trial}
 use Rattle.planner_machine.specs.Define.{define}
 use Rattle.planner_machine.specs.Jobs.{AnswersKept}
 use Rattle.planner_machine.specs.Shown.{list_links, list_pairs, list_rows}
-use Rattle.planner_machine.specs.Statement.{Act, Add, AddCurrent, Answer, Change, Create, DailyExtend, DailyExtendBy, Days}
-use Rattle.planner_machine.specs.Statement.{Define, DefineJob, Delete, Extend, Job, ListLinks, ListPairs, ListRows}
-use Rattle.planner_machine.specs.Statement.{ModifyAll, ModifyOne, Replan, Statement, Steps, Trial, Undefine, decision_of}
+use Rattle.planner_machine.specs.Statement.{Answer, Change, Days, Define, DefineJob, Job, ListLinks, ListPairs, ListRows}
+use Rattle.planner_machine.specs.Statement.{Statement, Steps, Trial, decision_of}
 use Rattle.planner_machine.specs.Stream.{IsStatement, RunsOneWay, RunsSound}
 use Rattle.planner_machine.specs.Sound.{IsSound}
+use Rattle.planner_machine.proofs.ChangeLemmas.{lawful_of}
 use Rattle.planner_answers.specs.Answers.{IsKept, StaysKept}
 
 abbrev IsOnce : Content → Type 0
@@ -33,19 +32,7 @@ DoesOnce d = (c : Content) (a : Answer) (c' : Content) → IsOnce c → Decides 
 
 change_once : (change : Change) → DoesOnce (decision_of change)
 change_once change c (Err r) c' once (least, same) = subst IsOnce (sym same) once
-change_once (Define block) c (Ok reply) c' once (none, does) = subst IsOnce (sym does.1) once
-change_once (Undefine kind name) c (Ok reply) c' once (none, does) = subst IsOnce (sym does.1) once
-change_once (Create from to) c (Ok reply) c' once (none, does) = named_once c'.in_force does.lists.rising
-change_once (Extend to) c (Ok reply) c' once (none, does) = named_once c'.in_force does.lists.rising
-change_once ModifyAll c (Ok reply) c' once (none, does) = named_once c'.in_force does.lists.rising
-change_once (ModifyOne app) c (Ok reply) c' once (none, does) = named_once c'.in_force does.lists.rising
-change_once (Add key) c (Ok reply) c' once (none, does) = subst AreNamedOnce (sym does.lists) once
-change_once (Delete key) c (Ok reply) c' once (none, does) = subst AreNamedOnce (sym does.lists) once
-change_once (DailyExtend to) c (Ok reply) c' once (none, does) = subst AreNamedOnce (sym does.lists) once
-change_once (DailyExtendBy n count) c (Ok reply) c' once (none, does) = subst AreNamedOnce (sym does.lists) once
-change_once Replan c (Ok reply) c' once (none, does) = subst AreNamedOnce (sym does.lists) once
-change_once (AddCurrent key) c (Ok reply) c' once (none, does) = subst AreNamedOnce (sym does.lists) once
-change_once (Act action key) c (Ok reply) c' once (none, does) = subst AreNamedOnce (sym does.lists) once
+change_once change c (Ok reply) c' once (none, does) = (lawful_of change).once c reply c' does once
 
 -- under a job number
 job_once : (number : ℕ) (text : List ℕ) (d : Decision Content) → DoesOnce d → (c : Content) (o : Option KeptJob)

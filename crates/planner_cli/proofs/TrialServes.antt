@@ -22,7 +22,8 @@ use Rattle.planner_machine.specs.Laws.{FollowsFate, IsWellFormed, StaysSound}
 use Rattle.planner_machine.specs.ModifyAll.{IsAnyApp}
 use Rattle.planner_machine.specs.ModifyOne.{IsThatApp}
 use Rattle.planner_machine.specs.Sound.{AreNumbered, IsSound}
-use Rattle.planner_machine.specs.Statement.{Change as MachineChange, Trial, decision_of, fate_of, replan_fate}
+use Rattle.planner_machine.specs.Replan.{replan_fate}
+use Rattle.planner_machine.specs.Statement.{Change as MachineChange, Trial, decision_of, fate_of}
 use Rattle.planner_machine.specs.declared.content.Bounds.{Bounds}
 use Rattle.planner_machine.proofs.NewEndLemmas.{one_end}
 use Rattle.plan_store_lists.specs.Rows.{of_current, of_row}

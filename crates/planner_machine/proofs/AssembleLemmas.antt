@@ -54,6 +54,14 @@ pub in_deletions : (s : Sets) (serial : ℕ) (p : PlacedRow) → p.place ≡ Del
     → s.deletions serial ≡ Some (record { row = p.row; reason = Operator })
 in_deletions s serial p is there = ap (λ (x : Seat). x.deletions) (there ∙ ap (alone p.row) is)
 
+-- a change of plans leaves definitions and kept jobs, has the pairs that follow, and leaves a plan that begins on a day
+pub record LeavesPlan (c c' : Content) : Type 0 where
+  pub pairs : ArePairs c.pairs c'.in_force c'.sets c'.pairs
+  pub definitions : c'.definitions ≡ c.definitions
+  pub jobs : c'.jobs ≡ c.jobs
+  pub planned : c'.sets.bounds ≡ None → ⊥
+  pub first : (b : Bounds) → c'.sets.bounds ≡ Some b → IsDay b.first_day
+
 -- what a statement owes so that sound content stays sound
 pub record Owes (place : Place) (fate : Fate) (drafts : List Draft) (c c' : Content) : Type 0 where
   pub follows : Follows place fate drafts c.sets c'.sets
@@ -62,18 +70,14 @@ pub record Owes (place : Place) (fate : Fate) (drafts : List Draft) (c c' : Cont
   pub opens : IsOpen place
   pub closes : (serial : ℕ) (p q : PlacedRow) → IsOnlyAt c.sets serial p → fate p q → IsLive q.place
       → (IsOpen q.place → ⊥) → (IsLive p.place × (IsOpen p.place → ⊥)) ⊎ Starts c serial
-  pub pairs : ArePairs c.pairs c'.in_force c'.sets c'.pairs
-  pub definitions : c'.definitions ≡ c.definitions
-  pub jobs : c'.jobs ≡ c.jobs
-  pub planned : c'.sets.bounds ≡ None → ⊥
-  pub first : (b : Bounds) → c'.sets.bounds ≡ Some b → IsDay b.first_day
+  pub plan : LeavesPlan c c'
   pub stays_row : (serial : ℕ) (p q : PlacedRow) → IsOnlyAt c.sets serial p → fate p q → IsRow p.row → IsRow q.row
   pub drafts_in_range : (draft : Draft) → Contains drafts draft → DraftRanges draft
   pub drafts_free : (draft : Draft) → Contains drafts draft → IsGenerated draft.origin
       → (other : ℕ) (deletion : Deletion) → c.sets.deletions other ≡ Some deletion → deletion.reason ≡ Operator
       → deletion.row.key ≢ draft.key
   pub by_operator : (p q : PlacedRow) → fate p q → q.place ≡ Deleted Operator → (p.place ≡ Deleted Operator)
-      ⊎ ((p.place ≡ LongTerm) × (drafts ≡ []))
+      ⊎ ((p.place ≡ LongTerm) × ((draft : Draft) → Contains drafts draft → IsGenerated draft.origin → ⊥))
   pub sizes : HaveSizes c'.sets
   pub links : (link : Link) → Contains c'.in_force link → IsLink link
   pub no_loop : (app : List ℕ) → OnLoop c'.in_force app → ⊥
@@ -96,7 +100,7 @@ module _ (place : Place) (fate : Fate) (drafts : List Draft) (c c' : Content) (s
 
   days_of : (b : Bounds) → c'.sets.bounds ≡ Some b → IsDay b.first_day × IsDay b.last_day × IsMoment b.plan_end
   days_of b is =
-      let are = owes.rows.bounds b is in let first = owes.first b is in
+      let are = owes.rows.bounds b is in let first = owes.plan.first b is in
       let low = first.0 in let days = are.days in let last = are.last in let begun = are.begun in let ended =
       are.ended in
       (first, (omega arith, omega arith), is_moment b.plan_end (omega arith) (omega arith))
@@ -124,7 +128,7 @@ module _ (place : Place) (fate : Fate) (drafts : List Draft) (c c' : Content) (s
             (live_there o' (owes.keeps.ltp o' p goes' ltp)) (sym (owes.keeps.key o q goes) ∙ same
             ∙ owes.keeps.key o' p goes') in
             apart p q ltp deleted (one_place c'.sets serial p q at_p (subst (λ n. IsOnlyAt c'.sets n q) one at_q))
-        | inr new ↦ none_listed new.draft (subst (λ l. Contains l new.draft) now.1 new.listed)
+        | inr new ↦ now.1 new.draft new.listed (subst (λ (x : PlacedRow). IsGenerated x.row.origin) new.is generated)
       ]
     ]
   ]
@@ -139,9 +143,6 @@ module _ (place : Place) (fate : Fate) (drafts : List Draft) (c c' : Content) (s
       apart x y is is' one = let no : LongTerm ≡ Deleted Operator = sym is ∙ ap (λ (z : PlacedRow). z.place) one
           ∙ is' in cc
 
-      none_listed : (x : Draft) → Contains [] x → ⊥
-      none_listed x (k, lt, at) = omega (arith, lt)
-
   placed_in_bounds : (o : Option Bounds) → c'.sets.bounds ≡ o → (b : Bounds) → o ≡ Some b
       → (serial : ℕ) (p : PlacedRow) → IsOnlyAt c'.sets serial p → ArrivesIn b p.row.key.ia p.place
   placed_in_bounds o is b same serial p there =
@@ -150,12 +151,12 @@ module _ (place : Place) (fate : Fate) (drafts : List Draft) (c c' : Content) (s
   pub stays_sound : IsSound c'
   stays_sound = record {
     ranges = record {
-      definitions = subst AreDefinitions (sym owes.definitions) sound.ranges.definitions;
+      definitions = subst AreDefinitions (sym owes.plan.definitions) sound.ranges.definitions;
       rows = row_at;
       days = days_of;
       links = owes.links;
     };
-    bounds = record { before = λ none. absurd (owes.planned none); after = owes.rows.bounds };
+    bounds = record { before = λ none. absurd (owes.plan.planned none); after = owes.rows.bounds };
     serials = record { placed = owes.rows.placed; unissued = owes.rows.unissued; numbered = owes.rows.numbered };
     keys = owes.rows.keys;
     arrivals = record {
@@ -170,8 +171,8 @@ module _ (place : Place) (fate : Fate) (drafts : List Draft) (c c' : Content) (s
     };
     sizes = owes.sizes;
     lists = owes.no_loop;
-    pairs = pairs_sound place fate drafts c c' sound owes.rows owes.keeps owes.follows owes.pairs owes.opens
+    pairs = pairs_sound place fate drafts c c' sound owes.rows owes.keeps owes.follows owes.plan.pairs owes.opens
         owes.closes;
     jobs = subst (λ (jobs : ℕ → Option Job). (number : ℕ) (job : Job) → jobs number ≡ Some job
-        → IsJob number job) (sym owes.jobs) sound.jobs;
+        → IsJob number job) (sym owes.plan.jobs) sound.jobs;
   }

@@ -1,5 +1,5 @@
 -- Modify statements leave fresh content: of all applications from any, of one from fresh content.
-use Rattle.std.proofs.Common.{◌≡◌, ◌≢◌, ◌⊎◌, ℕ, ◌<◌, ◌≤◌, true, false, List, refl, sym, ap, subst, ◌∙◌, inl, inr}
+use Rattle.std.proofs.Common.{◌≡◌, ◌⊎◌, ℕ, ◌<◌, ◌≤◌, true, false, List, refl, sym, ap, subst, ◌∙◌, inl, inr}
 use Rattle.std.proofs.Common.{Option, None, Some}
 use Rattle.std.specs.Prelude.{Bool}
 use Rattle.std.proofs.lemmas.Bool.{false≢true}

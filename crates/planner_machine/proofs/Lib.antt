@@ -13,8 +13,6 @@ pub mod LinkLemmas
 pub mod PairLemmas
 pub mod SoundLemmas
 pub mod NewEndLemmas
-mod OneAnswerLemmas
-mod FateLemmas
 mod FollowLemmas
 mod LoopLemmas
 mod PlannedLemmas
@@ -25,9 +23,16 @@ mod StartLemmas
 mod StaysSoundLemmas
 mod OwesLemmas
 mod DefineLemmas
-mod ChangeSoundLemmas
 mod JobLemmas
-mod KeptLemmas
+mod FreshLemmas
+mod FreshModifyLemmas
+mod FreshPlansLemmas
+mod PlansLemmas
+mod ModifiedLemmas
+mod DetailLemmas
+pub mod Lawful
+mod statements
+pub mod ChangeLemmas
 mod StepLemmas
 mod RefusedLemmas
 mod StreamLemmas
@@ -36,6 +41,4 @@ mod TrialLemmas
 mod PlanLawLemmas
 mod RingLemmas
 mod EmptyLemmas
-mod FreshLemmas
-mod FreshModifyLemmas
 mod FreshStepLemmas

@@ -1,24 +1,17 @@
--- Daily plans and pairs, as laws of their own.
-use Rattle.std.proofs.Common.{◌≡◌, ℕ, sym, subst, Option, None, Some}
-use Rattle.planner_machine.specs.declared.content.Bounds.{Bounds}
-use Rattle.planner_machine.specs.declared.counts.Count.{Count}
-use Rattle.planner_machine.specs.Content.{Content, Sets, IsOnlyAt}
+-- Daily plans, as laws of their own.
+use Rattle.std.proofs.Common.{subst, sym, ℕ, ◌≡◌}
+use Rattle.planner_machine.specs.Content.{Content, IsOnlyAt, Sets}
 use Rattle.planner_machine.specs.DailyPlan.{daily, daily_move}
 use Rattle.planner_machine.specs.Fate.{place_after_daily_plan}
-use Rattle.planner_machine.specs.Laws.{DailyIsFates, KeepsItself, KeepsPairs}
+use Rattle.planner_machine.specs.Laws.{DailyIsFates, KeepsPairs}
 use Rattle.planner_machine.specs.Pairs.{ArePairs}
 use Rattle.planner_machine.specs.Sound.{IsSound}
-use Rattle.planner_machine.specs.Statement.{Act, Add, AddCurrent, Change, Create, DailyExtend, DailyExtendBy, Define}
-use Rattle.planner_machine.specs.Statement.{Delete, Extend, ModifyAll, ModifyOne, Replan, Undefine, fate_of}
+use Rattle.planner_machine.specs.Statement.{DailyExtend, DailyExtendBy, Replan}
+use Rattle.planner_machine.specs.declared.counts.Count.{Count}
 use Rattle.planner_machine.proofs.DailyLemmas.{daily_is_move}
-use Rattle.planner_machine.proofs.FollowLemmas.{FateKeeps, action_keeps, daily_keeps, deletion_keeps}
-use Rattle.planner_machine.proofs.FollowLemmas.{modify_keeps_all, stays_keeps}
 use Rattle.planner_machine.proofs.PairLemmas.{daily_keeps_pairs}
 use Rattle.planner_machine.proofs.SeatLemmas.{going, stands_after, stood_before}
 use Rattle.planner_machine.proofs.SoundLemmas.{rows_sound}
-use Rattle.app_definitions.specs.declared.definitions.Definitions.{Definitions}
-use Rattle.planner_machine.specs.ModifyAll.{IsAnyApp}
-use Rattle.planner_machine.specs.ModifyOne.{IsThatApp}
 
 -- a daily plan on whole sets is the fates of all rows together
 pub daily_fates : DailyIsFates
@@ -49,37 +42,3 @@ days_keep_pairs n count c reply c' sound d = let (b, is, (t, new, plans)) = d.1.
 pub replan_keeps_pairs : KeepsPairs Replan
 replan_keeps_pairs c reply c' sound d = let (b, is, rows) = d.1.rows in
     no_change b.plan_end c c' sound rows.1 d.1.lists d.1.pairs
-
--- key, serial and kind of origin stay
-itself : (change : Change) (all : Definitions) (bounds : Option Bounds) → FateKeeps (fate_of change all bounds)
-itself (Define block) all bounds = stays_keeps
-itself (Undefine kind name) all bounds = stays_keeps
-itself (Create from to) all bounds = stays_keeps
-itself (Extend to) all bounds = stays_keeps
-itself ModifyAll all bounds = modify_keeps_all IsAnyApp all
-itself (ModifyOne app) all bounds = modify_keeps_all (IsThatApp app) all
-itself (Add key) all bounds = stays_keeps
-itself (Delete key) all bounds = deletion_keeps key
-itself (DailyExtend t) all bounds = daily_keeps t
-itself (DailyExtendBy n count) all None = stays_keeps
-itself (DailyExtendBy n count) all (Some b) = record {
-  key = λ p q goes. (daily_keeps goes.0).key p q goes.2;
-  serial = λ p q goes. (daily_keeps goes.0).serial p q goes.2;
-  generated = λ p q goes. (daily_keeps goes.0).generated p q goes.2;
-  added = λ p q goes. (daily_keeps goes.0).added p q goes.2;
-  ltp = λ p q goes. (daily_keeps goes.0).ltp p q goes.2;
-  planned = λ p q goes. (daily_keeps goes.0).planned p q goes.2;
-  live = λ p q goes. (daily_keeps goes.0).live p q goes.2;
-  complete = λ p q goes. (daily_keeps goes.0).complete p q goes.2;
-}
-itself Replan all None = stays_keeps
-itself Replan all (Some b) = daily_keeps b.plan_end
-itself (AddCurrent key) all bounds = stays_keeps
-itself (Act action key) all bounds = action_keeps key action
-
-pub keeps_itself : (change : Change) → KeepsItself change
-keeps_itself change all bounds p q goes = let keeps = itself change all bounds in record {
-  key = keeps.key p q goes;
-  serial = keeps.serial p q goes;
-  generated = (keeps.generated p q goes, keeps.added p q goes);
-}

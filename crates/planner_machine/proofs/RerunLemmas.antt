@@ -1,42 +1,23 @@
 -- Streams that are run again: what was answered is known, and known jobs change nothing.
-use Rattle.std.proofs.Common.{◌≡◌, ◌≢◌, ℕ, zero, suc, List, [], ◌∷◌, ◌++◌, refl, sym, ap, subst, ◌∙◌, inl, inr}
-use Rattle.std.proofs.Common.{◌⊎◌, Option, None, Some, Bool, true, false}
-use Rattle.std.specs.Prelude.{Ok, Err, nat_eq, if◌then◌else◌}
+use Rattle.std.proofs.Common.{List, None, Option, Some, [], ap, false, inl, inr, refl, subst, suc, sym, true, zero, ℕ}
+use Rattle.std.proofs.Common.{◌++◌, ◌∙◌, ◌∷◌, ◌≡◌, ◌≢◌, ◌⊎◌}
 use Rattle.std.proofs.lemmas.Bool.{eq-eqb, eqb-true}
+use Rattle.std.specs.Prelude.{Bool, Err, if◌then◌else◌, nat_eq}
 use Rattle.app_definitions.specs.declared.kinds.Block.{Block}
 use Rattle.occurrences.specs.declared.refusal.Refusal.TheVariants.{FaultyData, JobWithAnotherText}
-use Rattle.planner_machine.specs.declared.job.Job.{Job as KeptJob}
 use Rattle.planner_machine.specs.Content.{Content}
 use Rattle.planner_machine.specs.Days.{days}
-use Rattle.planner_machine.specs.Decision.{Decides, trial}
+use Rattle.planner_machine.specs.Decision.{trial}
 use Rattle.planner_machine.specs.Jobs.{AnswersKept, kept, with_job}
 use Rattle.planner_machine.specs.Rerun.{AnswersAgree, RerunEndsAsEachRun, RerunEndsAsOneRun, job_number}
 use Rattle.planner_machine.specs.Shown.{list_links, list_pairs, list_rows}
-use Rattle.planner_machine.specs.Statement.{Act, Add, AddCurrent, Answer, AreRead, Change, Create}
-use Rattle.planner_machine.specs.Statement.{DailyExtend, DailyExtendBy, Days, Define, DefineJob, Delete, Extend}
-use Rattle.planner_machine.specs.Statement.{IsFaulty, Job, ListLinks, ListPairs, ListRows, ModifyAll, ModifyOne}
-use Rattle.planner_machine.specs.Statement.{Replan, Statement, Steps, Trial, Undefine, decision_of}
+use Rattle.planner_machine.specs.Statement.{Answer, AreRead, Change, Days, Define, DefineJob, IsFaulty, Job, ListLinks}
+use Rattle.planner_machine.specs.Statement.{ListPairs, ListRows, Statement, Steps, Trial, decision_of}
 use Rattle.planner_machine.specs.Stream.{Runs}
+use Rattle.planner_machine.specs.declared.job.Job.{Job as KeptJob}
+use Rattle.planner_machine.proofs.ChangeLemmas.{jobs_stay}
 use Rattle.planner_machine.proofs.StepLemmas.{asks_nothing, faulty_once, read_or_faulty}
 use Rattle.planner_machine.proofs.StreamLemmas.{one_way}
-
--- no decision touches the kept jobs
-jobs_stay : (change : Change) (c : Content) (a : Answer) (c' : Content) → Decides (decision_of change) c a c'
-    → c'.jobs ≡ c.jobs
-jobs_stay change c (Err r) c' (least, is) = ap (λ (x : Content). x.jobs) is
-jobs_stay (Define block) c (Ok reply) c' (none, does) = ap (λ (x : Content). x.jobs) does.1
-jobs_stay (Undefine kind name) c (Ok reply) c' (none, does) = ap (λ (x : Content). x.jobs) does.1
-jobs_stay (Create from to) c (Ok reply) c' (none, does) = does.jobs
-jobs_stay (Extend to) c (Ok reply) c' (none, does) = does.jobs
-jobs_stay ModifyAll c (Ok reply) c' (none, does) = does.jobs
-jobs_stay (ModifyOne app) c (Ok reply) c' (none, does) = does.jobs
-jobs_stay (Add key) c (Ok reply) c' (none, does) = does.jobs
-jobs_stay (Delete key) c (Ok reply) c' (none, does) = does.jobs
-jobs_stay (DailyExtend to) c (Ok reply) c' (none, does) = does.jobs
-jobs_stay (DailyExtendBy n count) c (Ok reply) c' (none, does) = does.jobs
-jobs_stay Replan c (Ok reply) c' (none, does) = does.jobs
-jobs_stay (AddCurrent key) c (Ok reply) c' (none, does) = does.jobs
-jobs_stay (Act action key) c (Ok reply) c' (none, does) = does.jobs
 
 -- a job is kept under the number, and gives the text this answer
 abbrev GivesAgain : KeptJob → List ℕ → Answer → Type 0

@@ -1,11 +1,16 @@
 -- One step: one answer, soundness, and fates, for every statement.
-use Rattle.std.proofs.Common.{◌≡◌, ◌≢◌, ℕ, ◌≤◌, ◌⊎◌, List, [], length, refl, sym, ap, ap₂, subst, ◌∙◌, inl, inr}
-use Rattle.std.proofs.Common.{arith, Option, None, Some}
-use Rattle.std.specs.Prelude.{Ok, Err}
+use Rattle.std.proofs.Common.{List, None, Option, Some, [], ap, ap₂, arith, inl, inr, length, refl, subst, sym, ℕ, ◌∙◌}
+use Rattle.std.proofs.Common.{◌≡◌, ◌≢◌, ◌≤◌, ◌⊎◌}
+use Rattle.std.specs.Prelude.{Err, Ok}
 use Rattle.app_definitions.proofs.OneBlock.{never_both, one_block, one_fault}
 use Rattle.app_definitions.specs.Blocks.{ReadsAs}
 use Rattle.app_definitions.specs.declared.kinds.Block.{Block}
 use Rattle.app_definitions.specs.declared.kinds.Kind.{Kind}
+use Rattle.external_dependencies.proofs.LexLemmas.{link_total}
+use Rattle.external_dependencies.proofs.RisingLemmas.{rising_unique}
+use Rattle.external_dependencies.specs.Link.{link_cmp}
+use Rattle.external_dependencies.specs.declared.links.Link.{Link}
+use Rattle.external_dependencies.specs.declared.rows.PlacedRow.{PlacedRow}
 use Rattle.occurrences.proofs.RowLemmas.{row_strict}
 use Rattle.occurrences.specs.Order.{IsStrictOrder}
 use Rattle.occurrences.specs.Row.{RowBefore}
@@ -14,16 +19,8 @@ use Rattle.occurrences.specs.declared.refusal.Refusal.{Refusal}
 use Rattle.occurrences.specs.declared.refusal.Refusal.TheVariants.{FaultyData, JobWithAnotherText}
 use Rattle.occurrences.specs.declared.reply.Reply.{Reply}
 use Rattle.occurrences.specs.declared.reply.Reply.TheVariants.{Rows}
-use Rattle.external_dependencies.proofs.LexLemmas.{link_total}
-use Rattle.external_dependencies.proofs.RisingLemmas.{rising_unique}
-use Rattle.external_dependencies.specs.Link.{link_cmp}
-use Rattle.external_dependencies.specs.declared.links.Link.{Link}
-use Rattle.external_dependencies.specs.declared.rows.PlacedRow.{PlacedRow}
 use Rattle.run_cycles.specs.Occurrence.{IsEarlier}
 use Rattle.run_cycles.specs.declared.named.Named.{Named}
-use Rattle.planner_machine.specs.declared.content.Draft.{Draft}
-use Rattle.planner_machine.specs.declared.job.Job.{Job as KeptJob}
-use Rattle.planner_machine.specs.declared.limits.TheConstants.{GREATEST_JOB}
 use Rattle.planner_machine.specs.Content.{Content, Sets}
 use Rattle.planner_machine.specs.Days.{DaysRefused, days}
 use Rattle.planner_machine.specs.Decision.{Decides, DecidesOne, Decision, trial}
@@ -33,15 +30,16 @@ use Rattle.planner_machine.specs.Jobs.{AnswersKept, kept, with_job}
 use Rattle.planner_machine.specs.Laws.{Follows, IsWellFormed}
 use Rattle.planner_machine.specs.Shown.{LinkedBefore, LinkedRows, Listed, list_links, list_pairs, list_rows}
 use Rattle.planner_machine.specs.Sound.{IsSound}
-use Rattle.planner_machine.specs.Statement.{AnswersDefine, Answer, AreRead, Change, Days, Define, DefineJob, IsFaulty}
+use Rattle.planner_machine.specs.Statement.{Answer, AnswersDefine, AreRead, Change, Days, Define, DefineJob, IsFaulty}
 use Rattle.planner_machine.specs.Statement.{Job, ListLinks, ListPairs, ListRows, Statement, Steps, Trial, decision_of}
 use Rattle.planner_machine.specs.Stream.{IsStatement, MakesAt, acting, change_made, fate_at, place_at}
-use Rattle.planner_machine.proofs.ChangeSoundLemmas.{change_sound}
+use Rattle.planner_machine.specs.declared.content.Draft.{Draft}
+use Rattle.planner_machine.specs.declared.job.Job.{Job as KeptJob}
+use Rattle.planner_machine.specs.declared.limits.TheConstants.{GREATEST_JOB}
+use Rattle.planner_machine.proofs.ChangeLemmas.{change_follows, change_once, change_sound, kept_reply}
 use Rattle.planner_machine.proofs.DecisionLemmas.{ShowsOne, decides_one, shows_one}
-use Rattle.planner_machine.proofs.FateLemmas.{change_follows, stay_follow}
 use Rattle.planner_machine.proofs.JobLemmas.{job_sound}
-use Rattle.planner_machine.proofs.KeptLemmas.{kept_reply}
-use Rattle.planner_machine.proofs.OneAnswerLemmas.{change_once}
+use Rattle.planner_machine.proofs.PlansLemmas.{stay_follow}
 use Rattle.planner_machine.proofs.RisingLemmas.{one_list}
 
 -- a job

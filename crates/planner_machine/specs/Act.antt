@@ -21,6 +21,8 @@ use Rattle.planner_machine.specs.InForce.{PutsNone}
 use Rattle.planner_machine.specs.Moves.{each, has_key}
 use Rattle.planner_machine.specs.Pairs.{IsCompleteAt, pair_of}
 use Rattle.planner_machine.specs.Plans.{ChangesPlans}
+use Rattle.planner_machine.specs.Fate.{ActionFate}
+use Rattle.planner_machine.specs.Meaning.{Meaning, means}
 
 -- the live row of the current plan with that key, and its status
 pub record IsCurrent (s : Sets) (key : Key) (serial : ℕ) (status : Status) : Type 0 where
@@ -74,3 +76,6 @@ ActionRefused key action c _ = ⊥
 
 abbrev pub cp_action : Key → Action → Decision Content
 cp_action key action = record { Refuses = ActionRefused key action; Does = ChangesPlans (Acts key action) PutsNone }
+
+abbrev pub act_means : Key → Action → Meaning
+act_means key action = record (means (cp_action key action)) { fate = λ all bounds. ActionFate key action }

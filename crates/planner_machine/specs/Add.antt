@@ -19,6 +19,7 @@ use Rattle.planner_machine.specs.Drafts.{added}
 use Rattle.planner_machine.specs.InForce.{PutsNone}
 use Rattle.planner_machine.specs.Moves.{with_made}
 use Rattle.planner_machine.specs.Plans.{ChangesPlans, IsPlannedApp, WouldHoldTooMany}
+use Rattle.planner_machine.specs.Meaning.{Meaning, means}
 
 -- the arrival lies outside the part of the days that the place takes: the long-term plan from the plan end to the end
 -- of the last day, the current plan from the first day to before the plan end
@@ -50,3 +51,9 @@ ltp_add = add LongTerm
 
 abbrev pub cp_add : Key → Decision Content
 cp_add = add (Current W)
+
+abbrev pub add_means : Place → Key → Meaning
+add_means place key = record (means (add place key)) {
+  makes = λ all s drafts. drafts ≡ added key ∷ [];
+  place = place;
+}

@@ -18,6 +18,8 @@ use Rattle.planner_machine.specs.InForce.{PutsAll}
 use Rattle.planner_machine.specs.Moves.{with_bounds, with_made}
 use Rattle.app_occurrences.specs.Active.{HasNoCalendar, HasNoPeriod}
 use Rattle.planner_machine.specs.Plans.{ChangesPlans, IsLeastApp, WouldHoldTooMany, WouldLoop}
+use Rattle.work_calendars.specs.Day.{IsDay}
+use Rattle.planner_machine.specs.Meaning.{Meaning, means}
 
 -- the days are out of order, past the last planning day, or too far apart
 abbrev pub AreBadPlanDays : ℕ → ℕ → Type 0
@@ -48,3 +50,10 @@ CreateRefused from to c _ = ⊥
 
 abbrev pub create : ℕ → ℕ → Decision Content
 create from to = record { Refuses = CreateRefused from to; Does = ChangesPlans (Creates from to) PutsAll }
+
+-- the first day is a day
+abbrev pub create_means : ℕ → ℕ → Meaning
+create_means from to = record (means (create from to)) {
+  makes = λ all s drafts. AreDrafts (IsCreated from to all s) drafts;
+  fits = IsDay from;
+}

@@ -8,6 +8,8 @@ use Rattle.planner_machine.specs.DailyPlan.{PlansDaily}
 use Rattle.planner_machine.specs.Decision.{Decision}
 use Rattle.planner_machine.specs.InForce.{PutsNone}
 use Rattle.planner_machine.specs.Plans.{ChangesPlans, MakesOfRows}
+use Rattle.planner_machine.specs.Fate.{DailyFate}
+use Rattle.planner_machine.specs.Meaning.{Meaning, means}
 
 -- the new plan end is not later than the old one, past the midnight that ends the last day, or too many hours on
 abbrev pub IsBadPlanEnd : Bounds → ℕ → ℕ → Type 0
@@ -24,3 +26,6 @@ DailyExtendRefused t c _ = ⊥
 
 abbrev pub dp_extend : ℕ → Decision Content
 dp_extend t = record { Refuses = DailyExtendRefused t; Does = ChangesPlans (ExtendsDaily t) PutsNone }
+
+abbrev pub daily_extend_means : ℕ → Meaning
+daily_extend_means t = record (means (dp_extend t)) { fate = λ all bounds. DailyFate t }

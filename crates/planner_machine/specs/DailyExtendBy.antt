@@ -13,6 +13,7 @@ use Rattle.planner_machine.specs.Fate.{DailyFate, Fate, Stays}
 use Rattle.planner_machine.specs.InForce.{PutsNone}
 use Rattle.planner_machine.specs.NewEnd.{IsNewEnd}
 use Rattle.planner_machine.specs.Plans.{ChangesPlans, MakesOfRows}
+use Rattle.planner_machine.specs.Meaning.{Meaning, means}
 
 -- a daily plan to the new end
 abbrev pub ExtendsDailyBy : ℕ → Count → MakesOfRows
@@ -35,3 +36,6 @@ dp_extend_by n count =
 abbrev pub DailyFateBy : ℕ → Count → Definitions → Option Bounds → Fate
 DailyFateBy n count all None p q = Stays p q
 DailyFateBy n count all (Some b) p q = (t : ℕ) × IsNewEnd all b.plan_end n count t × DailyFate t p q
+
+abbrev pub daily_extend_by_means : ℕ → Count → Meaning
+daily_extend_by_means n count = record (means (dp_extend_by n count)) { fate = DailyFateBy n count }

@@ -14,6 +14,8 @@ use Rattle.planner_machine.specs.Decision.{Decision}
 use Rattle.planner_machine.specs.InForce.{PutsNone}
 use Rattle.planner_machine.specs.Moves.{each, has_key, keep, or_else}
 use Rattle.planner_machine.specs.Plans.{ChangesPlans}
+use Rattle.planner_machine.specs.Fate.{DeletionFate}
+use Rattle.planner_machine.specs.Meaning.{Meaning, means}
 
 abbrev pub deleted_by_hand : Row → Deletion
 deleted_by_hand row = record { row = row; reason = Operator }
@@ -44,3 +46,6 @@ DeleteRefused key c _ = ⊥
 
 abbrev pub ltp_delete : Key → Decision Content
 ltp_delete key = record { Refuses = DeleteRefused key; Does = ChangesPlans (Deletes key) PutsNone }
+
+abbrev pub delete_means : Key → Meaning
+delete_means key = record (means (ltp_delete key)) { fate = λ all bounds. DeletionFate key }

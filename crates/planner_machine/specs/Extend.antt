@@ -19,6 +19,7 @@ use Rattle.planner_machine.specs.InForce.{PutsAll}
 use Rattle.planner_machine.specs.Moves.{with_bounds, with_made}
 use Rattle.app_occurrences.specs.Active.{HasNoCalendar, HasNoPeriod}
 use Rattle.planner_machine.specs.Plans.{ChangesPlans, IsLeastApp, WouldHoldTooMany, WouldLoop}
+use Rattle.planner_machine.specs.Meaning.{Meaning, means}
 
 -- the new last day is not after the old one, past the last planning day, or too far from the day of the plan end
 abbrev pub IsBadLastDay : Bounds → ℕ → Type 0
@@ -50,3 +51,8 @@ ExtendRefused to c _ = ⊥
 
 abbrev pub extend : ℕ → Decision Content
 extend to = record { Refuses = ExtendRefused to; Does = ChangesPlans (Extends to) PutsAll }
+
+abbrev pub extend_means : ℕ → Meaning
+extend_means to = record (means (extend to)) {
+  makes = λ all s drafts. (b : Bounds) × (s.bounds ≡ Some b) × AreDrafts (IsAddedByExtension b to all s) drafts;
+}

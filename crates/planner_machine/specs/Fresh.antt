@@ -18,8 +18,7 @@ use Rattle.planner_machine.specs.Drafts.{NamesWithin}
 use Rattle.planner_machine.specs.Fate.{IsGenerated}
 use Rattle.planner_machine.specs.Moves.{numbered_row}
 use Rattle.planner_machine.specs.Sound.{IsSound}
-use Rattle.planner_machine.specs.Statement.{Answer, Change, Define, DefineJob, Job, Statement, Undefine}
-use Rattle.planner_machine.specs.Statement.{decision_of}
+use Rattle.planner_machine.specs.Statement.{Answer, Change, DefineJob, Job, Statement, decision_of, meaning_of}
 use Rattle.planner_machine.specs.Stream.{IsStatement, Runs}
 
 -- the draft that a row is of
@@ -74,9 +73,7 @@ LeavesFresh change = (c : Content) (reply : Reply) (c' : Content) → IsSound c 
 
 -- the statement changes definitions, if it is accepted
 abbrev pub RedefinesBy : Change → Type 0
-RedefinesBy (Define block) = Unit {0}
-RedefinesBy (Undefine kind name) = Unit {0}
-RedefinesBy change = ⊥
+RedefinesBy change = (meaning_of change).redefines
 
 abbrev pub Redefines : Statement → Type 0
 Redefines (DefineJob number text kind given) = Unit {0}

@@ -1,9 +1,5 @@
 -- Laws of the machine, as statements: the contracts of this crate's functions say that they hold.
 use Rattle.std.specs.Prelude.{◌≡◌, ◌↔◌, ℕ, ◌+◌, List, length, Contains, Ok, Option, Result, Some, slice_get}
-use Rattle.work_calendars.specs.Day.{IsDay}
-use Rattle.app_definitions.specs.Blocks.{ReadsAs}
-use Rattle.app_definitions.specs.Definitions.{names_given}
-use Rattle.app_definitions.specs.declared.kinds.Kind.{Kind}
 use Rattle.occurrences.specs.declared.place.Place.{Place}
 use Rattle.occurrences.specs.declared.refusal.Refusal.{Refusal}
 use Rattle.occurrences.specs.declared.reply.Reply.{Reply}
@@ -21,9 +17,9 @@ use Rattle.planner_machine.specs.Fate.{DailyFate, Fate, IsGenerated}
 use Rattle.planner_machine.specs.Pairs.{IsClosedAt, IsCompleteAt, pair_of}
 use Rattle.planner_machine.specs.Moves.{numbered_row}
 use Rattle.planner_machine.specs.NewEnd.{IsNewEnd}
-use Rattle.planner_machine.specs.Sound.{IsShown, IsSound}
-use Rattle.planner_machine.specs.Statement.{Change, Create, DailyExtend, DailyExtendBy, Define, MakesDrafts}
-use Rattle.planner_machine.specs.Statement.{decision_of, fate_of, place_of_made}
+use Rattle.planner_machine.specs.Sound.{IsSound}
+use Rattle.planner_machine.specs.Statement.{Change, DailyExtend, DailyExtendBy, MakesDrafts, decision_of, fate_of}
+use Rattle.planner_machine.specs.Statement.{meaning_of, place_of_made}
 
 -- each serial that was in some place is where its fate puts it; and the new serials, from issued + 1 on, are those of
 -- the drafts in their order, each with its row in the place where it is made
@@ -44,12 +40,9 @@ FollowsFate change =
 abbrev pub AnswersOnce : Change → Type 0
 AnswersOnce change = DecidesOne IsSound (decision_of change)
 
--- the values of a statement are such as a line and a block can give: a first day is a day, and a block was read from
--- some text and gives no more names than a reply can show
+-- the values of a statement are such as a line and a block can give
 abbrev pub IsWellFormed : Change → Type 0
-IsWellFormed (Define block) = IsShown (names_given block) × ((kind : Kind) × (text : List ℕ) × ReadsAs kind text block)
-IsWellFormed (Create from to) = IsDay from
-IsWellFormed change = Unit {0}
+IsWellFormed change = (meaning_of change).fits
 
 -- sound content stays sound
 abbrev pub StaysSound : Change → Type 0

@@ -17,6 +17,7 @@ pub mod InForce
 pub mod Jobs
 pub mod Laws
 pub mod Limits
+pub mod Meaning
 pub mod Modify
 pub mod ModifyAll
 pub mod ModifyOne

@@ -6,9 +6,12 @@ use Rattle.occurrences.specs.declared.refusal.Refusal.TheVariants.{TooManyRows}
 use Rattle.planner_machine.specs.Content.{Content}
 use Rattle.planner_machine.specs.Decision.{Decision}
 use Rattle.planner_machine.specs.InForce.{PutsAll}
-use Rattle.planner_machine.specs.Modify.{Modifies}
+use Rattle.planner_machine.specs.Modify.{Modifies, NamesAhead}
 use Rattle.app_occurrences.specs.Active.{HasNoCalendar, HasNoPeriod}
 use Rattle.planner_machine.specs.Plans.{ChangesPlans, IsLeastApp, MakesOfRows, WouldHoldTooMany, WouldLoop}
+use Rattle.planner_machine.specs.Drafts.{AreDrafts, IsMade}
+use Rattle.planner_machine.specs.Fate.{ModifyFate}
+use Rattle.planner_machine.specs.Meaning.{Meaning, means}
 
 -- any application
 abbrev pub IsAnyApp : List ℕ → Type 0
@@ -30,3 +33,9 @@ ModifyAllRefused c _ = ⊥
 
 abbrev pub modify_all : Decision Content
 modify_all = record { Refuses = ModifyAllRefused; Does = ChangesPlans ModifiesAll PutsAll }
+
+abbrev pub modify_all_means : Meaning
+modify_all_means = record (means modify_all) {
+  fate = λ all bounds. ModifyFate IsAnyApp all;
+  makes = λ all s drafts. AreDrafts (IsMade (NamesAhead IsAnyApp all s.bounds) s) drafts;
+}

@@ -8,9 +8,12 @@ use Rattle.occurrences.specs.declared.refusal.Refusal.TheVariants.{PeriodUndefin
 use Rattle.planner_machine.specs.Content.{Content}
 use Rattle.planner_machine.specs.Decision.{Decision}
 use Rattle.planner_machine.specs.InForce.{PutsOne}
-use Rattle.planner_machine.specs.Modify.{Modifies}
+use Rattle.planner_machine.specs.Modify.{Modifies, NamesAhead}
 use Rattle.app_occurrences.specs.Active.{HasNoCalendar, HasNoPeriod}
 use Rattle.planner_machine.specs.Plans.{ChangesPlans, IsPlannedApp, MakesOfRows, WouldHoldTooMany, WouldLoop}
+use Rattle.planner_machine.specs.Drafts.{AreDrafts, IsMade}
+use Rattle.planner_machine.specs.Fate.{ModifyFate}
+use Rattle.planner_machine.specs.Meaning.{Meaning, means}
 
 -- that application alone
 abbrev pub IsThatApp : List ℕ → List ℕ → Type 0
@@ -33,3 +36,9 @@ ModifyOneRefused app c _ = ⊥
 
 abbrev pub modify_one : List ℕ → Decision Content
 modify_one app = record { Refuses = ModifyOneRefused app; Does = ChangesPlans (ModifiesOne app) (PutsOne app) }
+
+abbrev pub modify_one_means : List ℕ → Meaning
+modify_one_means app = record (means (modify_one app)) {
+  fate = λ all bounds. ModifyFate (IsThatApp app) all;
+  makes = λ all s drafts. AreDrafts (IsMade (NamesAhead (IsThatApp app) all s.bounds) s) drafts;
+}

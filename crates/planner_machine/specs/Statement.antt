@@ -1,5 +1,5 @@
 -- All statements: for each its decision, the fate that it gives an occurrence, and the occurrences that it makes.
-use Rattle.std.specs.Prelude.{◌≡◌, ◌⊎◌, ℕ, List, [], ◌∷◌, Option, Some, None, Result, Err}
+use Rattle.std.specs.Prelude.{◌≡◌, ◌⊎◌, ℕ, List, Option, Some, None, Result, Err}
 use Rattle.app_definitions.specs.Blocks.{IsFaultyAt, ReadsAs}
 use Rattle.app_definitions.specs.declared.definitions.Definitions.{Definitions}
 use Rattle.app_definitions.specs.declared.kinds.Block.{Block}
@@ -15,24 +15,23 @@ use Rattle.occurrences.specs.declared.status.Status.TheVariants.{W}
 use Rattle.planner_machine.specs.declared.content.Bounds.{Bounds}
 use Rattle.planner_machine.specs.declared.content.Draft.{Draft}
 use Rattle.planner_machine.specs.declared.counts.Count.{Count}
-use Rattle.planner_machine.specs.Act.{cp_action}
-use Rattle.planner_machine.specs.Add.{cp_add, ltp_add}
+use Rattle.planner_machine.specs.Act.{act_means}
+use Rattle.planner_machine.specs.Add.{add_means}
 use Rattle.planner_machine.specs.Content.{Content, Sets}
-use Rattle.planner_machine.specs.Create.{IsCreated, create}
-use Rattle.planner_machine.specs.DailyExtend.{dp_extend}
-use Rattle.planner_machine.specs.DailyExtendBy.{DailyFateBy, dp_extend_by}
+use Rattle.planner_machine.specs.Create.{create_means}
+use Rattle.planner_machine.specs.DailyExtend.{daily_extend_means}
+use Rattle.planner_machine.specs.DailyExtendBy.{daily_extend_by_means}
 use Rattle.planner_machine.specs.Days.{days}
 use Rattle.planner_machine.specs.Decision.{Decides, Decision, trial}
-use Rattle.planner_machine.specs.Define.{define, undefine}
-use Rattle.planner_machine.specs.Delete.{ltp_delete}
-use Rattle.planner_machine.specs.Drafts.{AreDrafts, IsMade, added}
-use Rattle.planner_machine.specs.Extend.{IsAddedByExtension, extend}
-use Rattle.planner_machine.specs.Fate.{ActionFate, DailyFate, DeletionFate, Fate, ModifyFate, Stays}
+use Rattle.planner_machine.specs.Define.{define, define_means, undefine_means}
+use Rattle.planner_machine.specs.Delete.{delete_means}
+use Rattle.planner_machine.specs.Extend.{extend_means}
+use Rattle.planner_machine.specs.Fate.{Fate}
 use Rattle.planner_machine.specs.Jobs.{AnswersJob}
-use Rattle.planner_machine.specs.Modify.{NamesAhead}
-use Rattle.planner_machine.specs.ModifyAll.{IsAnyApp, modify_all}
-use Rattle.planner_machine.specs.ModifyOne.{IsThatApp, modify_one}
-use Rattle.planner_machine.specs.Replan.{dp_replan}
+use Rattle.planner_machine.specs.Meaning.{Meaning}
+use Rattle.planner_machine.specs.ModifyAll.{modify_all_means}
+use Rattle.planner_machine.specs.ModifyOne.{modify_one_means}
+use Rattle.planner_machine.specs.Replan.{replan_means}
 use Rattle.planner_machine.specs.Shown.{Listed, list_links, list_pairs, list_rows}
 
 -- the statements that change something
@@ -51,52 +50,36 @@ pub data Change : Type 0 where
   AddCurrent : Key → Change
   Act : Action → Key → Change
 
-abbrev pub decision_of : Change → Decision Content
-decision_of (Define block) = define block
-decision_of (Undefine kind name) = undefine kind name
-decision_of (Create from to) = create from to
-decision_of (Extend to) = extend to
-decision_of ModifyAll = modify_all
-decision_of (ModifyOne app) = modify_one app
-decision_of (Add key) = ltp_add key
-decision_of (Delete key) = ltp_delete key
-decision_of (DailyExtend to) = dp_extend to
-decision_of (DailyExtendBy n count) = dp_extend_by n count
-decision_of Replan = dp_replan
-decision_of (AddCurrent key) = cp_add key
-decision_of (Act action key) = cp_action key action
+-- the table of statements: the only list of them all
+abbrev pub meaning_of : Change → Meaning
+meaning_of (Define block) = define_means block
+meaning_of (Undefine kind name) = undefine_means kind name
+meaning_of (Create from to) = create_means from to
+meaning_of (Extend to) = extend_means to
+meaning_of ModifyAll = modify_all_means
+meaning_of (ModifyOne app) = modify_one_means app
+meaning_of (Add key) = add_means LongTerm key
+meaning_of (Delete key) = delete_means key
+meaning_of (DailyExtend to) = daily_extend_means to
+meaning_of (DailyExtendBy n count) = daily_extend_by_means n count
+meaning_of Replan = replan_means
+meaning_of (AddCurrent key) = add_means (Current W) key
+meaning_of (Act action key) = act_means key action
 
--- a daily plan to the plan end; before creation there is none
-abbrev pub replan_fate : Option Bounds → Fate
-replan_fate None = Stays
-replan_fate (Some b) = DailyFate b.plan_end
+abbrev pub decision_of : Change → Decision Content
+decision_of change = (meaning_of change).decision
 
 -- the fate of an occurrence at an accepted statement, by the definitions and bounds of that moment
 abbrev pub fate_of : Change → Definitions → Option Bounds → Fate
-fate_of ModifyAll all bounds = ModifyFate IsAnyApp all
-fate_of (ModifyOne app) all bounds = ModifyFate (IsThatApp app) all
-fate_of (Delete key) all bounds = DeletionFate key
-fate_of (DailyExtend to) all bounds = DailyFate to
-fate_of (DailyExtendBy n count) all bounds = DailyFateBy n count all bounds
-fate_of Replan all bounds = replan_fate bounds
-fate_of (Act action key) all bounds = ActionFate key action
-fate_of change all bounds = Stays
+fate_of change = (meaning_of change).fate
 
 -- the occurrences that an accepted statement makes, as drafts in the order of their serials
 abbrev pub MakesDrafts : Change → Definitions → Sets → List Draft → Type 0
-MakesDrafts (Create from to) all s drafts = AreDrafts (IsCreated from to all s) drafts
-MakesDrafts (Extend to) all s drafts = (b : Bounds) × (s.bounds ≡ Some b)
-    × AreDrafts (IsAddedByExtension b to all s) drafts
-MakesDrafts ModifyAll all s drafts = AreDrafts (IsMade (NamesAhead IsAnyApp all s.bounds) s) drafts
-MakesDrafts (ModifyOne app) all s drafts = AreDrafts (IsMade (NamesAhead (IsThatApp app) all s.bounds) s) drafts
-MakesDrafts (Add key) all s drafts = drafts ≡ added key ∷ []
-MakesDrafts (AddCurrent key) all s drafts = drafts ≡ added key ∷ []
-MakesDrafts change all s drafts = drafts ≡ []
+MakesDrafts change = (meaning_of change).makes
 
 -- where they are made
 abbrev pub place_of_made : Change → Place
-place_of_made (AddCurrent key) = Current W
-place_of_made change = LongTerm
+place_of_made change = (meaning_of change).place
 
 -- the statements of a stream, each with its values. `define` has the bytes of its block, or none where the block is
 -- too long or has no end; a trial is one of the statements that plan

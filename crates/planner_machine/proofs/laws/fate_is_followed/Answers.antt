@@ -1,4 +1,4 @@
-use Rattle.planner_machine.proofs.FateLemmas.{change_follows}
+use Rattle.planner_machine.proofs.ChangeLemmas.{change_follows}
 use Rattle.planner_machine.proofs.laws.fate_is_followed.Goals as goal
 
 pub returns : goal.returns

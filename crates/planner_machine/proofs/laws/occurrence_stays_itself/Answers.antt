@@ -1,4 +1,4 @@
-use Rattle.planner_machine.proofs.PlanLawLemmas.{keeps_itself}
+use Rattle.planner_machine.proofs.ChangeLemmas.{keeps_itself}
 use Rattle.planner_machine.proofs.laws.occurrence_stays_itself.Goals as goal
 
 pub returns : goal.returns

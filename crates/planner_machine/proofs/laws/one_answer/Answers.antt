@@ -1,4 +1,4 @@
-use Rattle.planner_machine.proofs.OneAnswerLemmas.{change_once}
+use Rattle.planner_machine.proofs.ChangeLemmas.{change_once}
 use Rattle.planner_machine.proofs.laws.one_answer.Goals as goal
 
 pub returns : goal.returns

@@ -1,4 +1,4 @@
-use Rattle.planner_machine.proofs.ChangeSoundLemmas.{change_sound}
+use Rattle.planner_machine.proofs.ChangeLemmas.{change_sound}
 use Rattle.planner_machine.proofs.laws.sound_content_stays_sound.Goals as goal
 
 pub returns : goal.returns
