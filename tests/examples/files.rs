@@ -138,33 +138,34 @@ fn example_of_plan_files_closing(rt: HostRuntime) -> Result<(), Fail> {
     closed(&rt, rt.alloc(), Files { log, db })
 }
 
-/// Keeps what a run begins with.
+/// Gives a text to read, if the run begins with a new plan.
 #[derive(Drop)]
-struct Begun {
-    plan: Option<StartingPlan>,
+struct IfNew<'a> {
+    text: &'a [u8],
 }
 
-impl Opening for Begun {
-    ghost reports = { λ old begun new. ⊤ };
+impl<'a> Opening<&'a [u8]> for IfNew<'a> {
+    ghost reports = { λ opening begun given. ⊤ };
 
-    fn opened(&mut self, begun: StartingPlan) {
-        self.plan = Some(begun);
+    fn opened(self, begun: StartingPlan) -> &'a [u8] {
+        match begun {
+            StartingPlan::New => self.text,
+            _ => b"".as_slice(),
+        }
     }
 }
 
 fn ran<D: Disk + Drop>(rt: &impl Abort, alloc: Global, files: Files<D>) -> Result<(), Fail> {
     let conn = connected(alloc, files)?;
-    let mut begun = Begun { plan: None };
     // example of plan_files
-    // the files hold no plan, so they get one; the line is no statement
-    let mut reader = b"help\n".as_slice();
+    // the files hold no plan, so they get one, and the reader has a line; it is no statement
+    let opening = IfNew { text: b"help\n".as_slice() };
     let mut writer = Vec::new(alloc);
-    let Ok(ended) = run_over_connection(alloc, conn, &mut begun, &mut reader, &mut writer) else {
+    let Ok((ended, _)) = run_over_connection(alloc, conn, opening, &mut writer) else {
         return Err(Fail::new("not run"));
     };
     assert!(rt; ended.is_whole && ended.closed.copied.is_ok());
     assert_eq!(rt; writer.as_slice(), b"refused 10\n".as_slice());
-    assert_eq!(rt; begun.plan, Some(StartingPlan::New));
     // end of the example
     Ok(())
 }

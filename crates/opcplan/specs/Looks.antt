@@ -1,9 +1,10 @@
 -- What is at a name, and what became of it.
-use Rattle.std.specs.Prelude.{◌≡◌, ◌≢◌, ◌+◌, ◌*◌, ◌<◌, ℕ, List, slice_index}
+use Rattle.std.specs.Prelude.{◌≡◌, ◌≢◌, ◌+◌, ◌*◌, ◌<◌, ◌≤◌, ℕ, List, slice_index}
 use Rattle.opcplan.specs.declared.looks.Fate.{Fate}
 use Rattle.opcplan.specs.declared.looks.Fate.TheVariants.{Gone, Other, Same}
 use Rattle.opcplan.specs.declared.looks.Look.{Look}
 use Rattle.opcplan.specs.declared.looks.Look.TheVariants.{File, Nothing}
+use Rattle.opcplan.specs.declared.looks.TheConstants.{LARGE}
 
 -- what became of the file that was at a name, by two looks at the name
 abbrev pub IsFate : Look → Look → Fate → Type 0
@@ -20,6 +21,11 @@ IsShorter _ _ = ⊥
 abbrev pub LacksPages : Look → ℕ → Type 0
 LacksPages (File _ found) pages = found < pages
 LacksPages _ _ = ⊥
+
+-- a file takes a while to open
+abbrev pub IsLarge : Look → Type 0
+IsLarge (File _ found) = LARGE ≤ found
+IsLarge _ = ⊥
 
 -- how many bytes a page has, by the first bytes of a database file: a power of two, 65,536 where they say 1
 abbrev pub page_size : List ℕ → ℕ

@@ -3,6 +3,9 @@
 ghost use Rattle.std.specs.Prelude.{◌≡◌, ◌*◌, ◌↔◌, ◌<◌, ◌⊎◌, IsTrue, max};
 ghost use Rattle.opcplan.specs.Looks.{IsFate, IsShorter, LacksPages, page_count, page_size};
 
+/// How many bytes a file has at least that takes a while to open.
+pub const LARGE: u64 = 0x400_0000;
+
 /// A file, whatever its name.
 #[derive(Clone, Copy, Debug, PartialEq, Eq)]
 pub struct Inode {

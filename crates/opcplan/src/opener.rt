@@ -1,5 +1,4 @@
-//! What opens FILE as a plan. Nothing else of this program creates or changes it; `watch.rt` and `terminal.rt` look at
-//! it.
+//! What opens FILE as a plan. Nothing else of this program creates or changes it; `sight.rt` looks at it.
 
 ghost use Rattle.std.specs.Prelude.{⊤};
 

@@ -5,79 +5,103 @@ ghost use Rattle.std.specs.Prelude.{◌≡◌, IfErr, IfSome};
 use crate::endings::{Closed, Ending};
 use crate::faults::{MEMORY, explain, report_on};
 use crate::hints::Hinting;
-use crate::opener::AtPath;
 use crate::refusals::report_refusal;
-use crate::terminal::{OVER_FILE, announce_large, greet, is_typed};
+use crate::sight::Sight;
+use crate::terminal::{OVER_FILE, Terminals, announce_large, greet};
 use crate::watch::{SeesFiles, Watch, Watched};
 use crate::words::NamedFile;
 use plan_files::{FileOpener, Opening, StartingPlan, Unrun, run_over_files};
 use planner_cli::{RunFault, Tally, exit_status};
 use sqlite::{Error, FileFrom, Leftover, Start, Unknown};
 use std::alloc::Global;
-use std::io::{self, BufRead, BufReader, BufWriter, Write};
+use std::io::{BufRead, BufReader, BufWriter, Read, Write};
 
-/// Says on standard error what a run begins with, if that is not the plan as it was, and how to end it at a terminal.
+/// Says on standard error what a run begins with, if that is not the plan as it was, and how to end it at a terminal; then
+/// it gives the reader.
 #[derive(Drop)]
-struct Greeting<'a> {
-    rt: &'a HostRuntime,
+struct Greeting<'a, E, R> {
+    errors: &'a E,
     path: &'a str,
+    at: Terminals,
+    reader: R,
 }
 
-impl Opening for Greeting<'_> {
-    ghost reports = { λ old _ new. new ≡ old };
+impl<E: Eprint, R> Opening<R> for Greeting<'_, E, R> {
+    ghost reports = { λ opening _ given. given ≡ opening.reader };
 
-    fn opened(&mut self, begun: StartingPlan) {
+    fn opened(self, begun: StartingPlan) -> R {
+        let Greeting {
+            errors,
+            path,
+            at,
+            reader,
+        } = self;
         let message = match begun {
             StartingPlan::AsItWas => None,
             StartingPlan::New => Some(
                 "the file held no plan, so a new one was made in it. If it should have had one, check the name",
             ),
-            StartingPlan::Migrated => Some(
-                "the plan was migrated from schema 1 to schema 2. If you had made an index on predecessor or link_in_force, it is gone: make it again",
+            StartingPlan::Migrated { lost_index: true } => Some(
+                "the plan was migrated from schema 1 to schema 2. An index that you made on predecessor or link_in_force is gone: make it again",
             ),
+            StartingPlan::Migrated { lost_index: false } => {
+                Some("the plan was migrated from schema 1 to schema 2")
+            }
         };
         if let Some(message) = message {
-            let _ = eprintln!(self.rt; "opcplan: {}: {message}", self.path);
+            let _ = eprintln!(errors; "opcplan: {path}: {message}");
         }
-        greet(self.rt, OVER_FILE);
+        greet(errors, at, OVER_FILE);
+        reader
     }
 }
 
-/// Runs the stream on standard input, over the plans that the file keeps, and returns the exit status. Standard output
-/// gets each reply with its last byte, and a listing some thousand bytes at a time. `Unknown` says of the file that it
-/// may hold anything: what is proved for all contents holds of those that it has.
-pub fn answer_over_file(rt: &HostRuntime, file: &NamedFile) -> u8 {
-    let alloc = rt.alloc();
-    let stream = Watched::new(rt.reader(), Watch::new(rt, &file.path));
-    let Ok(mut reader) = BufReader::new(alloc, stream) else {
-        return report_on(rt, MEMORY, &file.path);
+/// Runs the stream of the input, over the plans that the file keeps, and returns the exit status. The output gets each
+/// reply with its last byte, and a listing some thousand bytes at a time. `Unknown` says of the file that it may hold
+/// anything: what is proved for all contents holds of those that it has. It gets no handle of the system but these.
+pub fn answer_over_file<
+    P: Print + Eprint,
+    F: FileOpener<Unknown> + Drop,
+    S: Sight + Drop,
+    R: Read + Drop,
+    W: Write + Drop,
+>(
+    alloc: Global,
+    prints: &P,
+    file: &NamedFile,
+    at: Terminals,
+    opener: F,
+    sight: S,
+    input: R,
+    output: W,
+) -> u8 {
+    let found = sight.file();
+    let stream = Watched::new(input, Watch::new(sight));
+    let Ok(reader) = BufReader::new(alloc, stream) else {
+        return report_on(prints, MEMORY, &file.path);
     };
-    let answers = Hinting::new(io::writer(rt), rt, is_typed(rt));
+    let answers = Hinting::new(output, prints, at.is_typed);
     let Ok(mut writer) = BufWriter::new(alloc, answers) else {
-        return report_on(rt, MEMORY, &file.path);
+        return report_on(prints, MEMORY, &file.path);
     };
-    announce_large(rt, &file.path);
-    let opener = AtPath {
-        rt,
+    announce_large(prints, at, &file.path, found);
+    let greeting = Greeting {
+        errors: prints,
         path: &file.path,
-        new_has_sums: file.new_has_sums,
-    };
-    let mut greeting = Greeting {
-        rt,
-        path: &file.path,
+        at,
+        reader,
     };
     match run_over_file(
         alloc,
-        rt,
+        prints,
         &file.path,
         opener,
         Unknown,
-        &mut greeting,
-        &mut reader,
+        greeting,
         &mut writer,
     ) {
         Ok(status) => status,
-        Err((fault, left, error)) => report_refusal(rt, file, fault, &left, &error),
+        Err((fault, left, error, _)) => report_refusal(prints, file, fault, &left, &error),
     }
 }
 
@@ -88,9 +112,9 @@ pub fn answer_over_file(rt: &HostRuntime, file: &NamedFile) -> u8 {
 fn run_over_file<
     S: Start,
     F: FileOpener<S>,
-    O: Opening,
+    R: BufRead + SeesFiles + Drop,
+    O: Opening<R>,
     E: Eprint,
-    R: BufRead + SeesFiles,
     W: Write,
 >(
     alloc: Global,
@@ -98,17 +122,15 @@ fn run_over_file<
     path: &str,
     opener: F,
     start: S,
-    opening: &mut O,
-    reader: &mut R,
+    opening: O,
     writer: &mut W,
-) -> Result<u8, (Unrun, Option<Leftover<FileFrom<S>>>, Option<Error>)>
+) -> Result<u8, (Unrun, Option<Leftover<FileFrom<S>>>, Option<Error>, O)>
     ensures silent { IfErr result (λ _. writer.new ≡ writer.old) }
-    ensures unread { IfErr result (λ _. reader.new ≡ reader.old) }
-    ensures unreported { IfErr result (λ _. opening.new ≡ opening.old) }
+    ensures unreported { IfErr result (λ left. left.3 ≡ opening) }
     ensures asked { IfErr result (λ left. IfSome left.2 (F.refuses opener)) }
 {
-    match run_over_files(alloc, opener, start, opening, reader, writer) {
-        Ok(ended) => {
+    match run_over_files(alloc, opener, start, opening, writer) {
+        Ok((ended, reader)) => {
             let closed = match ended.closed.copied {
                 Ok(()) => Closed::Whole,
                 Err(fault) => Closed::after(fault),

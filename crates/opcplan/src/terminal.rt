@@ -1,10 +1,9 @@
 //! Messages for a person who types statements at a terminal.
 
-use std::fs::{self, Files};
-use std::io::IsTerminal;
+ghost use Rattle.std.specs.Prelude.{◌↔◌, IsTrue};
+ghost use Rattle.opcplan.specs.Looks.{IsLarge};
 
-/// How many bytes a file has at least that takes a while to open.
-const LARGE: u64 = 64 << 20;
+use crate::looks::{LARGE, Look};
 
 /// How to type statements and to end a run, over a plan in a file.
 pub const OVER_FILE: &str =
@@ -14,32 +13,38 @@ pub const OVER_FILE: &str =
 pub const OVER_LISTS: &str =
     "opcplan: type one statement a line (opcplan --help lists them, docs/rules/STATEMENTS.md explains them). A line /* ends the data of a define, Ctrl-D ends the run. Without --db FILE nothing is kept";
 
-/// Whether standard input is a terminal.
-pub fn is_typed(rt: &HostRuntime) -> bool {
-    rt.stdin().is_terminal()
+/// Which streams of the program are at a terminal.
+#[derive(Clone, Copy, Debug, PartialEq, Eq)]
+pub struct Terminals {
+    /// Standard input.
+    pub is_typed: bool,
+    /// Standard error.
+    pub is_shown: bool,
 }
 
 /// Prints that on standard error, if standard input is a terminal. No memory is allocated.
-pub fn greet(rt: &HostRuntime, words: &str) {
-    if is_typed(rt) {
-        let _ = rt.eprintln(words);
+pub fn greet(errors: &impl Eprint, at: Terminals, words: &str) {
+    if at.is_typed {
+        let _ = errors.eprintln(words);
     }
 }
 
 /// Says on standard error that a large file is about to be opened, where standard error is a terminal. No memory is
 /// allocated.
-pub fn announce_large(rt: &HostRuntime, path: &str) {
-    if rt.stderr().is_terminal() && is_large(rt, path) {
-        let _ = eprintln!(rt;
+pub fn announce_large(errors: &impl Eprint, at: Terminals, path: &str, found: Look) {
+    if at.is_shown && is_large(found) {
+        let _ = eprintln!(errors;
             "opcplan: {path}: the file has 64 MB or more, so opening it takes a while; then statements are answered"
         );
     }
 }
 
-/// Whether a file is at the path that takes a while to open, by links too.
-fn is_large(files: &impl Files, path: &str) -> bool {
-    match fs::metadata(files, path) {
-        Ok(found) => found.len() >= LARGE,
-        Err(_) => false,
+/// Whether that is a file that takes a while to open.
+fn is_large(found: Look) -> bool
+    ensures { IsTrue result ↔ IsLarge found }
+{
+    match found {
+        Look::File(_, bytes) => bytes >= LARGE,
+        _ => false,
     }
 }

@@ -42,7 +42,7 @@ files_live law n c runs =
     (all.0, all.1, law all.0 c all.1)
 
 -- the ends of a run, by what it began with and what it had to read
-ends_so : (ends : Ends) (c : Content) (text : List ℕ) → ends.before ≡ c → ends.remaining ≡ Some text
+pub ends_so : (ends : Ends) (c : Content) (text : List ℕ) → ends.before ≡ c → ends.remaining ≡ Some text
     → ends ≡ ends_of c ends.after ends.written_before ends.written_after (Some text)
 ends_so ends c text begins reads = λ i. record {
   before = begins i;

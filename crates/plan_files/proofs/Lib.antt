@@ -4,5 +4,6 @@ pub mod FileRunLemmas
 pub mod LeftLemmas
 pub mod OverLemmas
 pub mod OlderLemmas
+pub mod AccountLemmas
 pub mod NextLemmas
 pub mod RefusedLemmas

@@ -5,5 +5,7 @@ pub mod Found
 pub mod Over
 pub mod Unrun
 pub mod Numbers
+pub mod LostIndexes
+pub mod Accounts
 pub mod Next
 pub mod StartingPlan

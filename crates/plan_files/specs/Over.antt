@@ -10,6 +10,7 @@ use Rattle.sqlite_wal.specs.Files.{outcomes}
 use Rattle.sqlite_wal.specs.Reads.{AreClean}
 use Rattle.sqlite_wal.specs.Recovery.{Image}
 use Rattle.plan_files_closing.specs.declared.closing.ClosedFiles.{ClosedFiles}
+use Rattle.planner_machine.specs.Sound.{IsSound}
 use Rattle.planner_cli.specs.Plans.{RanPlan, StoppedPlan}
 use Rattle.planner_cli.specs.Runs.{Ends}
 use Rattle.planner_cli.specs.declared.faults.RunFault.{RunFault}
@@ -43,11 +44,13 @@ pub record RunsFiles {D : Type 0} (g : disk.Ghosts D) (ends : Ends) (outcome : R
   pub alone : OnOk go.copied (AreHonest g go.files → (left : Image) → outcomes g go.files.log go.files.db left
       → ∥ HoldsLedAlone left (Leaves ends outcome) ∥₁)
 
--- a run over a connection that was open: what its database had when it began, and what its files hold in the end
+-- a run over a connection that was open: what its database had when it began, which is sound, and what its files hold in
+-- the end
 pub record RunsOverConnection {D : Type 0} {g : disk.Ghosts D} (conn : Held (FileStore D g)) (ends : Ends)
     (outcome : Result Tally RunFault) (is_whole : Bool) (go : ClosedFiles D) : Type 0 where
   pub honest : AreHonest g go.files → HasCleanDisk (file_state conn)
   pub told : AreHonest g go.files → IsToldBy (file_state conn).now ends.before
+  pub sound : AreHonest g go.files → IsSound ends.before
   pub runs : RunsFiles g ends outcome is_whole go
 
 -- the same, if tables of schema 1 were replaced before
@@ -55,6 +58,7 @@ pub record RunsMigrated {D : Type 0} {g : disk.Ghosts D} (conn : Held (FileStore
     (outcome : Result Tally RunFault) (is_whole : Bool) (go : ClosedFiles D) : Type 0 where
   pub honest : AreHonest g go.files → HasCleanDisk (file_state conn)
   pub told : AreHonest g go.files → IsToldNow (file_state conn) ends.before
+  pub sound : AreHonest g go.files → IsSound ends.before
   pub runs : RunsFiles g ends outcome is_whole go
 
 -- a run over files, whatever they held: the content before is the one found in them, nothing known if they held no
@@ -62,4 +66,5 @@ pub record RunsMigrated {D : Type 0} {g : disk.Ghosts D} (conn : Held (FileStore
 pub record RunsOverFiles {D : Type 0} (g : disk.Ghosts D) (image : Image) (ends : Ends)
     (outcome : Result Tally RunFault) (is_whole : Bool) (go : ClosedFiles D) : Type 0 where
   pub found : AreHonest g go.files → IsFoundIn image ends.before ⊎ IsFirstFoundIn image ends.before
+  pub sound : AreHonest g go.files → IsSound ends.before
   pub runs : RunsFiles g ends outcome is_whole go

@@ -1,19 +1,19 @@
 //! A run of the planner over files, from their bytes to their bytes, and the life of a plan over all its runs.
 //!
 //! ```text
-//! // the files hold no plan, so they get one; the line is no statement
-//! let mut reader = b"help\n".as_slice();
+//! // the files hold no plan, so they get one, and the reader has a line; it is no statement
+//! let opening = IfNew { text: b"help\n".as_slice() };
 //! let mut writer = Vec::new(alloc);
-//! let Ok(ended) = run_over_connection(alloc, conn, &mut begun, &mut reader, &mut writer) else {
+//! let Ok((ended, _)) = run_over_connection(alloc, conn, opening, &mut writer) else {
 //!     return Err(Fail::new("not run"));
 //! };
 //! assert!(rt; ended.is_whole && ended.closed.copied.is_ok());
 //! assert_eq!(rt; writer.as_slice(), b"refused 10\n".as_slice());
-//! assert_eq!(rt; begun.plan, Some(StartingPlan::New));
 //! ```
 #![tactic(auto)]
 
 mod life;
+mod lost_indexes;
 mod next;
 mod openers;
 mod openings;

@@ -15,17 +15,20 @@ pub enum StartingPlan {
     /// A new plan, because they held none.
     New,
     /// The plan that they held, whose tables were of schema 1 and are replaced.
-    Migrated,
+    Migrated {
+        /// Whether a user had made an index on one of the two tables that were made anew. It is gone.
+        lost_index: bool,
+    },
 }
 
-/// Is notified when a plan is open, before the first statement is read.
-pub trait Opening {
-    // it was notified of this once, and so it became that
-    ghost reports: { Self → BegunValue → Self → Type 0 };
+/// Is notified when a plan is open, and gives the reader of the stream then: so nothing is read of it before.
+pub trait Opening<R> {
+    // it was notified of this, and gave this reader
+    ghost reports: { Self → BegunValue → R → Type 0 };
 
-    /// The plan is open.
-    fn opened(&mut self, begun: StartingPlan)
-        ensures { reports self.old begun self.new };
+    /// The plan is open. This gives the reader of its stream.
+    fn opened(self, begun: StartingPlan) -> R
+        ensures { reports self begun result };
 }
 
 /// Whether that is the version of schema 1.
@@ -38,12 +41,13 @@ pub(crate) fn is_first(version: Option<u32>) -> bool
     }
 }
 
-/// What a run begins with over a plan that was migrated or not, and over tables that have or lack `plan_meta`.
-pub(crate) fn starting_plan(was_first: bool, has_meta: bool) -> StartingPlan
-    ensures { result ≡ begun_of was_first has_meta }
+/// What a run begins with over a plan that was migrated or not, over tables that have or lack `plan_meta`, and that had
+/// an index which a migration loses, or had none.
+pub(crate) fn starting_plan(was_first: bool, has_meta: bool, lost_index: bool) -> StartingPlan
+    ensures { result ≡ begun_of was_first has_meta lost_index }
 {
     match (was_first, has_meta) {
-        (true, _) => StartingPlan::Migrated,
+        (true, _) => StartingPlan::Migrated { lost_index },
         (false, true) => StartingPlan::AsItWas,
         (false, false) => StartingPlan::New,
     }

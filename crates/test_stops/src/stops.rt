@@ -1,5 +1,5 @@
 //! A stream over files in memory of which one stops at some call, and the same stream run again over what a crash left.
-ghost use Rattle.std.specs.Prelude.{◌≡◌, false};
+ghost use Rattle.std.specs.Prelude.{◌≡◌, ⊤, false};
 
 use crate::disks::{MOST_CALLS, Stopping, new_disks};
 use crate::stores::{connect, connect_again, is_after, run_again};
@@ -30,14 +30,18 @@ struct FirstRun<D: Disk> {
     disks: Files<D>,
 }
 
-/// Ignores what a run begins with.
+/// Gives the rest of a text, whatever the run begins with.
 #[derive(Drop)]
-struct Silent;
+struct Silent<'a> {
+    text: &'a [u8],
+}
 
-impl Opening for Silent {
-    ghost reports = { λ old _ new. new ≡ old };
+impl<'a> Opening<&'a [u8]> for Silent<'a> {
+    ghost reports = { λ _ _ _. ⊤ };
 
-    fn opened(&mut self, _begun: StartingPlan) {}
+    fn opened(self, _begun: StartingPlan) -> &'a [u8] {
+        self.text
+    }
 }
 
 /// The files as a run left them that came so far, with whether they were closed.
@@ -50,20 +54,23 @@ fn ran_to<D: Disk + Drop>(how_far: Reached, closed: ClosedFiles<D>) -> FirstRun<
 }
 
 /// What a run left that ended so and wrote this.
-fn ran<D: Disk + Drop>(
-    ended: Result<Ended<D>, (Unrun, FileStore<D>)>,
+fn ran<'a, D: Disk + Drop>(
+    run: Result<(Ended<D>, &'a [u8]), (Unrun, FileStore<D>, Silent<'a>)>,
     written: &[u8],
     stream: &Stream<'_>,
 ) -> FirstRun<D> {
-    match ended {
+    match run {
         Ok(
-            Ended {
-                outcome,
-                closed,
-                ..
-            },
+            (
+                Ended {
+                    outcome,
+                    closed,
+                    ..
+                },
+                _,
+            ),
         ) => ran_to(stream.end_of(&outcome, written), closed),
-        Err((_, left)) => FirstRun {
+        Err((_, left, _)) => FirstRun {
             how_far: Reached::Nothing,
             is_closed: false,
             disks: left.close(),
@@ -79,10 +86,10 @@ fn run_connected<D: Disk + Drop>(
 ) -> FirstRun<D>
     requires { conn.in_transaction ≡ false }
 {
-    let mut left = stream.text;
     let mut written = Vec::new(alloc);
-    let ended = run_over_connection(alloc, conn, &mut Silent, &mut left, &mut written);
-    ran(ended, &written, stream)
+    let opening = Silent { text: stream.text };
+    let run = run_over_connection(alloc, conn, opening, &mut written);
+    ran(run, &written, stream)
 }
 
 /// Runs the stream over the files for the first time, as a program does.

@@ -5,4 +5,4 @@ pub returns-clause-runs : goal.returns-clause-runs
 returns-clause-runs g c = carries_on g.D.Disk
 
 pub returns-clause-refused : goal.returns-clause-refused
-returns-clause-refused g c = passes_on g.D.Disk
+returns-clause-refused g c = passes_on g.D.Disk c.tables_have_one_content.ensures

@@ -1,4 +1,4 @@
-use Rattle.plan_files.proofs.NextLemmas.{bytes_live, finds, goes_on, holds_next, whole_life}
+use Rattle.plan_files.proofs.NextLemmas.{bytes_live, bytes_rerun, finds, goes_on, holds_next, whole_life}
 use Rattle.plan_files.proofs.next.next_run.Goals as goal
 
 pub returns-clause-finds : goal.returns-clause-finds
@@ -14,4 +14,7 @@ pub returns-clause-lives : goal.returns-clause-lives
 returns-clause-lives c = bytes_live c.tables_have_one_content.ensures
 
 pub returns-clause-whole_life : goal.returns-clause-whole_life
-returns-clause-whole_life c = whole_life c.file_life.ensures.lives (bytes_live c.tables_have_one_content.ensures)
+returns-clause-whole_life c = whole_life c.plan_life.ensures (bytes_live c.tables_have_one_content.ensures)
+
+pub returns-clause-rerun : goal.returns-clause-rerun
+returns-clause-rerun c = bytes_rerun c.tables_have_one_content.ensures c.file_life.ensures.rerun

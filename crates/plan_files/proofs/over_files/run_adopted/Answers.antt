@@ -9,19 +9,21 @@ use Rattle.plan_files.proofs.over_files.run_adopted.Goals as goal
 pub returns-in-Ok-clause-ran : goal.returns-in-Ok-clause-ran
 returns-in-Ok-clause-ran g c =
     let over = c.in-Ok.ensures.opened in
-    let ran = c.run_and_close.ensures.runs in (
+    let ran = c.run_and_close-ended.ensures.runs in (
       kept_in (file_state c.in-Ok.store.session.conn) (content_of c.in-Ok.store.lists),
       ran.0,
+      c.opened-reader.result,
       record {
-        honest = λ honest. omega (arith, over.crash.clean, c.run_and_close.ensures.honest honest);
-        told = λ honest. let clean = c.run_and_close.ensures.honest honest in (over.opened clean).told clean;
+        honest = λ honest. omega (arith, over.crash.clean, c.run_and_close-ended.ensures.honest honest);
+        told = λ honest. let clean = c.run_and_close-ended.ensures.honest honest in (over.opened clean).told clean;
+        sound = λ honest. (over.opened (c.run_and_close-ended.ensures.honest honest)).sound;
         runs = ran.1;
       },
-      c.opened.ensures,
+      c.opened-reader.ensures,
     )
 
-pub run_and_close-requires-clause-kept : goal.run_and_close-requires-clause-kept
-run_and_close-requires-clause-kept g c clean =
+pub run_and_close-ended-requires-clause-kept : goal.run_and_close-ended-requires-clause-kept
+run_and_close-ended-requires-clause-kept g c clean =
     let over = c.in-Ok.ensures.opened in
     let opened = over.opened clean in
     record { stored = opened.stored clean; sound = opened.sound; part = over.part clean }

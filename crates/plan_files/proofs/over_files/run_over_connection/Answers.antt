@@ -1,4 +1,6 @@
-use Rattle.std.proofs.Common.{arith, inl, inr, subst, sym}
+use Rattle.std.proofs.Common.{◌≡◌, ◌↔◌, arith, false, inl, inr, subst, sym}
+use Rattle.sqlite.specs.Schema.{Schema}
+use Rattle.plan_files.specs.LostIndexes.{KeepsIndexes}
 use Rattle.sqlite.specs.Files.{file_state}
 use Rattle.sqlite.specs.State.{HasCleanDisk}
 use Rattle.sqlite_store.specs.Laws.{settled_at}
@@ -15,21 +17,23 @@ pub returns-in-Ok-clause-ran : goal.returns-in-Ok-clause-ran
 returns-in-Ok-clause-ran g c =
     let old = file_state c.args.conn in
     let mid = file_state c.migrate_older.new.conn in
-    if_ok c.run_adopted.result _ _ (λ ended h. (
+    if_ok c.run_adopted.result _ _ (λ run h. (
       h.0,
       h.1,
+      h.2,
       record {
-        honest = λ honest. omega (arith, c.migrate_older.ensures.crash.clean, h.2.honest honest);
-        told = λ honest. told_now old mid h.0 (c.in-Ok.ensures.current (h.2.honest honest)) (h.2.told honest);
-        runs = h.2.runs;
+        honest = λ honest. omega (arith, c.migrate_older.ensures.crash.clean, h.3.honest honest);
+        told = λ honest. told_now old mid h.0 (c.in-Ok.ensures.current (h.3.honest honest)) (h.3.told honest);
+        sound = h.3.sound;
+        runs = h.3.runs;
       },
       record {
-        begun = begun_of c.is_first.result c.has_meta.result;
-        reported = subst (λ (b : StartingPlan). g.O.Opening.reports c.args.opening.now b c.run_adopted.new.opening)
-            c.starting_plan-begun.ensures h.3;
-        was = λ honest. begun_on old mid _ c.is_first.result c.has_meta.result h.0
-            (c.in-Ok.ensures.found (h.2.honest honest)) c.is_first.ensures c.has_meta.ensures.plan
-            c.has_meta.ensures.room (h.2.told honest);
+        begun = begun_of c.is_first.result c.has_meta.result c.loses_index-lost_index.result;
+        reported = subst (λ (b : StartingPlan). g.O.Opening.reports c.args.opening b h.2) c.starting_plan-begun.ensures h.4;
+        was = λ honest. begun_on old mid _ c.is_first.result c.has_meta.result c.loses_index-lost_index.result h.0
+            (subst (λ (x : Schema). (c.loses_index-lost_index.result ≡ false) ↔ KeepsIndexes x) c.schema.ensures.value
+            c.loses_index-lost_index.ensures) (c.in-Ok.ensures.found (h.3.honest honest)) c.is_first.ensures c.has_meta.ensures.plan
+            c.has_meta.ensures.room (h.3.told honest);
       },
     )) c.run_adopted.ensures.ran
 

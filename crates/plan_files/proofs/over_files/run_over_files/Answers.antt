@@ -13,25 +13,27 @@ use Rattle.plan_files.proofs.over_files.run_over_files.Goals as goal
 pub returns-in-Ok-run_over_connection-clause-ran : goal.returns-in-Ok-run_over_connection-clause-ran
 returns-in-Ok-run_over_connection-clause-ran g c =
     let h = c.in-Ok-run_over_connection.ensures.ran in
-    let migrated = h.2 in (
+    let migrated = h.3 in (
       h.0,
       h.1,
+      h.2,
       record {
         found = λ honest.
             let first = migrated.honest honest in
             let opened = c.in-Ok.ensures.opened first in
             found_any (image_at g.S.Start) (file_state c.in-Ok.conn) h.0 opened.0 opened.1 (c.in-Ok.ensures.found first)
             (migrated.told honest);
+        sound = migrated.sound;
         runs = migrated.runs;
       },
       record {
-        begun = h.3.begun;
-        reported = h.3.reported;
+        begun = h.4.begun;
+        reported = h.4.reported;
         was = λ honest.
             let first = migrated.honest honest in
             let opened = c.in-Ok.ensures.opened first in
-            begun_in (image_at g.S.Start) (file_state c.in-Ok.conn) h.3.begun h.0 opened.0 opened.1
-            (c.in-Ok.ensures.found first) (h.3.was honest);
+            begun_in (image_at g.S.Start) (file_state c.in-Ok.conn) h.4.begun h.0 opened.0 opened.1
+            (c.in-Ok.ensures.found first) (h.4.was honest);
       },
     )
 
