@@ -15,6 +15,7 @@ LAYERS = {
     "plans": "a plan file and its journal, copies, locks, trials over a copy, and what is made of rows",
     "needs": "what of a plan needs a person, from facts of the plan, its journal, agents and machines",
     "acts": "what an operator wants, as a stream with its preview and its inverse",
+    "edits": "a change of definitions, as a stream with its preview",
     "cli": "words, output, signals and version of a command",
     "webpage": "the page that shows a plan",
     "desk": "one planner for many callers, and its client",

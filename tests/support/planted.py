@@ -111,7 +111,7 @@ BUGS = (
     Bug("lists stay after a change", "desk/core.py", "                self.lists.changed()\n", "                pass\n",
         "test_desk_lists.Kept.test_a_list_is_given_again_while_nothing_changes", "First differing element 0:\n'W'"),
     # definitions
-    Bug("edit undefines a period in use", "commands/edit_period.py", "if is_gone and users:", "if False:",
+    Bug("edit undefines a period in use", "edits/periods.py", "if is_gone and users:", "if False:",
         "test_edit.Edit.test_the_last_interval_of_a_period_in_use_stays", r"Tuples differ: \(0, 'undefine"),
 )
 

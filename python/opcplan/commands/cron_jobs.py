@@ -7,7 +7,7 @@ import shlex
 
 from opcplan.cli import output
 from opcplan.commands.crontab import Line
-from opcplan.commands.edit_change import ChangeRefused
+from opcplan.edits.changes import ChangeRefused
 from opcplan.errors import Unwritable
 
 NOT_SET = ("MAILTO", "MAILFROM", "CRON_TZ", "TZ", "RANDOM_DELAY", "SHELL", "CONTENT_TYPE", "CONTENT_TRANSFER_ENCODING")

@@ -6,8 +6,9 @@ from collections.abc import Iterator
 from typing import NamedTuple
 
 from opcplan.cli import words
-from opcplan.commands import edit_run_cycle, edit_words
-from opcplan.commands.edit_change import ChangeRefused
+from opcplan.commands import edit_words
+from opcplan.edits import run_cycles as cycle_edits, words as edit_texts
+from opcplan.edits.changes import ChangeRefused
 from opcplan.errors import UsageError
 from opcplan.plans import plan_definitions, plan_file
 from opcplan.plans.plan_file import Plan
@@ -121,15 +122,15 @@ def tried_lines(
                             "calendar=" if app else "you gave a field twice", 2)
     name = pairs.pop("calendar", "").upper() or None
     if name is not None and name not in found.calendars:
-        raise ChangeRefused(edit_words.lack("calendar", name, found.calendars))
-    fields = edit_run_cycle.wanted_fields(pairs.items())
+        raise ChangeRefused(edit_texts.lack("calendar", name, found.calendars))
+    fields = cycle_edits.wanted_fields(pairs.items())
     if not fields.get("period"):
         raise ChangeRefused(f"--try needs period= too; the plan has {few(found.periods) or 'none'}", 2)
     usual = {"type": "N", "rule": "E", "offsets": "1", "in effect": "1972-01-01", "out of effect": "",
              "input arrival": "00.00", "deadline day": "0", "deadline time": "23.59"}
-    cycle = edit_run_cycle.cycle_of({"application": TRIED, "name": TRIED, **usual, **fields})
+    cycle = cycle_edits.cycle_of({"application": TRIED, "name": TRIED, **usual, **fields})
     if cycle.period not in found.periods:
-        raise ChangeRefused(edit_words.lack("period", cycle.period, found.periods))
+        raise ChangeRefused(edit_texts.lack("period", cycle.period, found.periods))
     applications, run_cycles = {TRIED: Application(True, name)}, {TRIED: {TRIED: cycle}}
     tried = dataclasses.replace(found, applications=applications, run_cycles=run_cycles)
     lines = []

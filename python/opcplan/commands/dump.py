@@ -7,13 +7,12 @@ from collections.abc import Callable, Iterator
 from typing import Any, NamedTuple
 
 from opcplan.cli import words
-from opcplan.errors import Error
 from opcplan.plans import job_numbers, plan_definitions, plan_file
 from opcplan.plans.plan_file import Plan
 from opcplan.rules import record_texts
+from opcplan.rules.record_texts import Unprintable
 
 SUMMARY = "the definitions of a plan, as a job stream that gives them again"
-MOST_BYTES = 262_144
 GREATEST_JOB = 999_999_999
 
 
@@ -23,10 +22,6 @@ class Kind(NamedTuple):
     kind: str
     title: str
     blocks: list[str]
-
-
-class Unprintable(Error):
-    """Its text says what can't be written as statements."""
 
 
 def add_words(parser: words.Parser) -> None:
@@ -88,22 +83,6 @@ def kinds_of(plan: Plan) -> Iterator[Kind]:
         records = {name: records_of(name, defined) for name, defined in names.items()}
         if records:
             title = f"{kind}, of {len(records)} name{'s' if len(records) > 1 else ''}"
-            yield Kind(kind, title, blocks_of(kind, records))
+            yield Kind(kind, title, record_texts.blocks_of(kind, records))
     options = f'default_calendar = "{found.default_calendar}"\nmax_extension_hours = {found.max_hours}\n'
     yield Kind("options", "options", [options])
-
-
-def blocks_of(kind: str, records: dict[str, list[str]]) -> list[str]:
-    """The records by blocks, so that the records of one name stand in one and none has too many bytes."""
-    blocks: list[list[str]] = [[]]
-    size = 0
-    for name, lines in records.items():
-        text = "".join(line + "\n" for line in lines)
-        if len(text) > MOST_BYTES:
-            raise Unprintable(f"the {kind} of {name} take {len(text)} bytes, but a block has at most {MOST_BYTES}")
-        if size + len(text) > MOST_BYTES:
-            blocks.append([])
-            size = 0
-        blocks[-1].append(text)
-        size += len(text)
-    return ["".join(texts) for texts in blocks]

@@ -4,38 +4,35 @@ import argparse
 import contextlib
 import functools
 import sys
-from collections.abc import Callable, Sequence
-from typing import Any, Protocol, TypeVar
+from collections.abc import Sequence
+from typing import Protocol
 
+from opcplan.acts import loaded
 from opcplan.cli import words
 from opcplan.commands import (
     edit_application, edit_calendar, edit_change, edit_options, edit_period, edit_predecessor, edit_run_cycle,
-    edit_whole, edit_words,
+    edit_words,
 )
+from opcplan.edits import edit
+from opcplan.edits.changes import ChangeRefused, Unsound
+from opcplan.edits.edit import Edit
 from opcplan.errors import Unreadable
 from opcplan.plans import plan_definitions, plan_file
-from opcplan.plans.plan_file import Plan
-from opcplan.rules.definitions import Definitions
 
 SUMMARY = "the job stream that makes one change of a plan's definitions"
 
 
-SettingsT = TypeVar("SettingsT")
-
-
-class Kind(Protocol[SettingsT]):
+class Kind(Protocol):
     """A kind of change: the module of its words."""
 
     SUMMARY: str
 
+    @property
+    def WORDS(self) -> tuple[str, ...]:
+        """Its arguments, in their order."""
+
     def add_words(self, parser: words.Parser) -> None:
         """Adds its words to a parser."""
-
-    def settings_of(self, given: argparse.Namespace) -> SettingsT:
-        """Its words as settings."""
-
-    def change(self, plan: Plan, found: Definitions, given: SettingsT) -> edit_change.Change:
-        """The change that is asked for. Raises ChangeRefused."""
 
 
 # what somebody may call a change, by its first word without an s
@@ -54,7 +51,7 @@ MEANT = {
     "option": "options KEY=VALUE ..` changes an option",
     "month": "period NAME months ..2027-12` lists more months",
 }
-KINDS: dict[str, Kind[Any]] = {
+KINDS: dict[str, Kind] = {
     "calendar": edit_calendar,
     "period": edit_period,
     "application": edit_application,
@@ -94,7 +91,7 @@ def kind_meant(typed: Sequence[str]) -> str:
     return f"there is no WHAT {what!r}: `./plan edit PLAN.db {other}" if other else ""
 
 
-def name_lacked(parser: words.Parser, module: Kind[SettingsT], typed: Sequence[str]) -> str:
+def name_lacked(parser: words.Parser, module: Kind, typed: Sequence[str]) -> str:
     """That a name is missing before what was typed, and which names the plan has; or nothing."""
     plan = next(iter(parser.typed), "")
     lacks = getattr(module, "name_lacked", None)
@@ -107,20 +104,24 @@ def name_lacked(parser: words.Parser, module: Kind[SettingsT], typed: Sequence[s
 
 def run(given: argparse.Namespace) -> int:
     """Does what the words ask for; the exit status."""
-    if (whole := edit_whole.asked(given.what, given)) is not None:
-        return edited(given.plan, edit_whole.change, whole, given.job)
-    kind = KINDS[given.what]
-    return edited(given.plan, kind.change, kind.settings_of(given), given.job)
+    typed = [given.what]
+    for name in KINDS[given.what].WORDS:
+        value = getattr(given, name)
+        typed += value if isinstance(value, list) else [] if value is None else [str(value)]
+    try:
+        wanted = edit.read(typed)
+    except ChangeRefused as wrong:
+        raise ChangeRefused(f"{wrong}; ./plan edit PLAN.db {given.what} --help says more", 2) from None
+    return edited(given.plan, wanted, given.job)
 
 
-def edited(
-    path: str, change_of: Callable[[Plan, Definitions, SettingsT], edit_change.Change], settings: SettingsT,
-    first_job: int | None,
-) -> int:
-    """Prints the job stream of a change; the exit status."""
+def edited(path: str, wanted: Edit, first_job: int | None) -> int:
+    """Prints the job stream of an edit; the exit status."""
     with plan_file.opened(path) as plan:
-        change = change_of(plan, plan_definitions.of_plan(plan), settings)
-        changes = [change, *change.also]
+        try:
+            changes = edit.change_of(loaded.world_of(plan), wanted).all
+        except Unsound as wrong:
+            raise Unreadable(f"{path}: {wrong}") from None
         text, job = edit_change.stream_of(plan, changes, first_job)
         sentences = [*(sentence for one in changes for sentence in one.sentences),
                      *edit_change.way_into(plan, changes, job)]

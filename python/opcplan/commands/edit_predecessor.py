@@ -1,30 +1,14 @@
 """./plan edit PLAN.db predecessor: what an application waits for."""
 
 import argparse
-import dataclasses
 
 from opcplan.cli import words
 from opcplan.cli.words import Parser
 from opcplan.commands import edit_words
-from opcplan.commands.edit_change import Change, ChangeRefused
-from opcplan.plans import stream_state
-from opcplan.plans.plan_file import Plan
-from opcplan.rules import lint_checks, loops
-from opcplan.rules.definitions import Definitions
-from opcplan.rules.naming_words import count_text, few, meant_text
+from opcplan.edits.predecessors import ADD, REMOVE
 
-Limits = dict[str, int | None]  # by predecessor: the hours of its limit, or None
 SUMMARY = "adds a predecessor to an application's list, with a limit or none, or removes one"
-
-
-@dataclasses.dataclass(frozen=True)
-class Settings:
-    """Two applications, of which one waits for the other, what is done with that, and a limit."""
-
-    app: str
-    verb: str
-    other: str
-    hours: int | None
+WORDS = ("app", "verb", "other", "hours")
 
 
 def add_words(parser: Parser) -> None:
@@ -33,7 +17,7 @@ def add_words(parser: Parser) -> None:
                 names=["applications"])
     action = parser.add_argument("verb", metavar="add|remove", type=verb, help="add (also for another limit), or "
                                                                                "remove")
-    words.offer(action, ["add", "remove"])
+    words.offer(action, [ADD, REMOVE])
     parser.add_argument("other", metavar="P", type=edit_words.name, help="the application that it waits for")
     parser.add_argument("hours", metavar="HOURS", type=edit_words.hours, nargs="?",
                         help="how many hours before APP an occurrence of P may arrive at most (else without a limit)")
@@ -41,69 +25,6 @@ def add_words(parser: Parser) -> None:
 
 def verb(text: str) -> str:
     """What is to be done."""
-    if text not in ("add", "remove"):
+    if text not in (ADD, REMOVE):
         raise argparse.ArgumentTypeError(f"{text!r} is neither add nor remove")
     return text
-
-
-def settings_of(given: argparse.Namespace) -> Settings:
-    """The words as Settings."""
-    return Settings(given.app, given.verb, given.other, given.hours)
-
-
-def change(plan: Plan, found: Definitions, given: Settings) -> Change:
-    """The change that is asked for."""
-    before = found.predecessors.get(given.app, {})
-    if given.verb == "add":
-        after, sentences = added(found, given.app, given.other, given.hours, before)
-    else:
-        after, sentences = removed(given.app, given.other, given.hours, before)
-    others = [name for name in before if name != given.other]
-    sentences.append(f"{given.app} still waits for {few(others)}." if others
-                     else f"{given.app} waited for nothing else." if given.other in before
-                     else f"{given.app} waits for nothing else.")
-    sentences.append("An occurrence that has started by then keeps what it waited for.")
-    is_active = given.app in found.applications and found.applications[given.app].is_active
-    return Change("predecessors", {given.app: after or None}, sentences, given.app if is_active else None)
-
-
-def added(found: Definitions, app: str, other: str, hours: int | None, before: Limits) -> tuple[Limits, list[str]]:
-    """The list with a further name or another limit, and what changes."""
-    for name in (app, other):
-        if name not in found.applications:
-            raise ChangeRefused(f"there is no application {name}{meant_text(name, found.applications)}")
-    if before.get(other, 0) == hours:
-        raise ChangeRefused(f"{app} waits for {other} already, {limit_text(hours)}; nothing would change")
-    ring = loops.ring_of({**found.predecessors, app: {other: hours}}, app)
-    if other not in before and ring:
-        raise ChangeRefused(f"that makes a loop, {' waits for '.join(ring)}, so planning statements would be refused "
-                            "(25)")
-    if other in before:
-        sentences = [f"{app} waits for {other}: {limit_text(before[other])} -> {limit_text(hours)}."]
-    else:
-        sentences = [f"{app} waits for {other}{' too' if before else ''}, {limit_text(hours)}."]
-    after = dict(sorted({**before, other: hours}.items()))
-    return after, sentences + slips(found, app, {other: hours})
-
-
-def removed(app: str, other: str, hours: int | None, before: Limits) -> tuple[Limits, list[str]]:
-    """The list without a name, and what changes."""
-    if hours is not None:
-        raise ChangeRefused("only `add` takes hours", 2)
-    if other not in before:
-        raise ChangeRefused(f"{app} doesn't wait for {other}{meant_text(other, before)}: its list has "
-                            f"{few(before) or 'nothing'}")
-    after = {name: within for name, within in before.items() if name != other}
-    return after, [f"{app} no longer waits for {other} ({limit_text(before[other])})."]
-
-
-def limit_text(hours: int | None) -> str:
-    """A limit in words."""
-    return "without a limit" if hours is None else f"within {count_text(hours, 'hour')}"
-
-
-def slips(found: Definitions, app: str, listed: Limits) -> list[str]:
-    """What is likely a slip in a list, in sentences."""
-    now = stream_state.Known(is_whole=True)
-    now.defined = dataclasses.replace(found, predecessors={app: listed})
-    return [f"Likely a mistake: {finding.text}." for finding in lint_checks.predecessors(now)]

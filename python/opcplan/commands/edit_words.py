@@ -1,4 +1,4 @@
-"""Words of ./plan edit and ./plan import: names, days and what is said of many of them."""
+"""Words of ./plan edit, import, days and cal, for argparse."""
 
 import argparse
 from collections.abc import Callable, Iterable
@@ -6,51 +6,49 @@ from typing import TypeVar
 
 from opcplan.cli import words
 from opcplan.commands import dump
-from opcplan.rules import naming_words, record_fields
-from opcplan.rules.definitions import WEEKDAYS
+from opcplan.edits import words as edit_words
+from opcplan.edits.changes import ChangeRefused
 
 Read = TypeVar("Read")  # what a text is read as
 
 
 def checked(read: Callable[[str], Read], text: str) -> Read:
-    """What a reader of record_fields answers, for `type=`."""
+    """What a reader of words answers, for `type=`."""
     try:
         return read(text)
-    except record_fields.InvalidField as wrong:
-        raise argparse.ArgumentTypeError(f"{text!r}: {wrong}") from None
-
-
-def texts_of(**fields: str) -> record_fields.Texts:
-    """Words as the fields of a record; what is no text is told as a byte of it."""
-    return record_fields.Texts({field: text.encode("utf-8", "surrogateescape") for field, text in fields.items()})
+    except ChangeRefused as wrong:
+        raise argparse.ArgumentTypeError(str(wrong)) from None
 
 
 def name(text: str) -> str:
     """A name of 16, for `type=`; small letters are taken as capitals."""
-    return checked(lambda given: texts_of(name=given.upper()).name("name"), text)
+    return checked(edit_words.name, text)
 
 
 def short_name(text: str) -> str:
     """A name of 8, for `type=`; small letters are taken as capitals."""
-    return checked(lambda given: texts_of(name=given.upper()).name("name", 8), text)
+    return checked(edit_words.short_name, text)
 
 
 def day(text: str) -> int:
     """A day, for `type=`."""
-    return checked(lambda given: texts_of(day=given).day("day"), text)
+    return checked(edit_words.day, text)
 
 
 def hours(text: str) -> int:
     """A limit in hours, for `type=`."""
-    return checked(lambda given: texts_of(hours=given).number("hours", 1, 9999), text)
+    return checked(edit_words.hours, text)
 
 
 def pair(text: str) -> tuple[str, str]:
     """`key=value`, for `type=`."""
-    key, equals, value = text.partition("=")
-    if not equals or not key:
-        raise argparse.ArgumentTypeError(f"{text!r} is not of the form KEY=VALUE")
-    return key, value
+    return checked(edit_words.pair, text)
+
+
+def pair_text(text: str) -> str:
+    """The text of `key=value`, for `type=`."""
+    pair(text)
+    return text
 
 
 def add_job(parser: argparse.ArgumentParser) -> None:
@@ -58,19 +56,7 @@ def add_job(parser: argparse.ArgumentParser) -> None:
     parser.add_argument("--job", metavar="N", type=dump.job_number, help="its job number (else the next one)")
 
 
-def lack(what: str, name: str, known: Iterable[str]) -> str:
-    """That a plan has no such definition, and what it has."""
-    known = list(known)
-    return f"there is no {what} {name}{naming_words.meant_text(name, known)}; the plan has " \
-        f"{naming_words.few(known) or 'none'}"
-
-
 def print_sentences(sentences: Iterable[str]) -> None:
     """Says sentences on standard error."""
     for sentence in sentences:
         words.print_message(sentence)
-
-
-def weekday(text: str) -> int | None:
-    """The weekday of `MON` to `SUN`, 0 for Monday, or None."""
-    return WEEKDAYS.index(text) if text in WEEKDAYS else None

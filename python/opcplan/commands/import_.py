@@ -5,13 +5,13 @@ import dataclasses
 import datetime
 import sys
 
+from opcplan.acts import loaded
 from opcplan.cli import words
-from opcplan.commands import (
-    cron_jobs, edit_calendar, edit_change, edit_words, import_cron, import_csv, import_forms, import_ics,
-)
-from opcplan.commands.edit_calendar import Entry
-from opcplan.commands.edit_change import ChangeRefused
+from opcplan.commands import cron_jobs, edit_change, edit_words, import_cron, import_csv, import_forms, import_ics
 from opcplan.commands.import_result import Changes
+from opcplan.edits import calendars, words as edit_texts
+from opcplan.edits.calendars import Entry
+from opcplan.edits.changes import ChangeRefused
 from opcplan.plans import plan_definitions, plan_file, stream_file
 from opcplan.plans.plan_file import Plan
 from opcplan.rules import stream
@@ -115,7 +115,7 @@ def ask_calendar(found: Definitions, given: Settings) -> None:
     if given.calendar is None or given.calendar in found.calendars or given.is_new:
         return
     new = "" if given.form == "cron" else "; --new makes it"
-    raise ChangeRefused(edit_words.lack("calendar", given.calendar, found.calendars) + new)
+    raise ChangeRefused(edit_texts.lack("calendar", given.calendar, found.calendars) + new)
 
 
 def taken(plan: Plan, found: Definitions, given: Settings) -> Changes:
@@ -134,8 +134,8 @@ def taken(plan: Plan, found: Definitions, given: Settings) -> Changes:
         days, sentences, left = import_ics.days(data, path, *window(plan, given))
     if not days:
         raise ChangeRefused(" ".join([f"{path}: it has no day to import.", *left, *sentences]))
-    wanted: edit_calendar.Wanted = {Entry("date", day): days[day] for day in sorted(days)}
-    change = edit_calendar.of_entries(plan, found, name, wanted)
+    wanted: calendars.Wanted = {Entry("date", day): days[day] for day in sorted(days)}
+    change = calendars.of_entries(loaded.world_of(plan), found, name, wanted)
     if name not in found.calendars:
         sentences.append(f"{name} is new: it lists no weekday, so Saturdays and Sundays are work days in it.")
     return Changes([change], [*sentences, *change.sentences], left)

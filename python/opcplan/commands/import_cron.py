@@ -7,8 +7,8 @@ from typing import Any, NamedTuple
 
 from opcplan.commands import crontab
 from opcplan.commands.crontab import Line, UnsupportedLine
-from opcplan.commands.edit_change import Change, ChangeRefused
 from opcplan.commands.import_result import Changes
+from opcplan.edits.changes import Change, ChangeRefused
 from opcplan.rules.definitions import FIRST_DAY, Application, Definitions, Due, Entry, Period, RunCycle, weekday_of
 from opcplan.rules.moments import EPOCH, day_text, minute_text
 from opcplan.rules.naming_words import count_text, few

@@ -4,9 +4,9 @@ import csv
 import io
 from collections.abc import Iterator
 
-from opcplan.commands import edit_words
-from opcplan.commands.edit_change import ChangeRefused
 from opcplan.commands.import_result import Days
+from opcplan.edits import words
+from opcplan.edits.changes import ChangeRefused
 from opcplan.rules import record_fields
 from opcplan.rules.moments import day_text
 from opcplan.rules.naming_words import count_text
@@ -63,7 +63,7 @@ def read(fields: list[str]) -> tuple[int, bool]:
         raise record_fields.InvalidField("", f"it has {len(fields)} fields, but a record is date, status, comment")
     if ";" in fields[0]:
         raise record_fields.InvalidField("", "separate its fields by commas, not by semicolons")
-    day = edit_words.texts_of(date=fields[0]).day("date")
+    day = words.texts_of(date=fields[0]).day("date")
     status = fields[1].lower() if len(fields) > 1 else ""
     if status not in STATUSES:
         raise record_fields.InvalidField("", f"{fields[1][:20]!r} is neither free nor work")

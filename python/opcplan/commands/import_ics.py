@@ -10,9 +10,9 @@ from typing import Any, NamedTuple, Optional
 
 from opcplan.cli import interpreter
 from opcplan.commands import import_forms
-from opcplan.commands.edit_change import ChangeRefused
 from opcplan.commands.ics_times import MIDNIGHT, Clock, UnsupportedEvent, date_of
 from opcplan.commands.import_result import Days
+from opcplan.edits.changes import ChangeRefused
 from opcplan.errors import Unreadable
 from opcplan.rules.moments import EPOCH, day_text
 from opcplan.rules.naming_words import count_text, few

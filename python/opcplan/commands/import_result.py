@@ -3,7 +3,7 @@
 from typing import NamedTuple
 
 from opcplan.commands.crontab import Line
-from opcplan.commands.edit_change import Change
+from opcplan.edits.changes import Change
 
 
 class Days(NamedTuple):

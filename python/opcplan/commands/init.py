@@ -9,7 +9,8 @@ import sys
 from typing import NamedTuple
 
 from opcplan.cli import colours, words
-from opcplan.commands import dump, edit_period, edit_words, import_csv, import_forms, import_ics, run as run_command
+from opcplan.commands import edit_words, import_csv, import_forms, import_ics, run as run_command
+from opcplan.edits import periods as period_edits
 from opcplan.errors import Unreadable
 from opcplan.plans import stream_file, tempfiles
 from opcplan.rules import moments, record_texts
@@ -164,7 +165,7 @@ def stream_of(span: Years, free: tuple[int, ...], files: list[str]) -> str:
     periods = {
         "DAY": Period("A", first, 1),
         "WEEK": Period("A", monday, 7),
-        **{name: Period("N", entries=edit_period.with_span(Period("N"), verb, [months]))
+        **{name: Period("N", entries=period_edits.with_span(Period("N"), verb, [months]))
            for name, verb in (("MONTH", "months"), ("QUARTER", "quarters"))},
     }
     if not calendar.weekdays and not calendar.dates:
@@ -172,7 +173,7 @@ def stream_of(span: Years, free: tuple[int, ...], files: list[str]) -> str:
     records = {"calendars": {"DEFAULT": record_texts.calendar_records("DEFAULT", calendar)},
                "periods": {name: record_texts.period_records(name, period) for name, period in periods.items()}}
     return "".join(f"define {kind} --job {number}\n{data}/*\n"
-                   for number, (kind, data) in enumerate(((kind, "".join(dump.blocks_of(kind, found)))
+                   for number, (kind, data) in enumerate(((kind, "".join(record_texts.blocks_of(kind, found)))
                                                           for kind, found in records.items()), 1))
 
 

@@ -1,7 +1,14 @@
 """The records that give definitions: what a block of data has for each name."""
 
+from opcplan.errors import Error
 from opcplan.rules import definitions, moments
 from opcplan.rules.definitions import Application, Calendar, Period, RunCycle
+
+MOST_BYTES = 262_144  # of a block
+
+
+class Unprintable(Error):
+    """Its text says what can't be written as statements."""
 
 
 def date_text(day: int | None) -> str:
@@ -49,3 +56,19 @@ def without_limits(app: str, listed: dict[str, int | None]) -> list[str]:
 def with_limits(app: str, listed: dict[str, int | None]) -> list[str]:
     """The records of a list of predecessors."""
     return [f"{app},{predecessor},{'' if within is None else within}" for predecessor, within in listed.items()]
+
+
+def blocks_of(kind: str, records: dict[str, list[str]]) -> list[str]:
+    """The records by blocks, so that the records of one name stand in one and none has too many bytes."""
+    blocks: list[list[str]] = [[]]
+    size = 0
+    for name, lines in records.items():
+        text = "".join(line + "\n" for line in lines)
+        if len(text) > MOST_BYTES:
+            raise Unprintable(f"the {kind} of {name} take {len(text)} bytes, but a block has at most {MOST_BYTES}")
+        if size + len(text) > MOST_BYTES:
+            blocks.append([])
+            size = 0
+        blocks[-1].append(text)
+        size += len(text)
+    return ["".join(texts) for texts in blocks]

@@ -1,22 +1,20 @@
-"""./plan edit: a whole definition removed, renamed, or made like another one, with each place that names it.
+"""Edits of a whole definition: removed, renamed, or made like another one, with each place that names it.
 
 What is new is defined first, then what names it, and the old name goes last: a stream that stops in between leaves a
-plan in which nothing names what isn't defined."""
+plan in which nothing names what isn't defined. No I/O."""
 
-import argparse
 import dataclasses
 from collections.abc import Callable, Iterable, Mapping, Sequence
 from typing import Any
 
-from opcplan.commands import edit_application, edit_period, edit_run_cycle, edit_words
-from opcplan.commands.edit_change import Change, ChangeRefused
-from opcplan.plans.plan_file import Plan
+from opcplan.acts.world import World
+from opcplan.edits import applications, periods, run_cycles, words
+from opcplan.edits.changes import Change, ChangeRefused
 from opcplan.rules import loops
 from opcplan.rules.definitions import Application, Definitions, RunCycle
 from opcplan.rules.naming_words import count_text, few, meant_text
 
 REMOVE, RENAME, LIKE = "remove", "rename", "like"
-HELP = "remove, rename NEW, or like OTHER"
 Limits = Mapping[str, int | None]
 
 
@@ -33,37 +31,36 @@ class Whole:
     pairs: Sequence[tuple[str, str]] = ()
 
 
-def asked(what: str, given: argparse.Namespace) -> Whole | None:
-    """What the words ask of a whole definition, or None where they are about a part of it. Raises ChangeRefused."""
-    if what not in MADE:
+def read(what: str, typed: Sequence[str]) -> Whole | None:
+    """What words ask of a whole definition, or None where they are about a part of it. Raises ChangeRefused."""
+    names = 2 if what == "run-cycle" else 1
+    if what not in MADE or len(typed) <= names:
         return None
-    verb, more = given.changes[0].lower(), given.changes[1:]
+    verb, more = typed[names].lower(), typed[names + 1:]
     if verb not in (REMOVE, RENAME, LIKE) or (what, verb) == ("period", REMOVE) and more:
         return None
-    app = given.app if what == "run-cycle" else ""
+    app = words.name(typed[0]) if names == 2 else ""
+    read_name = words.name if what in ("application", "calendar") else words.short_name
+    name = read_name(typed[names - 1])
     if verb == REMOVE:
         if more:
             raise ChangeRefused(f"`remove` takes no further word, but {more[0]!r} is one", 2)
-        return Whole(what, given.name, app, verb)
+        return Whole(what, name, app, verb)
     takes_fields = (what, verb) == ("run-cycle", LIKE)
     if not more or len(more) > 1 and not takes_fields:
         raise ChangeRefused(f"`{verb}` needs one name: `{verb} {'NEW' if verb == RENAME else 'OTHER'}`", 2)
-    read = edit_words.name if what in ("application", "calendar") else edit_words.short_name
-    try:
-        others = more[0].split("/") if takes_fields else [more[0]]
-        other = "/".join([*map(edit_words.name, others[:-1]), read(others[-1])])
-        pairs = [edit_words.pair(word) for word in more[1:]]
-    except argparse.ArgumentTypeError as wrong:
-        raise ChangeRefused(str(wrong), 2) from None
+    others = more[0].split("/") if takes_fields else [more[0]]
+    other = "/".join([*map(words.name, others[:-1]), read_name(others[-1])])
+    pairs = [words.pair(word) for word in more[1:]]
     if len(others) > 2:
         raise ChangeRefused(f"{more[0]!r} is not a run cycle: give OTHER, or APP/OTHER where it is another "
                             "application's", 2)
-    return Whole(what, given.name, app, verb, other, pairs)
+    return Whole(what, name, app, verb, other, pairs)
 
 
-def change(plan: Plan, found: Definitions, given: Whole) -> Change:
+def change(world: World, found: Definitions, given: Whole) -> Change:
     """The change that is asked for."""
-    return MADE[given.what](plan, found, given)
+    return MADE[given.what](world, found, given)
 
 
 def together(sentences: Iterable[str], *changes: Change) -> Change:
@@ -76,7 +73,7 @@ def together(sentences: Iterable[str], *changes: Change) -> Change:
 def ask_there(what: str, name: str, known: Mapping[str, Any]) -> None:
     """Asks that there is a definition."""
     if name not in known:
-        raise ChangeRefused(edit_words.lack(what, name, known))
+        raise ChangeRefused(words.lack(what, name, known))
 
 
 def ask_free(what: str, name: str, known: Iterable[str]) -> None:
@@ -88,7 +85,7 @@ def ask_free(what: str, name: str, known: Iterable[str]) -> None:
 # Applications.
 
 
-def of_application(plan: Plan, found: Definitions, given: Whole) -> Change:
+def of_application(world: World, found: Definitions, given: Whole) -> Change:
     """An application, with its run cycles, its list of predecessors, and the lists that have it."""
     if given.verb == LIKE:
         ask_there("application", given.other, found.applications)
@@ -96,12 +93,12 @@ def of_application(plan: Plan, found: Definitions, given: Whole) -> Change:
         return application_like(found, given.name, given.other)
     ask_there("application", given.name, found.applications)
     if given.verb == REMOVE:
-        return application_removed(plan, found, given.name)
+        return application_removed(world, found, given.name)
     ask_new_application(found, given.other)
     if users := [app for app, listed in found.predecessors.items() if given.other in listed]:
         raise ChangeRefused(f"{few(users)} {'waits' if len(users) == 1 else 'wait'} for {given.other} already, which "
                             f"isn't defined; `predecessor {users[0]} remove {given.other}` goes first")
-    return application_renamed(plan, found, given.name, given.other)
+    return application_renamed(world, found, given.name, given.other)
 
 
 def ask_new_application(found: Definitions, name: str) -> None:
@@ -131,7 +128,7 @@ def parts_text(found: Definitions, app: str) -> str:
         f"and {f'waits for {few(listed)}' if listed else 'waits for nothing'}"
 
 
-def application_removed(plan: Plan, found: Definitions, app: str) -> Change:
+def application_removed(world: World, found: Definitions, app: str) -> Change:
     """The change that takes an application away."""
     users = waiting(found, app)
     left = {name: {other: hours for other, hours in found.predecessors[name].items() if other != app} or None
@@ -141,13 +138,13 @@ def application_removed(plan: Plan, found: Definitions, app: str) -> Change:
         ["No other application waits for it."]
     lists: dict[str, Any] = {**left, **({app: None} if app in found.predecessors else {})}
     return together(
-        [*sentences, *rows_sentences(plan, app, ("is withdrawn", "are withdrawn")), *jobs_sentence(app)],
+        [*sentences, *rows_sentences(world, app, ("is withdrawn", "are withdrawn")), *jobs_sentence(app)],
         Change("predecessors", lists, []),
         Change("run-cycles", {app: None} if app in found.run_cycles else {}, []),
         Change("applications", {app: None}, []))
 
 
-def application_renamed(plan: Plan, found: Definitions, old: str, new: str) -> Change:
+def application_renamed(world: World, found: Definitions, old: str, new: str) -> Change:
     """The change that gives an application another name."""
     users = waiting(found, old)
     own = [old] if old in found.predecessors else []
@@ -156,7 +153,7 @@ def application_renamed(plan: Plan, found: Definitions, old: str, new: str) -> C
     sentences += [f"{few(users)} {'waits' if len(users) == 1 else 'wait'} for {new} then."] if users else \
         ["No other application waits for it."]
     return together(
-        [*sentences, *rows_sentences(plan, old, (f"comes again as {new}", f"come again as {new}"), True),
+        [*sentences, *rows_sentences(world, old, (f"comes again as {new}", f"come again as {new}"), True),
          *jobs_sentence(old)],
         Change("applications", {new: found.applications[old]}, []),
         Change("run-cycles", {new: found.run_cycles[old]} if old in found.run_cycles else {}, []),
@@ -173,13 +170,13 @@ def application_like(found: Definitions, app: str, other: str) -> Change:
     after = dataclasses.replace(
         found, applications={**found.applications, app: made}, run_cycles={**found.run_cycles, app: cycles},
         predecessors={**found.predecessors, app: listed})
-    edit_application.ask_plannable(after, app, made)
+    applications.ask_plannable(after, app, made)
     if ring := loops.ring_of(after.predecessors, app):
         raise ChangeRefused(f"that makes a loop, {' waits for '.join(ring)}, so planning statements would be refused "
                             "(25)")
     users = waiting(found, other)
-    sentences = [f"{app} is new, like {other}: {edit_application.status_text(made)}, "
-                 f"{edit_application.calendar_text(found, made)}. It has {parts_text(after, app)}."]
+    sentences = [f"{app} is new, like {other}: {applications.status_text(made)}, "
+                 f"{applications.calendar_text(found, made)}. It has {parts_text(after, app)}."]
     sentences += [f"{few(users)} {'waits' if len(users) == 1 else 'wait'} for {other}, and not for {app}; `./plan edit "
                   f"PLAN.db predecessor {users[0]} add {app}` lets {users[0]} wait for it too."] if users else []
     return together(
@@ -188,18 +185,15 @@ def application_like(found: Definitions, app: str, other: str) -> Change:
         Change("predecessors", {app: listed} if listed else {}, [], app, made.is_active))
 
 
-def rows_sentences(plan: Plan, app: str, become: tuple[str, str], is_again: bool = False) -> list[str]:
+def rows_sentences(world: World, app: str, become: tuple[str, str], is_again: bool = False) -> list[str]:
     """What becomes of the occurrences of an application whose name goes, in sentences: `become` says it of one and of
     several; `is_again` is where another name has them."""
-    end = plan.meta["plan_end"] if plan.is_created else 0
-
-    def count(table: str, condition: str) -> int:
-        query = f"SELECT count(*) FROM {table} WHERE app = :app AND {condition}"
-        return int(plan.db.execute(query, {"app": app, "end": end}).fetchone()[0])
-
-    named, added = count("ltp_row", "run_cycle IS NOT NULL"), count("ltp_row", "run_cycle IS NULL")
-    current = count("cp_row", "status IN ('W', 'S', 'E')")
-    deleted = count("deletion_row", "reason = 'O' AND ia >= :end")
+    end = 0 if world.bounds is None else world.bounds.plan_end
+    rows = world.rows(app).values()
+    named = sum(row.place == "L" and row.cycle is not None for row in rows)
+    added = sum(row.place == "L" and row.cycle is None for row in rows)
+    current = sum(row.place in "WSE" for row in rows)
+    deleted = sum(row.place == "o" and row.ia >= end for row in rows)
     said = []
     if named:
         said.append(f"{count_text(named, 'occurrence')} of its run cycles in the long-term plan {become[named != 1]}")
@@ -220,14 +214,14 @@ def jobs_sentence(app: str) -> list[str]:
 # Run cycles.
 
 
-def of_run_cycle(plan: Plan, found: Definitions, given: Whole) -> Change:
+def of_run_cycle(world: World, found: Definitions, given: Whole) -> Change:
     """A run cycle of an application."""
     app, name = given.app, given.name
     cycles = found.run_cycles.get(app, {})
     if app not in found.applications and not cycles:
         raise ChangeRefused(f"there is no application {app}{meant_text(app, found.applications)}")
     if given.verb == LIKE:
-        return run_cycle_like(plan, found, given)
+        return run_cycle_like(world, found, given)
     if name not in cycles:
         raise ChangeRefused(f"there is no run cycle {name} of {app}{meant_text(name, cycles)}; it has "
                             f"{few(cycles) or 'none'}")
@@ -249,7 +243,7 @@ def in_order(cycles: Mapping[str, RunCycle]) -> dict[str, RunCycle]:
     return dict(sorted(cycles.items()))
 
 
-def run_cycle_like(plan: Plan, found: Definitions, given: Whole) -> Change:
+def run_cycle_like(world: World, found: Definitions, given: Whole) -> Change:
     """The change that gives an application a run cycle like another one, with other values of some fields."""
     app, name, cycles = given.app, given.name, found.run_cycles.get(given.app, {})
     other_app, _, other = given.other.rpartition("/")
@@ -258,17 +252,17 @@ def run_cycle_like(plan: Plan, found: Definitions, given: Whole) -> Change:
         raise ChangeRefused(f"there is no run cycle {other} of {other_app or app}{meant_text(other, others)}; it has "
                             f"{few(others) or 'none'}")
     ask_free(f"run cycle of {app}", name, cycles)
-    fields = edit_run_cycle.fields_of(plan, app, others[other])
-    wanted = edit_run_cycle.wanted_fields(given.pairs)
-    made = edit_run_cycle.cycle_of({**fields, **wanted, "name": name})
+    fields = run_cycles.fields_of(app, others[other])
+    wanted = run_cycles.wanted_fields(given.pairs)
+    made = run_cycles.cycle_of({**fields, **wanted, "name": name})
     if made.period not in found.periods:
-        raise ChangeRefused(edit_words.lack("period", made.period, found.periods))
+        raise ChangeRefused(words.lack("period", made.period, found.periods))
     after = in_order({**cycles, name: made})
     differs = ", ".join(f"{key} {value or 'none'}" for key, value in wanted.items())
     of = f" of {other_app}" if other_app else ""
     sentences = [f"{name} of {app} is new, like {other}{of}{f', but for {differs}' if differs else ''}.",
                  *([f"Its other run cycles stay: {few(cycles)}."] if cycles else []),
-                 *edit_run_cycle.slips(plan, found, app, after, made)]
+                 *run_cycles.slips(world, found, app, after, made)]
     return cycles_change(found, app, after, sentences)
 
 
@@ -295,7 +289,7 @@ def first_sentences(cycles: Mapping[str, RunCycle], old: str, new: str) -> list[
 # Calendars and periods.
 
 
-def of_calendar(plan: Plan, found: Definitions, given: Whole) -> Change:
+def of_calendar(world: World, found: Definitions, given: Whole) -> Change:
     """A calendar, with the applications and the option that name it."""
     users = {app: defined for app, defined in found.applications.items() if defined.calendar == given.name}
     if given.verb == LIKE:
@@ -334,7 +328,7 @@ def of_calendar(plan: Plan, found: Definitions, given: Whole) -> Change:
         Change("options", options, [], None, False), Change("calendars", {given.name: None}, [], None, False))
 
 
-def of_period(plan: Plan, found: Definitions, given: Whole) -> Change:
+def of_period(world: World, found: Definitions, given: Whole) -> Change:
     """A period, with the run cycles that count in it."""
     users = [(app, cycle.name) for app, cycles in found.run_cycles.items() for cycle in cycles.values()
              if cycle.period == given.name]
@@ -342,7 +336,7 @@ def of_period(plan: Plan, found: Definitions, given: Whole) -> Change:
     if given.verb == LIKE:
         ask_there("period", given.other, found.periods)
         ask_free("period", given.name, found.periods)
-        text = edit_period.period_text(found.periods[given.other])
+        text = periods.period_text(found.periods[given.other])
         return Change("periods", {given.name: found.periods[given.other]}, [
             f"{given.name} is new, like {given.other}: {text}.",
             f"Run cycles that count in it already: {shown}." if users else
@@ -368,5 +362,5 @@ def of_period(plan: Plan, found: Definitions, given: Whole) -> Change:
         Change("run-cycles", dict(after), [], None, False), Change("periods", {given.name: None}, [], None, False))
 
 
-MADE: dict[str, Callable[[Plan, Definitions, Whole], Change]] = {
+MADE: dict[str, Callable[[World, Definitions, Whole], Change]] = {
     "application": of_application, "run-cycle": of_run_cycle, "calendar": of_calendar, "period": of_period}

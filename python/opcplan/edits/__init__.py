@@ -1,0 +1,1 @@
+"""A change of definitions, turned into a stream of statements with its preview: no I/O."""
