@@ -8,7 +8,8 @@ from typing import Any, NamedTuple
 
 from opcplan.acts import chains, inverses, resolver, steps
 from opcplan.acts.inverses import Inverse
-from opcplan.acts.verbs import Act
+from opcplan.acts.steps import Step
+from opcplan.acts.verbs import Act, Intention, Part
 from opcplan.acts.world import CLOSED, GONE, Difference, World, in_order
 from opcplan.plans.waits import Row
 from opcplan.rules import moments, statuses, usual_due
@@ -57,7 +58,8 @@ class Preview(NamedTuple):
         return {
             "verb": self.act.intention.verb, "row": None if self.act.row is None else row_values(self.act.row),
             "stream": self.stream, "role": steps.role_of(self.act.steps).name.lower(),
-            "statements": [step.line for step in self.act.steps],
+            "statements": [step.line for step in self.act.steps], "replies": list(self.replies),
+            "parts": [part_values(part) for part in self.act.parts or (Part("", self.act.row, self.act.steps),)],
             "changes": [{"was": None if one.was is None else row_values(one.was), "row": row_values(one.row)}
                         for one in self.changes],
             "waits": [{"row": row_values(one.row), "was": [*map(row_values, one.was)],
@@ -65,6 +67,13 @@ class Preview(NamedTuple):
             "waiting": len(self.waiting), "notes": list(self.notes), "lines": list(self.lines),
             "inverse": inverse, "why_not": self.inverse.why_not,
         }
+
+
+def part_values(part: Part) -> dict[str, Any]:
+    """What is done with one of the rows, as JSON has it."""
+    return {"of": part.of, "row": None if part.row is None else row_values(part.row),
+            "stream": steps.text_of(part.steps), "statements": [step.line for step in part.steps],
+            "why_not": part.why_not}
 
 
 def row_values(row: Row) -> dict[str, Any]:
@@ -83,12 +92,30 @@ def of_act(world: World, act: Act, inverse: Inverse | None = None) -> Preview:
     changes = tuple(sorted((Change(was, row) for was, row in difference.rows.values()),
                            key=lambda one: in_order(one.row)))
     waits = tuple(waits_of(difference))
-    waiting = tuple(chains.waiting(world, act.row)) if act.row is not None else ()
+    waiting = tuple(waiting_for(world, act))
     if inverse is None:
         inverse = inverses.of_steps(world, act.steps)
     notes = (*act.notes, *refused(act, replies), *due_notes(world, changes))
     found = Preview(act, tuple(replies), changes, waits, waiting, inverse, notes, ())
     return found._replace(lines=tuple(lines_of(found)))
+
+
+def of_rest(world: World, left: tuple[Step, ...]) -> Preview:
+    """The preview of the last statements of an act, in the world that others left. Some may be refused there."""
+    trial = world.copy()
+    accepted = [step for step in left if trial.apply(step).startswith("ok")]
+    return of_act(world, Act(Intention(REST), None, left), inverses.of_steps(world, accepted))
+
+
+REST = "rest"  # the verb of what is left of an act
+
+
+def waiting_for(world: World, act: Act) -> list[Row]:
+    """The rows of the current plan that wait for those that an act is about, apart from these."""
+    about = [part.row for part in act.parts if part.steps] or [act.row]
+    rows = {row.serial: row for row in about if row is not None}
+    found = {one.serial: one for row in rows.values() for one in chains.waiting(world, row)}
+    return sorted((row for serial, row in found.items() if serial not in rows), key=in_order)
 
 
 def waits_of(difference: Difference) -> Iterable[Waits]:
@@ -130,11 +157,13 @@ def due_notes(world: World, changes: Sequence[Change]) -> Iterable[str]:
 
 def lines_of(found: Preview) -> list[str]:
     """All that is to be said of an act."""
-    row = found.act.row
+    row, parts = found.act.row, found.act.parts
     lines = [] if row is None else [f"{row.key} {statuses.WHERE[row.place]} (serial {row.serial})."]
-    if found.waiting and found.act.row is not None:
+    lines += part_lines(parts)
+    if found.waiting:
         more = "+" if len(found.waiting) > chains.MOST else ""
-        lines.append(f"{count_text(len(found.waiting), 'run')}{more} wait{'s' * (len(found.waiting) == 1)} for it.")
+        lines.append(f"{count_text(len(found.waiting), 'run')}{more} wait{'s' * (len(found.waiting) == 1)} for "
+                     f"{'them' if len([part for part in parts if part.steps]) > 1 else 'it'}.")
     lines += change_lines(found.changes)
     lines += wait_lines(found.waits)
     lines += few([f"Note: {note}." for note in found.notes], MOST_NOTES)
@@ -143,6 +172,17 @@ def lines_of(found: Preview) -> list[str]:
     if found.inverse.steps:
         return [*lines, "`undo` takes it back."]
     return [*lines, f"It can't be undone: {found.inverse.why_not}."] if found.inverse.why_not else lines
+
+
+def part_lines(parts: Sequence[Part]) -> list[str]:
+    """Of how many rows an act is, and which of those that were named it leaves out."""
+    if not parts:
+        return []
+    out = [part for part in parts if not part.steps]
+    count = len(parts) - len(out)
+    head = f"{count_text(count, 'run')}." if not out else f"{count} of {count_text(len(parts), 'run')}."
+    return [head, *few([f"  Left out: {part.row.key + ': ' if part.row else ''}{part.why_not.removesuffix('.')}."
+                        for part in out], MOST_NOTES)]
 
 
 def change_lines(changes: Sequence[Change]) -> list[str]:
@@ -186,7 +226,6 @@ def few(lines: Sequence[str], most: int) -> list[str]:
 
 def of_resolved(found: resolver.Resolved) -> Mapping[str, Any]:
     """Several rows, or why none fits, as JSON has it."""
-    nearest = {name: None if row is None else row_values(row) for name, row in (("before", found.before),
-                                                                               ("after", found.after))}
-    return {"choices": [*map(row_values, found.several)], "why": found.why, **nearest,
-            "lines": resolver.lines_of(found)}
+    one = {name: None if row is None else row_values(row) for name, row in (
+        ("row", found.row), ("before", found.before), ("after", found.after))}
+    return {"choices": [*map(row_values, found.several)], "why": found.why, **one, "lines": resolver.lines_of(found)}

@@ -157,7 +157,9 @@ def nearest_text(found: Resolved) -> str:
 
 
 def lines_of(found: Resolved) -> list[str]:
-    """Several rows as a numbered list, or why there is none."""
+    """Several rows as a numbered list, or where the one is, or why there is none."""
+    if found.row is not None:
+        return [f"{found.row.key} {statuses.WHERE[found.row.place]} (serial {found.row.serial})."]
     if not found.several:
         return [found.why]
     shown = found.several[:MOST_LISTED]

@@ -3,8 +3,15 @@
 from collections.abc import Iterable
 from typing import NamedTuple
 
-from opcplan.rules import moments, statements
+from opcplan.errors import Error
+from opcplan.rules import moments, statement_words, statements, stream
 from opcplan.rules.statements import Role
+
+NO_JOB = b" --job 1"  # what a line gets to be read, whose number is still to be given
+
+
+class NoSteps(Error):
+    """Why a text isn't that of an act."""
 
 
 class Step(NamedTuple):
@@ -56,3 +63,31 @@ def numbered(steps: Iterable[Step], numbers: Iterable[int]) -> str:
 def role_of(steps: Iterable[Step]) -> Role:
     """The greatest role that a desk asks for."""
     return max((step.role for step in steps), default=Role.READ)
+
+
+def of_text(text: str) -> list[Step]:
+    """The steps of a text that `text_of` made. Raises NoSteps."""
+    found = []
+    for item in stream.steps(text.encode("utf-8", "replace"), "the stream", read_line):
+        if item is not None:
+            found.append(of_item(item))
+    return found
+
+
+def read_line(line: bytes, length: int) -> tuple[statement_words.Statement | None, str]:
+    """The statement of a line that has no job number, or None and why the line is none."""
+    return stream.read_line(line + NO_JOB, length + len(NO_JOB))
+
+
+def of_item(item: stream.Item) -> Step:
+    """The step of an item. Raises NoSteps."""
+    asked = item.statement
+    if asked is None or item.has_data and item.data is None:
+        raise NoSteps(f"line {item.line} of the stream is no statement of an act: {item.wrong or 'its data have no end'}")
+    if asked.name == "define":
+        return Step("define", "", None, asked.kind, (item.data or b"").decode("utf-8", "replace"))
+    if asked.name == "undefine":
+        return Step("undefine", asked.values["name"], None, asked.kind)
+    if asked.name != "ltp-modify-one" and not statements.KINDS[asked.name].is_on_key:
+        raise NoSteps(f"no act has the statement `{asked.name}`")
+    return Step(asked.name, asked.values["app"], asked.values.get("ia"))

@@ -40,12 +40,14 @@ VERBS = {
     "undo": Verb("takes the last change back, or the one of a journal's entry", (), ("entry",)),
 }
 OF_CHAIN = ("WSE",)  # what `complete --chain` is for
+MOST_EACH = 200  # occurrences that an act is about
 
 
 @dataclasses.dataclass(frozen=True)
 class Intention:
     """What somebody wants: a verb and what it is about, as it is typed; where a run is moved to, when it is due;
-    whether the whole chain is completed, or followers run too; and the entry of the journal that is undone."""
+    whether the whole chain is completed, or followers run too; the entry of the journal that is undone; and in `each`,
+    if it is wanted of several occurrences, each of them (`several`)."""
 
     verb: str
     of: str = ""
@@ -54,6 +56,7 @@ class Intention:
     chain: bool = False
     followers: bool = False
     entry: int | None = None
+    each: tuple[str, ...] = ()
 
     @property
     def places(self) -> tuple[str, ...]:
@@ -84,14 +87,24 @@ class Ambiguous(Error):
         self.found = found
 
 
+class Part(NamedTuple):
+    """What is done with one of several occurrences: as it was named, its row, its statements, or why there are none."""
+
+    of: str
+    row: Row | None
+    steps: tuple[Step, ...]
+    why_not: str = ""
+
+
 class Act(NamedTuple):
-    """The statements of an intention, the row that it is about (None if it makes one, or undoes something), and what
-    can't be kept, in sentences."""
+    """The statements of an intention, the row that it is about (None if it makes one, undoes something, or is about
+    several), what can't be kept, in sentences, and if it is about several rows, the part of each."""
 
     intention: Intention
     row: Row | None
     steps: tuple[Step, ...]
     notes: tuple[str, ...] = ()
+    parts: tuple[Part, ...] = ()
 
 
 def act_of(world: World, wanted: Intention, near: int | None = None) -> Act:
@@ -118,8 +131,20 @@ def check(wanted: Intention) -> None:
             raise InvalidIntention(f"`{wanted.verb}` takes no `{name}`")
     if wanted.verb == "move" and not wanted.to:
         raise InvalidIntention("`move` needs the day, the minute or the moment to which the run is moved")
-    if not wanted.of and wanted.verb != "undo":
+    if wanted.each:
+        check_each(wanted)
+    elif not wanted.of and wanted.verb != "undo":
         raise InvalidIntention(f"`{wanted.verb}` needs the occurrence, as {resolver.FORMS}")
+
+
+def check_each(wanted: Intention) -> None:
+    """Asks that a verb may be wanted of several occurrences. Raises InvalidIntention."""
+    if not VERBS[wanted.verb].places:
+        raise InvalidIntention(f"`{wanted.verb}` isn't for several occurrences at once")
+    if wanted.of:
+        raise InvalidIntention("an act has either `of` or `each`, not both")
+    if len(wanted.each) > MOST_EACH:
+        raise InvalidIntention(f"an act is for at most {MOST_EACH} occurrences; name fewer of them in `each`")
 
 
 def explained(found: Resolved, wanted: Intention) -> Resolved:

@@ -14,7 +14,7 @@ from typing import Any, NamedTuple, TYPE_CHECKING
 from aiohttp import web
 
 from opcplan.acts import values
-from opcplan.acts.verbs import Intention, InvalidIntention
+from opcplan.acts.verbs import InvalidIntention
 from opcplan.desk import body, connections, guard, requests, snapshot
 from opcplan.desk.errors import StatementRejected
 from opcplan.desk.held_files import FileReplaced
@@ -33,9 +33,11 @@ LONGEST = 120
 
 
 class Asked(NamedTuple):
-    """What a body asks for: the preview of an intention, or that the statements of a stream are done."""
+    """What a body asks for: the preview of an intention (`look` as JSON has it), which occurrence a text names, or the
+    preview of what is left of a stream of which some statements are done; or, without `look`, that the statements of a
+    stream are done."""
 
-    wanted: Intention | None
+    look: dict[str, Any] | None
     stream: bytes = b""
 
 
@@ -61,19 +63,20 @@ class Acts:
             asked = of_body(data)
         except InvalidIntention as why:
             raise StatementRejected(400, f"{why}; nothing was done") from None
-        if asked.wanted is not None:
+        if asked.look is not None:
             if tag is not None:
-                raise StatementRejected(400, "`If-Match` goes with the `stream` of a preview, not with a `verb`; "
-                                        "nothing was done")
-            return await self.preview(request, asked.wanted)
+                raise StatementRejected(400, "`If-Match` goes with the `stream` of a preview, not with what asks for "
+                                        "one; nothing was done")
+            return await self.preview(request, asked.look)
         if tag is None:
-            raise StatementRejected(400, "a `stream` needs `If-Match` with the `ETag` of its preview; nothing was done")
+            raise StatementRejected(400, "a `stream` needs `If-Match` with the `ETag` of its preview, or `done` for "
+                                    "the preview of what is left; nothing was done")
         return await self.do(request, asked.stream, tag.strip().strip('"'), key)
 
     # Previews.
 
-    async def preview(self, request: web.Request, wanted: Intention) -> web.StreamResponse:
-        """What an intention would do. Raises HTTPServiceUnavailable."""
+    async def preview(self, request: web.Request, look: dict[str, Any]) -> web.StreamResponse:
+        """What would be done, or which occurrence is meant. Raises HTTPServiceUnavailable."""
         async with self.finding.turn(request["who"]):
             with tempfiles.folder("desk-") as folder:
                 copy = os.path.join(folder, "plan.db")
@@ -81,11 +84,11 @@ class Acts:
                     stands = await snapshot.copied(self.desk, self.path, copy, request["who"])
                 except (OSError, Unreadable, FileReplaced) as error:
                     raise web.HTTPServiceUnavailable(text=f"the desk can't copy the plan: {error}\n") from None
-                if wanted.verb == "undo":
+                if look.get("verb") == "undo":
                     with contextlib.suppress(LogUnwritable):  # then the last entries can't be undone for now
                         await self.desk.keep_replies()
                 words = [copy, os.path.abspath(self.journal), str(stands.position), request["who"]]
-                found = await found_by(words, wanted)
+                found = await found_by(words, look)
         state = body.PlanState(stands.tag, stands.position)
         return answer({**found, "answers": [], "is_whole": False}, state)
 
@@ -144,19 +147,23 @@ def of_body(data: bytes) -> Asked:
     if not isinstance(found, dict):
         raise InvalidIntention("the body must be an object of JSON")
     if "stream" not in found:
-        return Asked(values.of_values(found))
-    if len(found) > 1 or not isinstance(found["stream"], str):
-        raise InvalidIntention("a body with a `stream`, a text, has nothing else")
+        values.check(found)
+        return Asked(found)
+    if not found.keys() <= {"stream", "done"} or not isinstance(found["stream"], str):
+        raise InvalidIntention("a body with a `stream`, a text, has nothing else but `done`")
+    if "done" in found:
+        values.check_done(found["done"])
+        return Asked(found)
     return Asked(None, found["stream"].encode("utf-8", "replace"))
 
 
-async def found_by(words: list[str], wanted: Intention) -> dict[str, Any]:
+async def found_by(words: list[str], look: dict[str, Any]) -> dict[str, Any]:
     """What the process finds. Raises HTTPServiceUnavailable."""
     process = await asyncio.create_subprocess_exec(
         *PROCESS, *words, cwd=PYTHON, stdin=asyncio.subprocess.PIPE, stdout=asyncio.subprocess.PIPE,
         stderr=asyncio.subprocess.PIPE)
     try:
-        text = json.dumps(values.values_of(wanted)).encode()
+        text = json.dumps(look).encode()
         out, said = await asyncio.wait_for(process.communicate(text), LONGEST)
     except asyncio.TimeoutError:
         raise web.HTTPServiceUnavailable(text="finding what would change took too long; try again\n") from None

@@ -31,12 +31,12 @@ def main(copy: str, journal: str, position: str, who: str) -> int:
 
 def text_of(copy: str, journal: str, position: int, who: str, asked: str) -> str:
     """The answer as JSON. Raises Unreadable."""
-    wanted = values.of_values(json.loads(asked))
+    look = json.loads(asked)
     entries: list[Done] = []
-    if wanted.verb == "undo" and position:
+    if look.get("verb") == "undo" and position:
         entries = loaded.entries_of(journal, position)
     with plan_file.opened(copy, is_own=True) as plan:
-        return json.dumps(values.answer(loaded.world_of(plan), wanted, moments.now(), entries, who))
+        return json.dumps(values.answer_to(loaded.world_of(plan), look, moments.now(), entries, who))
 
 
 if __name__ == "__main__":

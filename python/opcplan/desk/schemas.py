@@ -5,7 +5,7 @@ import typing
 from collections.abc import Mapping
 from typing import Any, NamedTuple
 
-from opcplan.acts import values, verbs
+from opcplan.acts import previews, values, verbs
 from opcplan.desk import routes
 from opcplan.needs import facts, need
 from opcplan.rules import columns, statements
@@ -101,7 +101,9 @@ COMPONENTS: Mapping[str, Schema] = {
         serial=COUNT, app=TEXT, ia=MOMENT, deadline=MOMENT, run_cycle=maybe(TEXT), list=TEXT, place={
             "enum": [*"LWSECDHowp"]})},
     "Act": {"description": "what an act does, before it is done", **record(
-        verb={"enum": list(verbs.VERBS)}, row=maybe(ref("ActRow")), stream=TEXT, role=ROLE, statements=listed(TEXT),
+        verb={"enum": [*verbs.VERBS, previews.REST]}, row=maybe(ref("ActRow")), stream=TEXT, role=ROLE,
+        statements=listed(TEXT), replies=listed(TEXT),
+        parts=listed(record(of=TEXT, row=maybe(ref("ActRow")), stream=TEXT, statements=listed(TEXT), why_not=TEXT)),
         changes=listed(record(was=maybe(ref("ActRow")), row=ref("ActRow"))),
         waits=listed(record(row=ref("ActRow"), was=listed(ref("ActRow")), now=listed(ref("ActRow")))),
         waiting=COUNT, notes=listed(TEXT), lines=listed(TEXT), inverse=maybe(TEXT), why_not=TEXT)},
@@ -122,8 +124,9 @@ PAGE: Schema = record(
     desk=record(**STATE, who=TEXT, role=ROLE, clock=NUMBER, zone=NUMBER, stands=FLAG, signs=FLAG,
                 acts=by_name(record(**{"from": TEXT, "alone": FLAG, "done": TEXT})), reply=TEXT))
 ACTS: Schema = record(**STATE, act=maybe(ref("Act")), why_not=TEXT, answers=listed(ref("Answer")), is_whole=FLAG,
-                      found=maybe(record(choices=listed(ref("ActRow")), why=TEXT, before=maybe(ref("ActRow")),
-                                         after=maybe(ref("ActRow")), lines=listed(TEXT))))
+                      found=maybe(record(choices=listed(ref("ActRow")), row=maybe(ref("ActRow")), why=TEXT,
+                                         before=maybe(ref("ActRow")), after=maybe(ref("ActRow")),
+                                         lines=listed(TEXT))))
 DOCUMENT: Schema = record(openapi=TEXT, info=record(title=TEXT, version=TEXT), paths=by_name({"type": "object"}),
                           components={"type": "object"})
 # what callers send
@@ -137,9 +140,11 @@ OF_AGENT: Schema = record({
 OF_ROLL: Schema = record(outcome={"enum": [facts.DONE, facts.STOPPED, facts.FAILED]}, end=MOMENT, ahead=OF_NUMBER,
                          reserve=OF_NUMBER, every=OF_NUMBER, why=TEXT)
 OF_ACTS: Schema = {"anyOf": [
-    record({"of": TEXT, "to": TEXT, "due": TEXT, "chain": FLAG, "followers": FLAG, "entry": {
-        "type": "integer", "minimum": 1, "maximum": values.MOST_ENTRY}}, verb={"enum": list(verbs.VERBS)}),
-    record(stream=TEXT)]}
+    record({"of": TEXT, "each": {"type": "array", "items": TEXT, "maxItems": verbs.MOST_EACH}, "to": TEXT, "due": TEXT,
+            "chain": FLAG, "followers": FLAG,
+            "entry": {"type": "integer", "minimum": 1, "maximum": values.MOST_ENTRY}},
+           verb={"enum": list(verbs.VERBS)}),
+    record(of=TEXT), record({"done": {"type": "integer", "minimum": 0, "maximum": values.MOST_DONE}}, stream=TEXT)]}
 OF_CALLS: Schema = record({"watch": TEXT}, undelivered=listed(record(
     id=TEXT, target=TEXT, since={"type": "number", "minimum": 0, "maximum": 1 << 32}, tries=OF_NUMBER, why=TEXT)))
 
