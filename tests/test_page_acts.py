@@ -23,7 +23,7 @@ except ImportError:  # the gate's Python may have no package
     page = None
 
 NOW = moments.moment_of(data_centre.NOW)
-OWN = """const inCard = [], sent = [], MOST_LOOKS = 4;
+OWN = """const inCard = [], inAppCard = [], sent = [], MOST_LOOKS = 4;
     const showCard = () => {}, tellLink = () => {}, meaning = () => [];
     globalThis.crypto ??= require('crypto').webcrypto;
     globalThis.fetch = async (path, given) => {
@@ -61,7 +61,7 @@ class Buttons(unittest.TestCase):
         """What a driver prints of the buttons."""
         desk = {"role": role, "acts": page.ACTS, "tag": "a-5"}
         parts = [OWN, "const live = {}, ownKeys = new Set();\n",
-                 page_html.joined(["live_asks.js", "live_acts.js", "live_verbs.js"])]
+                 page_html.joined(["live_asks.js", "live_acts.js", "live_doing.js", "live_verbs.js"])]
         return drawn(self.data, f"(async () => {{ {driver} }})()", parts, desk=desk, reply=reply, **given)
 
     def test_the_first_button_can_be_undone(self):
@@ -78,7 +78,7 @@ class Buttons(unittest.TestCase):
             if status in first:
                 self.assertEqual(allowed[0], first[status])
             else:
-                self.assertEqual(allowed, ["delete"], status)
+                self.assertEqual(allowed, ["complete", "delete"], status)
         self.assertTrue({"E", "S", "R", "B"} <= set(found), found)
 
     def test_completing_an_error_says_who_waits_and_wants_a_second_press(self):
@@ -136,8 +136,9 @@ class Buttons(unittest.TestCase):
         self.assertEqual([one[1] for one in found["sent"]], [f"cp-reset {found['row']}"])
 
     def test_a_verb_is_shown_first_and_done_in_the_state_of_its_preview(self):
-        act = {"lines": ["PAY 2026-11-25/05.00 is complete."], "stream": "cp-add --app PAY --ia 2026-11-25/06.01\n",
-               "statements": ["cp-add --app PAY --ia 2026-11-25/06.01"], "role": "operate", "inverse": None}
+        text = "cp-add --app PAY --ia 2026-11-25/06.01\n"
+        act = {"lines": ["PAY 2026-11-25/05.00 is complete."], "stream": text, "statements": [text.strip()],
+               "role": "operate", "inverse": None, "parts": [{"of": "", "row": None, "texts": [text], "why_not": ""}]}
         preview = {"act": act, "found": None, "why_not": "", "answers": [], "is_whole": False}
         other = {**preview, "act": {**act, "lines": ["another"]}}
         done = {"act": None, "found": None, "why_not": "", "is_whole": True, "answers": [

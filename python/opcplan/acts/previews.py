@@ -72,8 +72,7 @@ class Preview(NamedTuple):
 def part_values(part: Part) -> dict[str, Any]:
     """What is done with one of the rows, as JSON has it."""
     return {"of": part.of, "row": None if part.row is None else row_values(part.row),
-            "stream": steps.text_of(part.steps), "statements": [step.line for step in part.steps],
-            "why_not": part.why_not}
+            "texts": [step.text for step in part.steps], "why_not": part.why_not}
 
 
 def row_values(row: Row) -> dict[str, Any]:

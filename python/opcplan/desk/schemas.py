@@ -103,7 +103,7 @@ COMPONENTS: Mapping[str, Schema] = {
     "Act": {"description": "what an act does, before it is done", **record(
         verb={"enum": [*verbs.VERBS, previews.REST]}, row=maybe(ref("ActRow")), stream=TEXT, role=ROLE,
         statements=listed(TEXT), replies=listed(TEXT),
-        parts=listed(record(of=TEXT, row=maybe(ref("ActRow")), stream=TEXT, statements=listed(TEXT), why_not=TEXT)),
+        parts=listed(record(of=TEXT, row=maybe(ref("ActRow")), texts=listed(TEXT), why_not=TEXT)),
         changes=listed(record(was=maybe(ref("ActRow")), row=ref("ActRow"))),
         waits=listed(record(row=ref("ActRow"), was=listed(ref("ActRow")), now=listed(ref("ActRow")))),
         waiting=COUNT, notes=listed(TEXT), lines=listed(TEXT), inverse=maybe(TEXT), why_not=TEXT)},

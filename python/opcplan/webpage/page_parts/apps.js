@@ -1,5 +1,7 @@
 // The card of an application.
 const MOST_APPS = 40;
+/** What other parts put into the card of an application, below its next run. */
+const inAppCard = [];
 
 function cycleLine([title, kind, period, rule, offsets, time, days, minute, inEffect, outEffect]) {
   const numbers = offsets.slice(0, 12).join(' ') + (offsets.length > 12 ? ' ' + rest(offsets.length, 12) : '');
@@ -58,7 +60,7 @@ function drawApp(k) {
   const isDefined = D.calendars[calendar][1] ? '' : ' (not defined)';
   fill('#card', close(), h('h2', {}, title),
     h('p', { class: 'quiet' }, statusOf(active) + ', calendar ' + D.calendars[calendar][0] + isDefined),
-    nextLine(k),
+    nextLine(k), inAppCard.map(part => part(k)),
     part('Not complete', rows.filter(isOpen)),
     part('Next', rows.filter(i => state(i) === 'L' && ia[i] >= D.now), 8),
     part('Last', rows.filter(i => 'CH'.includes(state(i))).reverse(), 5),

@@ -4,6 +4,8 @@ const RULES = { E: 'only work days are counted', 1: 'a free day moves to the wor
 const MOST_IN_TREE = 80;
 /** What other parts put into the card of a row, above its times. */
 const inCard = [];
+/** What other parts do with a text of the search on Enter: whether they take it. */
+const onFind = [];
 
 /** A row as a button that chooses it. */
 function link(i, more, isDue) {
@@ -115,25 +117,26 @@ function address(i) {
 
 /** Draws the card: the chosen row or application, else the signs and keys if they are opened. */
 function showCard() {
-  const isChosen = view.pick >= 0 || view.app >= 0, isOpened = isChosen || view.help;
+  const isChosen = view.pick >= 0 || view.app >= 0 || view.other !== null, isOpened = isChosen || view.help;
   document.body.classList.toggle('chosen', isOpened);
   $('#card').classList.toggle('idle', !isOpened);
   $('#help').setAttribute('aria-expanded', String(view.help && !isChosen));
   if (view.app >= 0) drawApp(view.app);
   else if (view.pick >= 0) drawCard(view.pick);
+  else if (view.other) view.other();
   else if (view.help) drawLegend();
   else fill('#card');
 }
 
 /** Closes the card; the focus goes back to what opened it. */
 function shut() {
-  const isHelp = view.help && view.pick < 0 && view.app < 0;
+  const isHelp = view.help && view.pick < 0 && view.app < 0 && !view.other;
   if (isHelp) showHelp(false); else choose(-1);
 }
 
 /** Shows or hides the signs and keys. */
 function showHelp(isShown) {
-  if (view.pick >= 0 || view.app >= 0) choose(-1);
+  if (view.pick >= 0 || view.app >= 0 || view.other) choose(-1);
   view.help = isShown;
   showCard();
   (isShown ? $('#card') : $('#help')).focus({ preventScroll: true });
@@ -150,7 +153,7 @@ function keepHeight(draw) {
 /** Chooses a row, or none. */
 function choose(i, isQuiet) {
   const old = view.pick;
-  Object.assign(view, { pick: i, app: -1, help: i < 0 && view.help && old < 0 });
+  Object.assign(view, { pick: i, app: -1, other: null, help: i < 0 && view.help && old < 0 });
   if (i < 0 && view.kind === 'chain') view.kind = 'open';
   if (i >= 0 && view.kind !== 'chain' && !KINDS[view.kind](i)) view.kind = 'all';
   view.reveal = true;

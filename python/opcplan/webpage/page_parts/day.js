@@ -169,6 +169,9 @@ function drawDay() {
   markChosen();
 }
 
+/** What other parts do with the lines of the day once they are drawn. */
+const onLines = [];
+
 function drawRows(rows, counts) {
   const lines = linesOf(rows), drawn = lines.slice(0, view.most), number = new Map();
   for (const i of rows) number.set(app(i), (number.get(app(i)) || 0) + 1);
@@ -182,6 +185,7 @@ function drawRows(rows, counts) {
   }
   fill('#lines', pane);
   layArrows(box, drawn);
+  for (const dress of onLines) dress(box, drawn);
 }
 
 function showFrom(minute) {

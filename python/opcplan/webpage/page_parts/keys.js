@@ -104,7 +104,7 @@ function nextTrouble() {
 }
 
 function inField(event) {
-  if (event.key === 'Enter' && event.target.id === 'find') openFound();
+  if (event.key === 'Enter' && event.target.id === 'find' && !onFind.some(take => take())) openFound();
   if (event.key === 'Escape' && event.target.value && event.target.id === 'find') {
     event.target.value = '';
     find();

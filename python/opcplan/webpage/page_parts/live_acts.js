@@ -19,11 +19,21 @@ function keptOf(i) {
   return kept.sure && kept.of !== statusOfRow(i) ? {} : kept;
 }
 
+// Complete of a row that waits, with all that it waits for: the desk first shows what that does
+const CHAIN = { verb: 'complete', more: { chain: true } };
+const isOfChain = (i, act) => act === 'complete' && statusOfRow(i) === 'W';
+
+/** The text of a button: of Complete for a row that waits, with how many rows it waits for. */
+function actText(i, act, isSure) {
+  const number = isOfChain(i, act) ? [...walk(i, before)].filter(isOpen).length : 0;
+  return capital(act) + (number ? ' with ' + number + ' before it' : '') + (isSure ? ': sure?' : '');
+}
+
 /** The button of an act. Each keeps its place, whether it is allowed or not, so that a second press hits no other. */
 function actButton(i, act, kept) {
-  const isSure = kept.sure === act;
-  return tool('act ' + act, capital(act) + (isSure ? ': sure?' : ''), event => press(i, act, event), {
-    class: isSure ? 'sure' : '', disabled: kept.busy || !allows(act, i) ? '' : undefined, 'data-act': act, 'data-i': i });
+  const isSure = kept.sure === act, isOff = kept.busy || !allows(act, i) && !isOfChain(i, act);
+  return tool('act ' + act, actText(i, act, isSure), event => press(i, act, event), {
+    class: isSure ? 'sure' : '', disabled: isOff ? '' : undefined, 'data-act': act, 'data-i': i });
 }
 
 /** A row's buttons: first those of what can be undone, and apart from them the others. */
@@ -64,6 +74,7 @@ function warning(i, act) {
 async function press(i, act, event) {
   const number = serial[i], kept = keptOf(i), text = 'cp-' + act + ' ' + streamName(i);
   if (kept.busy) return;
+  if (isOfChain(i, act)) return lookAt(i, CHAIN);
   if (desk.acts[act].final && kept.open !== text) {
     if (kept.sure !== act) {
       return answerOf(number, { sure: act, of: statusOfRow(i), look: 'is-late', text: warning(i, act) });

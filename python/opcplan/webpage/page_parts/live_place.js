@@ -94,6 +94,9 @@ function redraw(boxes, draw, isNew) {
   }
 }
 
+/** What other parts draw again after a change: the name of a box, and what draws it. */
+const alsoDrawn = [];
+
 /** Draws all again, after a change; `isNew` if it replaces the rows by others. */
 function drawAll(change, isNew) {
   const [focus, reading, inner] = [focusPlace(), readingPlace(), innerPlaces()];
@@ -108,6 +111,7 @@ function drawAll(change, isNew) {
   redraw(['#monthtools', '#grid'], () => drawMonth(true), isNew);
   redraw(['#changed'], drawChanges, isNew);
   redraw(['#card'], showCard);
+  for (const [box, draw] of alsoDrawn) redraw([box], draw);
   markCurrent('.go', view.pick);
   inner();
   focus();

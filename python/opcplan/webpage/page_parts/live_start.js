@@ -14,17 +14,27 @@ function addLiveParts() {
   chooseWork(true);
 }
 
-/** Takes the key that leads to the buttons of the chosen row: to the first one that can be undone, or that first
- * shows what it would do, so that Enter does nothing for good. */
+const FIRST_OF_ROW = '.acts .buttons:not(.final) button:not([disabled]), .verbs .buttons button:not([disabled])';
+const FIRST_OF_BAR = '#several .buttons:not(.final) button:not([disabled])';
+
+/** Whether the key leads to the bar of several rows: from one of these, or if no row has a card. */
+function isForBar() {
+  const { activeElement } = document, isOfThese = activeElement.closest('#several, [aria-selected="true"]') !== null;
+  return several.serials.size > 0 && (isOfThese || view.pick < 0 && view.app < 0);
+}
+
+/** Takes the key that leads to the buttons of the chosen row, or of several: to the first one that can be undone, or
+ * that first shows what it would do, so that Enter does nothing for good. */
 function onActKey(event) {
   const isPlain = !event.ctrlKey && !event.metaKey && !event.altKey;
-  if (event.key !== 'a' || !isPlain || event.target.matches('input, select, textarea')) return;
-  if (!$('.acts button:not([disabled]), .verbs button:not([disabled])')) {
-    return say(view.pick < 0 ? 'No row is chosen.' : 'Nothing can be done with it.');
+  const inField_ = event.target.matches('input, select, textarea') && !event.target.matches('[type=checkbox]');
+  if (event.key !== 'a' || !isPlain || inField_) return;
+  const [first, all] = isForBar() ? [FIRST_OF_BAR, '#several .many'] : [FIRST_OF_ROW, '#acts'];
+  if (!isForBar() && !$('.acts button:not([disabled]), .verbs button:not([disabled])')) {
+    return say(view.pick < 0 && view.app < 0 ? 'No row is chosen.' : 'Nothing can be done with it.');
   }
-  const button = $('.acts .buttons:not(.final) button:not([disabled]), .verbs .buttons button:not([disabled])');
   event.preventDefault();
-  (button || $('#acts')).focus();
+  ($(first) || $(all)).focus();
 }
 
 addLiveParts();

@@ -132,9 +132,10 @@ const KINDS = {
 };
 const OF_TILES = ['error', 'late', 'risk', 'hour', 'started', 'ready'];
 
-/** What is chosen: the day's window, its filter, the words of the search, the row, how much is drawn. */
+/** What is chosen: the day's window, its filter, the words of the search, the row, how much is drawn; and in `other`,
+ * what draws another part's card. */
 const view = { from: 0, kind: 'open', find: [], kept: 'open', pick: -1, most: 400, month: null, apps: 110,
-  opened: new Set(), whole: new Set(), app: -1, reveal: false, arrows: true, graph: false, help: false };
+  opened: new Set(), whole: new Set(), app: -1, other: null, reveal: false, arrows: true, graph: false, help: false };
 const isFiltered = () => view.find.length > 0;
 const matches = text => !isFiltered() || view.find.some(word => text.includes(word));
 const isWanted = i => matches(name(i));
