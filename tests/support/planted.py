@@ -32,6 +32,17 @@ class Bug(NamedTuple):
 
 
 BUGS = (
+    # acts of the live page
+    Bug("a part goes on after its refusal", "webpage/page_parts/live_doing.js",
+        "    if (!isOk(reply)) part.closed = whyRefused(reply) + ' (' + reply + ')';\n", "",
+        "test_page_doing.Doing.test_every_interleaving", "no statement of a part is done after a refused one"),
+    Bug("what is left goes under a key of its own", "webpage/page_parts/live_doing.js",
+        "  if (isSame) return { ...progress, done, isBegun: true };",
+        "  if (isSame) return { ...progress, done, isBegun: true, key: 'act-' + newKey() };",
+        "test_page_doing.Doing.test_every_interleaving", "what the page counts is what was done"),
+    Bug("what the page does may be other than what it showed", "webpage/page_parts/live_doing.js",
+        "    if (!again.act || !sameAct(act, again.act)) return tell(again);", "    if (!again.act) return tell(again);",
+        "test_page_doing.Doing.test_every_interleaving", "no statement of a part is done after a refused one"),
     # the agent's jobs
     Bug("root's groups are kept", "agent/runner.py", "extra_groups=user.groups)", "extra_groups=None)",
         "test_agent_skin.Users.test_a_job_has_the_groups_of_its_user_and_no_others", r"Lists differ: \[4, 24, 27"),

@@ -407,6 +407,22 @@ def verbs(browser, folder, ask):
     room.end()
 
 
+CTRL = 2
+
+
+def clicked_at(room, element, times=1, modifiers=0):
+    """Clicks an element with the pointer, several times in a row if told."""
+    room.js(f"{element}.scrollIntoView({{ block: 'center', behavior: 'instant' }})")
+    for count in range(1, times + 1):
+        if not room.holds(element):
+            return
+        x, y = room.js(f"(r => [r.x + Math.min(r.width / 2, 60), r.y + r.height / 2])({element}"
+                       ".getBoundingClientRect())")
+        for kind in ("mousePressed", "mouseReleased"):
+            room.browser.call("Input.dispatchMouseEvent", type=kind, x=x, y=y, button="left", clickCount=count,
+                              modifiers=modifiers)
+
+
 def clicked(room, act, times=1):
     """Clicks a button of the chosen row with the pointer, several times in a row if told."""
     x, y = room.js(f"(r => [r.x + r.width / 2, r.y + r.height / 2])(document.querySelector('.acts [data-act={act}]')"

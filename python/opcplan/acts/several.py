@@ -49,7 +49,7 @@ def found_rows(world: World, wanted: Intention, near: int | None) -> tuple[list[
     none, or several. Raises UsageError."""
     found: dict[int, tuple[str, Row]] = {}
     others = []
-    for of in wanted.each:
+    for of in dict.fromkeys(wanted.each):
         one = resolver.resolve(world, resolver.read(of), wanted.places, near)
         if one.row is None:
             why = f"{len(one.several)} runs fit {of}" if one.several else verbs.explained(one, wanted).why

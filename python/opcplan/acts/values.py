@@ -78,8 +78,8 @@ def answer(world: World, wanted: Intention, near: int, entries: list[Done], who:
             act = several.act_of(world, wanted, near)
         else:
             act = verbs.act_of(world, wanted, near)
-    except Ambiguous as several:
-        return {"act": None, "found": previews.of_resolved(several.found), "why_not": ""}
+    except Ambiguous as why:
+        return {"act": None, "found": previews.of_resolved(why.found), "why_not": ""}
     except (NotDoable, UsageError) as why:
         return {"act": None, "found": None, "why_not": str(why)}
     return {"act": previews.of_act(world, act).values(), "found": None, "why_not": ""}

@@ -128,6 +128,7 @@ async function doAct(asked, tell) {
     const again = progress.isBegun ? await lookedAtRest(asked) : await lookedUp(own, wanted,
       'Nothing was done: the plan has changed, and it would now do something else. Look at it, and press once more.',
       'is-late');
+    if (!again.act && !progress.isBegun) again.text = 'Nothing was done: the plan has changed. ' + again.text;
     if (!again.act || !sameAct(act, again.act)) return tell(again);
     tag = again.tag;
   }

@@ -211,7 +211,7 @@ function clearAll() {
   Object.assign(several, { serials: new Set(), anchor: -1, shown: null });
   mark([], false);
   say('No row is chosen.');
-  $('#lines [tabindex="0"]')?.focus({ preventScroll: true });
+  ($('#lines [tabindex="0"]') || $('#daytools button'))?.focus({ preventScroll: true });
 }
 
 /** Escape in the bar: first what it shows goes, then the choice. */
