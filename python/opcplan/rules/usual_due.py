@@ -1,9 +1,9 @@
 """When a run that was added by hand is usually due: by the run cycles of its application.
 
-By the rules it is due a day after it arrives, however its application is planned. Its usual deadline is that of the
-run cycle whose time of the day is nearest to its arrival, on whichever day: of 20.00, due 22.00, a run at 23.00 and one
-at 02.00 of the next day are usually due at the 22.00 before. Run cycles that exclude, and those that are in effect for
-one day only, don't count."""
+By the rules it is due a day after it arrives, however its application is planned. Its usual deadline is that of the run
+cycle whose time of the day is nearest to its arrival, on whichever day: of 20.00, due 22.00, a run at 23.00 and one at
+02.00 of the next day are usually due at the 22.00 before. Of two that are as near, the earlier deadline counts. Run
+cycles that exclude, and those that are in effect for one day only, don't count."""
 
 from __future__ import annotations
 
