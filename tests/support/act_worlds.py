@@ -39,12 +39,13 @@ class Random:
     def cycles(self, app):
         """The run cycles of an application."""
         lines = []
-        for name in "RS"[:self.rnd.choice((1, 1, 2))]:
+        for name in self.rnd.choice(("RS", "RS", "AS"))[:self.rnd.choice((1, 1, 2))]:
             period, rule, offsets = self.rnd.choice(OTHERS).split(",")
             time = self.rnd.choice(("08.00", "08.00", "08.01", "10.00"))
             due = self.rnd.choice(("0,09.00", "0,22.00", "1,06.00", "1," + time))
             kind = "X" if name == "S" and self.rnd.random() < 0.3 else "N"
-            lines.append(f"{app},{name},{kind},{period},{rule},{offsets},2023-12-25,,{time},{due}\n")
+            first = self.rnd.choice(("2023-12-25", "2023-12-25", "2024-01-04"))
+            lines.append(f"{app},{name},{kind},{period},{rule},{offsets},{first},,{time},{due}\n")
         return "".join(lines)
 
     def lists(self):
@@ -53,7 +54,7 @@ class Random:
         for place, app in enumerate(APPS):
             for other in APPS[:place + 1]:
                 if self.rnd.random() < (0.2 if other == app else 0.5):
-                    lines.append(f"{app},{other},{self.rnd.choice(('', '', '23', '30'))}\n")
+                    lines.append(f"{app},{other},{self.rnd.choice(('', '', '2', '23', '24'))}\n")
         return "".join(lines)
 
     def stream(self):
@@ -75,6 +76,10 @@ class Random:
             for app, ia in keys:
                 for name in self.changes():
                     self.put(f"{name} --app {app} --ia {moments.moment_word(ia)}")
+        for _ in range(rnd.choice((0, 0, 2, 4))):  # runs that are nearer to what has ended than what it waited for
+            app, ia = rnd.choice(KEYS)
+            for name in ("add", "start", "complete")[:rnd.choice((1, 3, 3))]:
+                self.put(f"cp-{name} --app {app} --ia {moments.moment_word(ia - rnd.choice((0, 1, 30)))}")
         if rnd.random() < 0.3:
             self.put("define run-cycles", self.cycles(rnd.choice(APPS)))
         if rnd.random() < 0.2:
@@ -117,6 +122,10 @@ class Source:
     def behind(self, serial):
         return [first for first, last in self.planner.pairs if last == serial]
 
+    def statuses(self, serial):
+        replies = (reply for _, reply in self.planner.jobs.values())
+        return [reply[-1] for reply in replies if reply.startswith(f"ok serial {serial} status ")]
+
 
 def rows_of(planner):
     """All rows of a plain planner, by serial."""
@@ -141,15 +150,20 @@ def world_of(text):
     return world.World(source), source.planner
 
 
-def after(planner, stream, first=800_000_000):
-    """A planner after a stream without job numbers, and its replies."""
-    other, lines, number = planner.copy(), [], first
-    in_data = False
+def numbered(stream, first=800_000_000):
+    """A stream with job numbers, which it lacks."""
+    lines, number, in_data = [], first, False
     for line in stream.splitlines():
         if not in_data:
             line, number = f"{line} --job {number}", number + 1
             in_data = line.startswith("define ")
         else:
             in_data = line != "/*"
-        lines.append(line)
-    return other, plain.run("".join(f"{line}\n" for line in lines).encode(), other)
+        lines.append(f"{line}\n")
+    return "".join(lines)
+
+
+def after(planner, stream, first=800_000_000):
+    """A planner after a stream without job numbers, and its replies."""
+    other = planner.copy()
+    return other, plain.run(numbered(stream, first).encode(), other)

@@ -43,6 +43,11 @@ class PlanSource:
         return [one for (one,) in self.plan.db.execute(
             "SELECT successor FROM dependency WHERE predecessor = ?", (serial,))]
 
+    def statuses(self, serial: int) -> list[str]:
+        """The letters of the statuses that statements gave a row, in any order."""
+        return [reply[-1] for (reply,) in self.plan.db.execute(
+            "SELECT reply FROM job WHERE reply GLOB ?", (f"ok serial {serial} status [A-Z]",))]
+
 
 def world_of(plan: Plan) -> World:
     """The world of a plan."""

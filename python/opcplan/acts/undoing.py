@@ -1,26 +1,27 @@
 """The act that takes a change back which was done before: the statements of a journal, or a kept job. No I/O.
 
 A plan doesn't say what it was before a change. What can be known: the status that a statement gave, and by the table of
-changes (docs/rules/OCCURRENCES.md) the one before, or by an earlier entry; deadline and run cycle of a row that was
-deleted, which the deletions keep; and run cycles, by an earlier entry that defines them, or because an act only added
-run cycles of one day. What a row waited for before isn't kept: a row that waits again finds it anew, by the lists in
-force.
+changes (docs/rules/OCCURRENCES.md) the one before, or by the replies that the plan keeps; deadline and run cycle of a
+row that was deleted, which the deletions keep; and run cycles, by an earlier entry that defines them, or because an act
+only added run cycles of one day. What a row waited for before isn't kept: a row that waits again finds it anew, by the
+lists in force.
 
 What always holds (tests/test_undoing.py goes through random plans and acts, with the plain planner): an act that is
 undone at once leaves the live runs of both plans as they were; if something of it has changed since, it isn't undone,
 with the reason."""
 
-from collections.abc import Iterator, Sequence
+import dataclasses
+from collections.abc import Iterator, Mapping, Sequence, Set
 from typing import NamedTuple
 
 from opcplan.acts import inverses, one_day, previews
 from opcplan.acts.inverses import NoInverse
 from opcplan.acts.steps import Step
 from opcplan.acts.verbs import Act, Intention, NotDoable
-from opcplan.acts.world import World
+from opcplan.acts.world import Difference, World
 from opcplan.plans import run_keys
 from opcplan.plans.waits import Row
-from opcplan.rules import blocks, moments, statement_words, statements
+from opcplan.rules import blocks, moments, naming, statement_words, statements
 from opcplan.rules.definitions import RunCycle
 from opcplan.rules.statement_words import Statement
 
@@ -98,6 +99,9 @@ def act_of(world: World, wanted: Intention, done: Sequence[Done], entries: Seque
         if not reply.startswith("ok"):
             raise NotDoable(f"`{names}` can't be undone: `{step.line}` would be refused with "
                             f"{reply.removeprefix('refused ')}{because(trial, step)}")
+    for app, was, now in modified(world, done, entries):
+        own = {(step.app, step.ia) for step in steps}
+        check_modified(world, trial, names, Modified(app, named(world, app, was), named(world, app, now)), own)
     for row in deleted(world, done):
         lack = inverses.row_lack((row.app, row.ia), row._replace(place=""), again(trial, row))
         if lack:
@@ -112,6 +116,62 @@ def because(world: World, step: Step) -> str:
     row = None if step.ia is None else world.live(step.app, step.ia)
     left = world.open_before(row) if row is not None and step.name == "cp-start" else []
     return f": it waits for {left[0].key} now" if left else ""
+
+
+class Modified(NamedTuple):
+    """An application whose run cycles an act changed, with what it names in the plan, by input arrival: as they were
+    before the act, and as they are."""
+
+    app: str
+    before: Mapping[int, tuple[str, int]]
+    after: Mapping[int, tuple[str, int]]
+
+
+def modified(world: World, done: Sequence[Done], entries: Sequence[Done]
+             ) -> Iterator[tuple[str, dict[str, RunCycle], dict[str, RunCycle]]]:
+    """The applications whose run cycles statements changed and took into the long-term plan, with those of before and
+    of now."""
+    names = [one.statement for one in done]
+    taken = {one.values["app"] for one in names if one is not None and one.name == "ltp-modify-one"}
+    for one, statement in zip(done, names):
+        if statement is not None and statement.name == "define" and statement.kind == "run-cycles":
+            for app, cycles in blocks.read("run-cycles", one.data.encode()).defined.items():
+                if app in taken:
+                    yield app, cycles_before(app, one, cycles, entries), cycles
+
+
+def named(world: World, app: str, cycles: dict[str, RunCycle]) -> dict[int, tuple[str, int]]:
+    """By input arrival what run cycles name in the days of the plan: the run cycle, and the deadline."""
+    assert world.bounds is not None, "there is a plan"
+    defined = dataclasses.replace(world.defined, run_cycles={**world.defined.run_cycles, app: cycles})
+    return {day * moments.DAY + one.time: (one.cycle.name, one.deadline)
+            for day in range(world.bounds.first_day, world.bounds.last_day + 1)
+            for one in naming.names(defined, app, day).times if not one.excluded_by}
+
+
+def check_modified(world: World, trial: World, names: str, one: Modified, own: Set[tuple[str, int | None]]) -> None:
+    """Asks that what an act changed by run cycles is as the act left it, that it comes back, and that nothing else of
+    the application changes but `own` keys, which other statements change. Raises NotDoable."""
+    assert world.bounds is not None, "there is a plan"
+    changed = {ia for ia in {*one.before, *one.after} if one.before.get(ia) != one.after.get(ia)}
+    for ia in sorted(changed):
+        row, key = world.live(one.app, ia), moments.key_text(one.app, ia)
+        if ia in one.after and (row is None or row.place != "L" or (row.cycle, row.deadline) != one.after[ia]):
+            why = f"{key} has changed since: it is {WHERE[row.place] if row else 'deleted'}"
+        elif ia not in one.after and row is not None:
+            why = f"{key} is there again"
+        elif ia in one.before and ia < world.bounds.plan_end:
+            why = f"{key} isn't made again, because the current plan goes past it"
+        else:
+            continue
+        raise NotDoable(f"`{names}` can't be undone: {why}")
+    came = {ia: trial.live(one.app, ia) for ia in changed}
+    is_back = all((row and (row.cycle, row.deadline)) == one.before.get(ia) for ia, row in came.items())
+    keys = {(row.app, row.ia) for _, row in Difference(world, trial).rows.values()}
+    if not is_back or any(app == one.app and ia not in changed and (app, ia) not in own for app, ia in keys) or \
+            trial.in_force != world.in_force:
+        raise NotDoable(f"`{names}` can't be undone: other definitions of {one.app} have changed since, and "
+                        "`ltp-modify-one` would take that in too")
 
 
 def deleted(world: World, done: Sequence[Done]) -> Iterator[Row]:
@@ -157,23 +217,22 @@ def back(world: World, done: Sequence[Done], entries: Sequence[Done]) -> Iterato
             yield from late
             late = []
         elif statement.name == "define" and statement.kind == "periods" and one.act is not None:
-            yield from (Step("undefine", name, None, "periods") for name in blocks.read(
-                "periods", one.data.encode()).defined)
+            yield from periods_before(world, one, done)
         elif statements.KINDS[statement.name].is_on_key:
-            yield from of_key(world, one, statement, entries)
+            yield from of_key(world, one, statement)
         else:
             raise NoInverse(f"the statements have none that takes `{statement.name}` back")
     if late:
         raise NoInverse("what the definitions were before isn't known")
 
 
-def of_key(world: World, one: Done, statement: Statement, entries: Sequence[Done]) -> Iterator[Step]:
+def of_key(world: World, one: Done, statement: Statement) -> Iterator[Step]:
     """The statements that take one on an occurrence back. Raises NoInverse."""
     name, app, ia = statement.name, statement.values["app"], statement.values["ia"]
     row = world.row(serial_of(one))
     if row is None or row[1:3] != (app, ia):
         raise NoInverse("its occurrence isn't in the plan any more")
-    place = place_before(one, entries) if name == "cp-delete" else ""
+    place = place_before(world, serial_of(one)) if name == "cp-delete" else ""
     names = inverses.names_of(name, place)
     if name == "ltp-add" and row.place == "W":  # a daily plan took it into the current plan
         names = ("cp-delete",)
@@ -194,16 +253,11 @@ WHERE = {"L": "in the long-term plan", "W": "waiting", "S": "started", "E": "in 
          "D": "deleted", "H": "in history", "o": "deleted", "w": "withdrawn", "p": "deleted"}
 
 
-def place_before(one: Done, entries: Sequence[Done]) -> str:
-    """The status of an occurrence before a statement, by earlier entries; waiting if there is none."""
-    found = "W"
-    for other in entries:
-        if other.seq >= one.seq:
-            break
-        words = other.reply.split(" ")
-        if other.reply.startswith("ok serial") and len(words) == 5 and int(words[2]) == serial_of(one):
-            found = words[4]
-    return found
+def place_before(world: World, serial: int) -> str:
+    """The status of an occurrence before it was deleted: in error if a statement said so, and none let it wait again
+    since."""
+    statuses = list(world.source.statuses(serial))
+    return "E" if statuses.count("E") > statuses.count("W") else "W"
 
 
 def run_cycles_before(world: World, one: Done, entries: Sequence[Done]) -> Iterator[Step]:
@@ -212,10 +266,25 @@ def run_cycles_before(world: World, one: Done, entries: Sequence[Done]) -> Itera
     for app, cycles in block.defined.items():
         if world.defined.run_cycles.get(app) != cycles:
             raise NoInverse(f"the run cycles of {app} have changed since")
-        before = known_before(app, one, entries)
-        if before is None:
-            before = without_own(one, cycles)
+        before = cycles_before(app, one, cycles, entries)
         yield one_day.define(app, before) if before else Step("undefine", app, None, "run-cycles")
+
+
+def periods_before(world: World, one: Done, done: Sequence[Done]) -> Iterator[Step]:
+    """The statements that undefine the periods that an act defined, unless somebody else uses or changed them."""
+    own = {statement.values["app"] for other in done for statement in (other.statement,)
+           if statement is not None and statement.name == "ltp-modify-one"}
+    used = {cycle.period for app, cycles in world.defined.run_cycles.items() if app not in own
+            for cycle in cycles.values()}
+    for name, period in blocks.read("periods", one.data.encode()).defined.items():
+        if name not in used and world.defined.periods.get(name) == period:
+            yield Step("undefine", name, None, "periods")
+
+
+def cycles_before(app: str, one: Done, cycles: dict[str, RunCycle], entries: Sequence[Done]) -> dict[str, RunCycle]:
+    """The run cycles that an application had before a `define`. Raises NoInverse."""
+    before = known_before(app, one, entries)
+    return without_own(one, cycles) if before is None else before
 
 
 def known_before(app: str, one: Done, entries: Sequence[Done]) -> dict[str, RunCycle] | None:

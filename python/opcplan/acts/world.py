@@ -47,6 +47,9 @@ class Source(Protocol):
     def behind(self, serial: int) -> Iterable[int]:
         """The serials of the successors that a row has."""
 
+    def statuses(self, serial: int) -> Iterable[str]:
+        """The letters of the statuses that statements gave a row, by the jobs that the plan keeps, in any order."""
+
 
 class World:
     """What a plan would be after some statements."""
@@ -178,8 +181,6 @@ class World:
         assert act is not None, "no other statement is left"
         if row.place == "W":
             self.kept[row.serial] = self.before(row)
-        if act.after in "WD":
-            self.kept.pop(row.serial, None)
         self.put(row._replace(place=act.after))
         return f"ok serial {row.serial} status {act.after}"
 
@@ -312,14 +313,14 @@ class Difference:
     def changed_pairs(self) -> Iterator[tuple[int, tuple[int, ...], tuple[int, ...]]]:
         """Serials of rows whose predecessors may differ, with those before and now."""
         old, new = self.old, self.new
-        touched = {row.app for _, row in self.rows.values()}
+        touched = {row.app for row in new.changed.values()}  # a row may be as before, and have closed anew
         touched |= {app for app in {*old.in_force, *new.in_force} if old.in_force.get(app) != new.in_force.get(app)}
         near = touched | {user for app in touched for user in (*old.users(app), *new.users(app))}
         for app in sorted(near):
             before = old.rows(app)
             for serial, row in new.rows(app).items():
                 was = before.get(serial)
-                if row.place in OPEN or was is not None and was.place in OPEN or serial in self.rows:
+                if row.place in OPEN or was is not None and was.place in OPEN or serial in new.changed:
                     yield serial, () if was is None else old.before(was), new.before(row)
 
 
