@@ -2,12 +2,17 @@
 say if nothing is done."""
 
 import contextlib
+import fcntl
 import io
 import json
 import os
+import pty
+import select
+import signal
 import sqlite3
 import subprocess
 import tempfile
+import termios
 import unittest
 from pathlib import Path
 from unittest import mock
@@ -220,6 +225,93 @@ class OverAFile(Case):
             self.assertEqual(several.exception.choices, ())
             with self.assertRaises(ValueError):
                 held.act("go", "PAY")
+
+
+class Terminal:
+    """A run of ./plan at a terminal of its own, on which somebody types."""
+
+    def __init__(self, words, environment):
+        self.keys, lower = pty.openpty()
+        self.said = b""
+        self.ran = subprocess.Popen(
+            [plans.TOP / "plan", *map(str, words)], stdin=lower, stdout=subprocess.PIPE, stderr=lower,
+            env={**os.environ, **environment}, start_new_session=True,
+            preexec_fn=lambda: fcntl.ioctl(0, termios.TIOCSCTTY, 0))
+        os.close(lower)
+
+    def type(self, question, keys):
+        """Types keys, once a question is asked."""
+        while question.encode() not in self.said:
+            assert select.select([self.keys], [], [], 120)[0], self.said
+            self.said += os.read(self.keys, 4096)
+        self.said = b""
+        os.write(self.keys, keys)
+
+    def end(self):
+        """The exit status, and what is printed and said."""
+        out = self.ran.communicate(timeout=120)[0].decode()
+        with contextlib.suppress(OSError):  # nobody has the other end
+            while select.select([self.keys], [], [], 0)[0] and (more := os.read(self.keys, 4096)):
+                self.said += more
+        os.close(self.keys)
+        return self.ran.returncode, out, self.said.decode("utf-8", "replace").replace("\r\n", "\n")
+
+
+END, CTRL_C, WHICH, DO_IT = b"\x04", b"\x03", "Which one? [1-2] ", "Do it? [y/N] "
+
+
+@unittest.skipUnless(plans.PROGRAM.exists(), "opcplan is not built")
+class AtATerminal(Case):
+    """Two runs of PAY at 06.00 are in the current plan, one complete: `rerun PAY 2026-11-23` is for one, and `cancel
+    PAY 06.00` is for the one of the 24th; after `dp-extend` there are two that wait."""
+
+    def setUp(self):
+        super().setUp()
+        self.more = "dp-extend --to 2026-11-26/00.00 --job 90\n"
+        self.plan = plans.copy_of(plans.of_stream(PLAN + self.more), self.room)
+
+    def typed(self, *answers):
+        """What becomes of `cancel PAY 06.00`, if somebody types answers to its questions."""
+        terminal = Terminal(["cancel", self.plan, "PAY", "06.00", *self.words], {})
+        for question, keys in answers:
+            terminal.type(question, keys)
+        return terminal.end()
+
+    def test_which_one(self):
+        before = expected.of_file(self.plan)
+        for keys, why in ((b"3\n", "because '3' isn't a number from 1 to 2"), (b"0\n", "because '0' isn't a number"),
+                          (b"\n", "nothing was done\n"), ("\u00b2\n".encode(), "isn't a number"),
+                          (b"\xff1\n", "isn't a number"), (b"y\n", "isn't a number"), (END, "nothing was done\n")):
+            with self.subTest(keys=keys):
+                status, out, said = self.typed((WHICH, keys))
+                self.assertEqual((status, out.splitlines()), (1, [
+                    "1  PAY 2026-11-24 06.00  waiting, serial 4", "2  PAY 2026-11-25 06.00  waiting, serial 7"]))
+                self.assertIn(why, said)
+                self.assertIn("nothing was done", said)
+                self.assertNotIn("Traceback", said)
+        self.assertEqual(expected.of_file(self.plan), before)
+        self.assertEqual(self.states(), [])
+
+    def test_ctrl_c_at_each_question(self):
+        before = expected.of_file(self.plan)
+        for answers in (((WHICH, CTRL_C),), ((WHICH, b"2\n"), (DO_IT, CTRL_C))):
+            status, _, said = self.typed(*answers)
+            self.assertEqual(status, -signal.SIGINT)
+            self.assertNotIn("Traceback", said)
+        self.assertEqual(expected.of_file(self.plan), before)
+        self.assertEqual(self.states(), [])
+
+    def test_one_is_chosen(self):
+        before = expected.of_file(self.plan)
+        for keys, why in ((b"n\n", "nothing was done"), (b"\n", "nothing was done"), (END, "nothing was done")):
+            self.assertEqual(self.typed((WHICH, b"2\n"), (DO_IT, keys))[0], 1)
+            self.assertEqual(expected.of_file(self.plan), before)
+        status, out, _ = self.typed((WHICH, b" 2 \n"), (DO_IT, b"y\n"))
+        self.assertEqual((status, out.splitlines()[-1]), (0, "ok serial 7 status D"))
+        self.assertIn("PAY 2026-11-25 06.00 waits in the current plan (serial 7).", out)
+        self.assertEqual(expected.of_file(self.plan), expected.of_stream(
+            PLAN, self.more, "cp-delete --app PAY --ia 2026-11-25/06.00 --job 700000000\n"))
+        self.assertEqual(self.states(), [])
 
 
 @unittest.skipIf(desks.why_not(), desks.why_not())

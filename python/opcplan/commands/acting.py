@@ -17,6 +17,7 @@ from opcplan.errors import Error, UsageError
 from opcplan.plans import plan_file
 
 KEY = "APP, APP DAY, APP HH.MM, APP DAY/HH.MM, or a serial"
+IS_NUMBER = re.compile("[0-9]{1,9}")
 IS_OCCURRENCE = re.compile("[A-Za-z@#$][A-Za-z0-9@#$]{0,15}|#?[0-9]{1,9}")
 
 
@@ -117,8 +118,9 @@ def chosen(settings: Settings, lines: Sequence[str], serials: Sequence[int], why
         raise NotChosen(f"{len(serials)} occurrences fit {why}; name one of them, by its moment or its serial. Nothing "
                         "was done")
     text = answer_to(f"Which one? [1-{shown}] ")
-    if not text.isdigit() or not 1 <= int(text) <= shown:
-        raise NotChosen("nothing was done")
+    if not IS_NUMBER.fullmatch(text) or not 1 <= int(text) <= shown:
+        raise NotChosen(f"nothing was done, because {text[:40]!r} isn't a number from 1 to {shown}" if text else
+                        "nothing was done")
     return settings._replace(wanted=dataclasses.replace(settings.wanted, of=str(serials[int(text) - 1])))
 
 
