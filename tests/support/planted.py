@@ -16,6 +16,7 @@ from support import TOP
 
 # what is copied; all else of the repository is linked
 COPIED = ("plan", "python", "tests")
+PAIRS = r"AssertionError: (\{[0-9]+: |'(ok|refused) )"  # a world has other pairs, or another reply
 LONGEST = 1500  # seconds for one bug that hangs
 
 
@@ -124,6 +125,52 @@ BUGS = (
     # definitions
     Bug("edit undefines a period in use", "edits/periods.py", "if is_gone and users:", "if False:",
         "test_edit.Edit.test_the_last_interval_of_a_period_in_use_stays", r"Tuples differ: \(0, 'undefine"),
+    # acts
+    Bug("of two runs that are as near the later deadline counts", "rules/usual_due.py", "return min(found)[1]",
+        "return min(found, key=lambda one: (one[0], -one[1]))[1]",
+        "test_usual_due.Rule.test_of_two_that_are_as_near_the_earlier_deadline_counts", "2024-01-06/08.00"),
+    Bug("a run of the same minute is no predecessor", "acts/world.py", "(ia + (other != app), 0)", "(ia, 0)",
+        "test_acts.Worlds.test_a_world_does_what_the_planner_does", PAIRS),
+    Bug("a run at the limit is no predecessor", "acts/world.py", "within * 60 < ia:", "within * 60 <= ia:",
+        "test_acts.Worlds.test_a_world_does_what_the_planner_does", PAIRS),
+    Bug("pairs are lost when a row closes", "acts/world.py", "self.kept[row.serial] = self.before(row)", "pass",
+        "test_acts.Worlds.test_a_world_does_what_the_planner_does", PAIRS),
+    Bug("a closed row gets its pairs anew", "acts/world.py", "if row.place in CLOSED:\n            return",
+        "if False:\n            return", "test_acts.Worlds.test_a_world_does_what_the_planner_does", PAIRS),
+    Bug("an inverse is offered without its trial", "acts/inverses.py", "lack = lack_of(world, back)", "lack = ''",
+        "test_acts.Acts.test_an_act_does_what_its_preview_says", "False is not true"),
+    Bug("an inverse is offered whatever its pairs", "acts/inverses.py",
+        "if keys_of(old, old.before(before)) != keys_of(new, new.before(row)):", "if False:",
+        "test_acts.Inverses.test_a_reset_whose_run_would_follow_others_has_none", "would have other predecessors"),
+    Bug("run cycles of one day aren't tried", "acts/one_day.py",
+        "    check_alone(world, found, app, ia, deadline, old)\n", "",
+        "test_acts.Acts.test_an_act_does_what_its_preview_says", "it is due |is made, and not"),
+    Bug("run cycles of one day take in what else is defined", "acts/one_day.py",
+        "if Difference(world, trial).rows or trial.in_force != world.in_force:", "if False:",
+        "test_acts.Acts.test_an_act_does_what_its_preview_says", "another list of predecessors is in force|it changes"),
+    Bug("a deadline is kept by run cycles of two days", "acts/one_day.py", "[place.offset], day, day + 1, minute, due)",
+        "[place.offset], day, day + 2, minute, due)", "test_acts.Acts.test_an_act_does_what_its_preview_says",
+        "the deadline could be kept"),
+    Bug("a chain ends before its root", "acts/chains.py", "reversed(world.open_before(here)) if here.place == \"W\"]",
+        "reversed(world.open_before(here)) if here is row]", "test_acts.Acts.test_an_act_does_what_its_preview_says",
+        "refused 30"),
+    Bug("a chain follows one predecessor of each run", "acts/chains.py", "reversed(world.open_before(here)) if",
+        "reversed(world.open_before(here)[:1]) if", "test_acts.Acts.test_an_act_does_what_its_preview_says",
+        "refused 30"),
+    Bug("undo ignores what others did to a run", "acts/undoing.py", "    elif row.place not in after(name):",
+        "    elif False:", "test_undoing.Cases.test_what_has_changed_since_is_not_undone", "does not match"),
+    Bug("undo ignores what others defined", "acts/undoing.py", "if world.defined.run_cycles.get(app) != cycles:",
+        "if False:", "test_undoing.Cases.test_a_move_by_run_cycles_that_others_changed_is_not_undone",
+        "the run cycles of AA have"),
+    Bug("undo ignores what others did to a moved run", "acts/undoing.py",
+        "    for app, was, now in modified(world, done, entries):\n", "    for app, was, now in ():\n",
+        "test_undoing.Cases.test_a_move_by_run_cycles_that_others_changed_is_not_undone",
+        "isn't made again"),
+    Bug("undo isn't tried", "acts/undoing.py", '        if not reply.startswith("ok"):\n            raise',
+        "        if False:\n            raise", "test_undoing.Cases.test_what_has_changed_since_is_not_undone",
+        "NotDoable not raised"),
+    Bug("what was in error waits once its deletion is undone", "acts/undoing.py", 'return "E" if statuses',
+        'return "W" if statuses', "test_undoing.Cases.test_what_was_in_error_is_again", "Lists differ"),
 )
 
 
