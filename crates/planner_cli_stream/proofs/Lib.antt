@@ -13,3 +13,4 @@ pub mod Text
 pub mod Parts
 pub mod JobNumberLemmas
 pub mod OneStatement
+pub mod Measured

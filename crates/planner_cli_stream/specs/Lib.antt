@@ -4,6 +4,7 @@ pub mod Form
 pub mod Command
 pub mod WordValues
 pub mod Line
+pub mod Readers
 pub mod Buffers
 pub mod Lines
 pub mod Items

@@ -1,8 +1,9 @@
 -- What a page holds, and what reading an item gives.
-use Rattle.std.specs.Prelude.{◌≡◌, ℕ, ◌-◌, ◌≤◌, List, [], ◌∷◌, ◌++◌, Option, None, Some, length}
+use Rattle.std.specs.Prelude.{◌≡◌, ◌⊎◌, ℕ, ◌-◌, ◌<◌, ◌≤◌, List, [], ◌∷◌, ◌++◌, Option, None, Some, length, vec_capacity}
 use Rattle.planner_cli_stream.specs.Blocks.{block_held}
-use Rattle.planner_cli_stream.specs.Items.{longest_block, DataBlock, Whole, TooLong, Unended}
+use Rattle.planner_cli_stream.specs.Items.{block_room, end_room, longest_block, DataBlock, Whole, TooLong, Unended}
 use Rattle.planner_cli_stream.specs.Items.{Item, NoStatement, Alone, WithBlock, items_of}
+use Rattle.planner_cli_stream.specs.Lines.{line_room}
 use Rattle.planner_cli_stream.specs.declared.line_kinds.LineKind.{LineKind}
 use Rattle.planner_cli_stream.specs.declared.line_kinds.LineKind.TheVariants as Kinds
 use Rattle.planner_cli_stream.specs.declared.items.DataBlock.{DataBlock as BlockValue}
@@ -45,6 +46,20 @@ item_held (Helds.WithBlock end) line bytes = Some (WithBlock line (block_held en
 -- the item on a page
 abbrev pub item_on : Page → Option Item
 item_on page = item_held page.held page.line.items page.block.items
+
+-- how many bytes of a stream may still be read to a page
+abbrev pub left_on : Page → ℕ
+left_on page = page.left
+
+-- a buffer of the page may have to grow: it has room for fewer bytes than it may come to hold
+abbrev pub MayNeedMemory : Page → Type 0
+MayNeedMemory page = (vec_capacity page.line < line_room)
+    ⊎ ((vec_capacity page.block < block_room) ⊎ (vec_capacity page.end < end_room))
+
+-- no buffer of a page lost room
+abbrev pub KeepsRoom : Page → Page → Type 0
+KeepsRoom old new = (vec_capacity old.line ≤ vec_capacity new.line)
+    × (vec_capacity old.block ≤ vec_capacity new.block) × (vec_capacity old.end ≤ vec_capacity new.end)
 
 -- what a line is after which no data follow
 abbrev pub held_alone : LineKind → Held

@@ -1,18 +1,19 @@
 //! Lines of a reader, of which only the first bytes are kept.
-ghost use Rattle.std.specs.Prelude.{◌≡◌, ◌≢◌, ◌↔◌, ◌-◌, ◌<◌, ◌≤◌, length, max, take};
-ghost use Rattle.std.specs.Prelude.{All, IfOk, OnOk, OnErr, IfSome, IsTrue};
+ghost use Rattle.std.specs.Prelude.{◌≡◌, ◌≢◌, ◌⊎◌, ◌↔◌, ◌-◌, ◌<◌, ◌≤◌, length, max, take, true, vec_capacity};
+ghost use Rattle.std.specs.Prelude.{All, IfErr, IfOk, OnOk, OnErr, IfSome, IsTrue};
 ghost use Rattle.std.specs.Io.BufRead.{take_through, strip_last, DropsThrough};
-ghost use Rattle.planner_cli_stream.specs.Buffers.{kept, ConsumesPart};
+ghost use Rattle.planner_cli_stream.specs.Buffers.{kept, ConsumesPart, MayGrow};
 ghost use Rattle.planner_cli_stream.specs.Lines.{line_of};
+ghost use Rattle.planner_cli_stream.specs.Readers.{HasFailed, IsBlamed, Measures};
 
-use std::io::BufRead;
+use crate::readers::StreamReader;
 
 /// Why a line could not be read.
 #[derive(Clone, Copy, Debug, PartialEq, Eq)]
 pub enum ReadFault {
     /// Memory was refused.
     Memory,
-    /// The reader failed.
+    /// The reader failed, or the stream is longer than a stream may be.
     Reader,
 }
 
@@ -37,7 +38,11 @@ fn len_through(bytes: &[u8]) -> usize
 fn keep(held: &mut Vec<u8>, limit: usize, bytes: &[u8]) -> Result<(), ReadFault>
     ensures ok { OnOk result (held.new.items ≡ kept limit held.old.items bytes.now) }
     ensures err { OnErr result (held.new.items ≡ held.old.items) }
+    ensures cause { IfErr result (λ fault. fault ≡ ReadFault.Memory) }
     ensures bound { length held.new.items ≤ max limit (length held.old.items) }
+    ensures grows { vec_capacity held.old ≤ vec_capacity held.new }
+    // What has room for all that it may hold doesn't grow.
+    ensures full { OnErr result (MayGrow (vec_capacity held.old) limit (length held.old.items)) }
 {
     // A buffer past its limit keeps what it has. No buffer here is past it, and no caller has to prove that.
     let room = limit.saturating_sub(held.len()).min(bytes.len());
@@ -55,9 +60,11 @@ struct Consumed {
     is_done: bool,
 }
 
-/// Consumes what the reader shows of a line, and puts its first bytes into both buffers.
-fn consume_part<R: BufRead>(
+/// Consumes what the reader shows of a line, and puts its first bytes into both buffers. `left` falls by as many as
+/// were consumed.
+fn consume_part<R: StreamReader>(
     reader: &mut R,
+    left: &mut u64,
     head: &mut Vec<u8>,
     head_limit: usize,
     all: &mut Vec<u8>,
@@ -67,8 +74,21 @@ fn consume_part<R: BufRead>(
         head_limit head.old.items head.new.items all_limit all.old.items all.new.items taken) }
     ensures head_bound { length head.new.items ≤ max head_limit (length head.old.items) }
     ensures all_bound { length all.new.items ≤ max all_limit (length all.old.items) }
+    ensures some { IfOk result (λ taken. taken.is_done ≢ true → 0 < taken.len) }
+    ensures falls { IfOk result (λ taken. left.new ≡ left.old - taken.len) }
+    ensures stays { OnErr result (left.new ≡ left.old) }
+    ensures measured { Measures (R.remaining reader.old) (R.remaining reader.new) left.old
+        left.new }
+    ensures head_grows { vec_capacity head.old ≤ vec_capacity head.new }
+    ensures all_grows { vec_capacity all.old ≤ vec_capacity all.new }
+    // The reader is blamed only where this call on it failed, and memory only where a buffer may have to grow.
+    ensures blamed { IfErr result (λ fault. fault ≡ ReadFault.Reader
+        → HasFailed R.fails reader.new) }
+    ensures memory { IfErr result (λ fault. fault ≡ ReadFault.Memory
+        → MayGrow (vec_capacity head.old) head_limit (length head.old.items)
+        ⊎ MayGrow (vec_capacity all.old) all_limit (length all.old.items)) }
 {
-    let available = match reader.fill_buf() {
+    let available = match reader.fill() {
         Ok(available) => available,
         Err(_) => return Err(ReadFault::Reader),
     };
@@ -77,13 +97,16 @@ fn consume_part<R: BufRead>(
     keep(head, head_limit, &available[..end])?;
     keep(all, all_limit, &available[..end])?;
     reader.consume(end);
+    *left = left.saturating_sub(end as u64);
     Ok(Consumed { len: end, is_done })
 }
 
 /// Consumes one line of a reader, with its line feed. `head` and `all` each get its bytes as far as they have room.
-/// Returns whether there was a line. Every error of the reader is a fault.
-pub fn read_line<R: BufRead>(
+/// Returns whether there was a line. Every error of the reader is a fault. `left` is how many bytes of the stream may
+/// still be read; where none is left, the stream is too long, and that is a fault of its reader.
+pub fn read_line<R: StreamReader>(
     reader: &mut R,
+    left: &mut u64,
     head: &mut Vec<u8>,
     head_limit: usize,
     all: &mut Vec<u8>,
@@ -99,10 +122,24 @@ pub fn read_line<R: BufRead>(
     // At any reader, and also after a fault.
     ensures head_bound { length head.new.items ≤ max head_limit (length head.old.items) }
     ensures all_bound { length all.new.items ≤ max all_limit (length all.old.items) }
+    ensures falls { IfOk result (λ any. IsTrue any → left.new ≤ left.old - 1) }
+    ensures most { left.new ≤ left.old }
+    ensures measured { Measures (R.remaining reader.old) (R.remaining reader.new) left.old
+        left.new }
+    ensures head_grows { vec_capacity head.old ≤ vec_capacity head.new }
+    ensures all_grows { vec_capacity all.old ≤ vec_capacity all.new }
+    ensures blamed { IfErr result (λ fault. fault ≡ ReadFault.Reader
+        → IsBlamed R.fails reader.new left.new) }
+    ensures memory { IfErr result (λ fault. fault ≡ ReadFault.Memory
+        → MayGrow (vec_capacity head.old) head_limit (length head.old.items)
+        ⊎ MayGrow (vec_capacity all.old) all_limit (length all.old.items)) }
 {
     let mut total = 0usize;
-    for _ in 0..u64::MAX {
-        let Consumed { len, is_done } = consume_part(reader, head, head_limit, all, all_limit)?;
+    let most = *left;
+    for _turn in 0..most {
+        let Consumed { len, is_done } = consume_part(
+            reader, left, head, head_limit, all, all_limit,
+        )?;
         total = total.saturating_add(len);
         if is_done {
             return Ok(total > 0);
@@ -116,6 +153,7 @@ pub fn read_line<R: BufRead>(
 fn pop_if_last(bytes: &mut Vec<u8>, byte: u8)
     ensures items { bytes.new.items ≡ strip_last byte bytes.old.items }
     ensures shorter { length bytes.new.items ≤ length bytes.old.items }
+    ensures capacity { vec_capacity bytes.new ≡ vec_capacity bytes.old }
 {
     let n = bytes.len();
     if n > 0 && bytes[n - 1] == byte {
@@ -128,6 +166,7 @@ fn pop_if_last(bytes: &mut Vec<u8>, byte: u8)
 pub fn trim_line_end(line: &mut Vec<u8>)
     ensures line { line.new.items ≡ line_of line.old.items }
     ensures shorter { length line.new.items ≤ length line.old.items }
+    ensures capacity { vec_capacity line.new ≡ vec_capacity line.old }
 {
     pop_if_last(line, b'\n');
     pop_if_last(line, b'\r');

@@ -30,6 +30,8 @@ pub struct Page {
     pub(crate) line: Vec<u8>,
     pub(crate) block: Vec<u8>,
     pub(crate) end: Vec<u8>,
+    /// How many bytes of the stream may still be read.
+    pub(crate) left: u64,
     ghost line_bound: { length line.items ≤ line_room },
     ghost block_bound: { length block.items ≤ block_room },
     ghost end_bound: { length end.items ≤ end_room },

@@ -12,10 +12,10 @@ returns-clause-part g c =
     let shown = c.in-Ok.available.now in
     let end = c.len_through-end in
     let long = length-take-le end.result shown end.ensures.bound in
-    let rested = c.fill_buf.follows.lender-at-none in
+    let rested = c.fill.follows.lender-at-none in
     let filled =
     subst (FillKeeps _ (g.R.Read.remaining rested) (g.R.BufRead.consumable_len rested)) c.in-Ok.is
-    c.fill_buf.follows.holds-at-none in
+    c.fill.follows.holds-at-none.0 in
     let drops = c.consume.ensures.bytes in
     let moved =
     Consumes_shown _ _ _ _ shown end.result end.ensures.bound c.in-Ok.ensures.front c.in-Ok.ensures.end filled.0

@@ -1,5 +1,6 @@
-use Rattle.std.proofs.Common.{◌≡◌, true, false, ap, sym, subst, ◌∙◌, rules}
+use Rattle.std.proofs.Common.{◌≡◌, inl, inr, true, false, ap, sym, subst, ◌∙◌, rules, arith, length}
 use Rattle.std.specs.Prelude.{IfSome}
+use Rattle.std.proofs.lemmas.Result.{err_from_is_err_and}
 use Rattle.planner_cli_stream.specs.Lines.{line_room, opens_data, kind_of}
 use Rattle.planner_cli_stream.specs.Pages.{PartRead, held_alone, held_with_data, item_held}
 use Rattle.planner_cli_stream.proofs.Parts.{front_line, part_end, part_alone, part_with_data}
@@ -50,3 +51,19 @@ returns-in_ok-ending-clause-part g c =
     subst (λ h. IfSome a (λ xs. PartRead xs (item_held h line block) left)) (sym held)
     (part_with_data a (g.R.Read.remaining c.read_line.new.reader) left line block c.in_ok-ending.ending first read.rest
     opened c.in_ok-ending.ensures.read)
+
+pub returns-in_err-read_line-clause-memory : goal.returns-in_err-read_line-clause-memory
+returns-in_err-read_line-clause-memory g c =
+    let p = err_from_is_err_and c.from_residual.result c.from_residual.ensures.1 in
+    rw (p.1, p.2) (λ is. elim (c.in_err-read_line.ensures.memory is) [
+      | inl low ↦ inl (omega (arith, low, ap length c.clear.ensures.items, c.clear.ensures.capacity))
+      | inr low ↦ inr (inl (omega (arith, low, c.args.self.now.block_bound)))
+    ])
+
+pub returns-in_err-ending-clause-memory : goal.returns-in_err-ending-clause-memory
+returns-in_err-ending-clause-memory g c =
+    let p = err_from_is_err_and c.from_residual-in_err-ending.result c.from_residual-in_err-ending.ensures.1 in
+    rw (p.1, p.2) (λ is. elim (c.in_err-ending.ensures.memory is) [
+      | inl low ↦ inr (inr low)
+      | inr low ↦ inr (inl (omega (arith, low, c.in_ok-read_line.ensures.all_grows)))
+    ])
