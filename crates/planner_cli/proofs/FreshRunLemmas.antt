@@ -12,9 +12,7 @@ use Rattle.planner_machine.specs.Fresh.{StaysFresh}
 use Rattle.planner_machine.specs.Jobs.{AnswersJob, AnswersKept}
 use Rattle.planner_machine.specs.Laws.{IsWellFormed, StaysSound}
 use Rattle.planner_machine.specs.Sound.{IsSound}
-use Rattle.planner_machine.specs.Statement.{Act, Add, AddCurrent, Answer, Change, Create, DailyExtend, DailyExtendBy}
-use Rattle.planner_machine.specs.Statement.{Define, Delete, Extend, Job, ModifyAll, ModifyOne, Replan, Statement}
-use Rattle.planner_machine.specs.Statement.{Undefine, decision_of}
+use Rattle.planner_machine.specs.Statement.{Answer, Change, Create, Job, ModifyAll, Statement, decision_of}
 use Rattle.planner_machine.specs.Stream.{IsStatement, RunsSound}
 use Rattle.planner_cli_stream.specs.Items.{Item}
 use Rattle.planner_cli.specs.Requests.{Asks}
@@ -92,19 +90,8 @@ module _ (one : OneStatement) (stays : StaysFresh) (keeps : RunsSound) where
       (sound_stays : (change : Change) → IsWellFormed change → StaysSound change) where
     -- each of the two leaves fresh content
     planned : (change : Change) → MakesPlan change → LeavesFresh change
-    planned (Create from to) plans = create from to
-    planned ModifyAll plans = modify
-    planned (Define block) plans = absurd plans
-    planned (Undefine kind name) plans = absurd plans
-    planned (Extend to) plans = absurd plans
-    planned (ModifyOne app) plans = absurd plans
-    planned (Add key) plans = absurd plans
-    planned (Delete key) plans = absurd plans
-    planned (DailyExtend to) plans = absurd plans
-    planned (DailyExtendBy days count) plans = absurd plans
-    planned Replan plans = absurd plans
-    planned (AddCurrent key) plans = absurd plans
-    planned (Act action key) plans = absurd plans
+    planned change (inl (from, to, is)) = subst LeavesFresh (sym is) (create from to)
+    planned change (inr is) = subst LeavesFresh (sym is) modify
 
     job_plans : (number : ℕ) (text : List ℕ) (change : Change) (c c' : Content) (outcome : Outcome) → IsSound c
         → IsWellFormed change → MakesPlan change

@@ -10,7 +10,6 @@ pub mod PlanLemmas
 pub mod ChangeLemmas
 pub mod SoFar
 pub mod ServeLemmas
-mod EarlyLemmas
 pub mod ShownLists
 pub mod MovedLemmas
 pub mod TrialLemmas

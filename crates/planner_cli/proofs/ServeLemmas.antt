@@ -1,10 +1,10 @@
 -- Lemmas on statements that are answered.
 use Rattle.std.proofs.Common.{◌≡◌, ◌≤◌, ◌∙◌, ℕ, List, [], ◌∷◌, length, refl, sym, ap, subst, inl, inr, arith}
-use Rattle.std.specs.Prelude.{◌≢◌, ◌⊎◌, Err, None, Ok, Option, Some}
+use Rattle.std.specs.Prelude.{◌≢◌, ◌⊎◌, Err, IfSome, None, Ok, Option, Some}
 use Rattle.std.proofs.lemmas.List.Elements.{All-cons}
 use Rattle.app_definitions.specs.Blocks.{IsFaultyAt, ReadsAs}
 use Rattle.app_definitions.specs.Definitions.{IsDefined, names_given}
-use Rattle.app_definitions.specs.declared.definitions.Definitions.{Definitions}
+use Rattle.app_definitions.specs.declared.definitions.Definitions.{Definitions as AllDefinitions}
 use Rattle.app_definitions.specs.declared.kinds.Block.{Block}
 use Rattle.app_definitions.specs.declared.kinds.Kind.{Kind}
 use Rattle.occurrences.specs.declared.key.Key.{Key}
@@ -23,7 +23,11 @@ use Rattle.planner_machine.specs.Sound.{IsSound}
 use Rattle.planner_machine.specs.Statement.{Answer, Change as MachineChange, Days, Define, DefineJob, Job, decision_of}
 use Rattle.planner_machine.specs.Stream.{IsStatement, RunsSound}
 use Rattle.plan_store.specs.Changes.{after}
+use Rattle.long_term_plan.specs.Early.{IsRefusedEarly}
 use Rattle.plan_store.specs.Verdicts.{VerdictIs}
+use Rattle.plan_store.specs.Views.{Shows}
+use Rattle.plan_store.specs.declared.stores.Need.TheVariants.{Definitions}
+use Rattle.plan_store.specs.declared.views.View.{View}
 use Rattle.plan_store.specs.declared.changes.Change.{Change}
 use Rattle.plan_store.specs.declared.changes.Verdict.{Verdict}
 use Rattle.plan_store.specs.declared.changes.Verdict.TheVariants.{Done, Refused}
@@ -131,7 +135,7 @@ serves_no_data number text kind c numbered = record {
   well_formed = (let h = numbered.0 in omega arith, let h = numbered.1 in omega arith, λ block reads. absurd reads);
 }
 
-pub serves_days : (all : Definitions) (app : List ℕ) (from to : ℕ) (list : List Named) (rows : List (List ℕ))
+pub serves_days : (all : AllDefinitions) (app : List ℕ) (from to : ℕ) (list : List Named) (rows : List (List ℕ))
     → ListsDays all app from to list
     → ((c : Content) → c.definitions ≡ all → (r : Refusal) → ¬ (DaysRefused app from to c r)) → AreDaysLines list rows
     → (c : Content) → c.definitions ≡ all → Serves (Days app from to) c
@@ -162,6 +166,13 @@ not_refused kind name c defined NotDefined h = h defined
 not_refused kind name c defined _ h = h
 
 -- ---- verdicts
+
+-- what is refused early is refused so
+pub early_verdict : (d : Decision Content) (view : View) (found : Option Refusal)
+    → ((c : Content) → Shows Definitions view c → IsRefusedEarly d c found)
+    → IfSome found (λ r. (c : Content) → Shows Definitions view c → VerdictIs d c (Refused r))
+early_verdict d view (Some r) refuses = refuses
+early_verdict d view None refuses = tt
 
 pub verdict_fits : (change : MachineChange) (verdict : Verdict) (c : Content) → VerdictIs (decision_of change) c verdict
     → FitsVerdict verdict c

@@ -1,13 +1,13 @@
 -- Lemmas on calls that answer over a store.
-use Rattle.std.proofs.Common.{◌≡◌, ◌⊎◌, ℕ, zero, suc, ◌+◌, ◌-◌, ◌^◌, ◌≤◌, ◌∙◌, refl, sym, subst, inl, inr, arith, min}
+use Rattle.std.proofs.Common.{◌≡◌, ◌⊎◌, ℕ, zero, suc, ◌+◌, ◌-◌, ◌^◌, ◌≤◌, ◌∙◌, refl, sym, ap, subst, inl, inr, arith, min}
 use Rattle.std.specs.Prelude.{Err, IfErr, IfOk, IsErrAnd, Ok, OnErr, OnOk, Result}
 use Rattle.planner_machine.specs.Content.{Content}
 use Rattle.plan_store.specs.Faults.{IsMild}
 use Rattle.plan_store.specs.declared.stores.PlanStore.{Ghosts}
 use Rattle.plan_store.specs.declared.stores.StoreFault.{StoreFault}
 use Rattle.plan_store.specs.declared.stores.StoreFault.TheVariants.{Device, Memory}
-use Rattle.planner_cli.specs.Replies.{Prints, AnswerLines}
-use Rattle.planner_cli.specs.Stores.{AnswersBy, IsBlamed, LeavesOwn, ReadsBy}
+use Rattle.planner_cli.specs.Replies.{Answered, Prints, AnswerLines}
+use Rattle.planner_cli.specs.Stores.{Answering, AnswersBy, IsBlamed, LeavesOwn, LooksBy, ReadsBy}
 use Rattle.planner_cli.specs.declared.answers.Printed.{Printed}
 
 -- ---- counts of failures
@@ -42,10 +42,6 @@ pub always_on_err : {T E : Type 0} (r : Result T E) (P : Type 0) → P → OnErr
 always_on_err (Ok x) P h = tt
 always_on_err (Err e) P h = h
 
--- an answer is no fault
-pub no_fault : {T E : Type 0} (r : Result T E) (x : T) (P : E → Type 0) → r ≡ Ok x → IfErr r P
-no_fault r x P was = subst (λ r'. IfErr r' P) (sym was) tt
-
 -- ---- calls
 
 module _ {S : Type 0} (g : Ghosts S) where
@@ -79,14 +75,13 @@ module _ {S : Type 0} (g : Ghosts S) where
       left honest c (inl same) = inl same
       left honest c (inr (reply, does)) = inr (reply, more honest reply c does)
 
-  -- nothing was asked of the store
-  pub untouched : (store : S) (result : Result Printed StoreFault) (reply : AnswerLines) (Does : AnswerLines → Content → Type 0)
-      → Does reply (g.content store)
-      → IfOk result (λ printed. Prints reply printed.text.items printed.is_accepted)
+  -- nothing was asked of the store: it gives this, or memory was refused
+  pub unasked : {T : Type 0} (store : S) (result : Result T StoreFault) (Gives : T → Content → Type 0)
+      (IsMade : Content → Type 0) → (g.is_honest store → IfOk result (λ given. Gives given (g.content store)))
       → IfErr result (λ fault. fault ≡ Memory)
-      → AnswersBy g store store result Does
-  untouched store (Ok printed) reply Does does prints memory = record {
-    answers = λ honest. record { reply = reply; gives = does; prints = prints };
+      → Answering g store store result Gives IsMade
+  unasked store (Ok given) Gives IsMade gives memory = record {
+    answers = gives;
     unchanged = λ honest. tt;
     whole = λ honest. tt;
     settled = λ honest own. own;
@@ -98,7 +93,7 @@ module _ {S : Type 0} (g : Ghosts S) where
     stays_honest = λ honest clean fine. honest;
     stays_whole = λ whole. whole;
   }
-  untouched store (Err fault) reply Does does prints memory = record {
+  unasked store (Err fault) Gives IsMade gives memory = record {
     answers = λ honest. tt;
     unchanged = λ honest is. refl;
     whole = λ honest. inl refl;
@@ -112,179 +107,159 @@ module _ {S : Type 0} (g : Ghosts S) where
     stays_whole = tt;
   }
 
-  -- memory was refused, and nothing was asked of the store since
-  pub refused_memory : (store : S) (Does : AnswerLines → Content → Type 0)
-      → AnswersBy g store store (Err Memory) Does
-  refused_memory store Does = record {
-    answers = λ honest. tt;
-    unchanged = λ honest is. refl;
-    whole = λ honest. inl refl;
-    settled = λ honest own. tt;
-    crash = λ honest clean own c leaves. inl (own c leaves);
-    blames = λ is. absurd (let h : ⊥ = cc is in h);
-    counts = omega arith;
-    honest = λ honest. honest;
-    clean = λ clean. clean;
-    stays_honest = λ honest clean fine. honest;
-    stays_whole = tt;
-  }
+  -- so a reply, or memory was refused
+  pub untouched : (store : S) (result : Result Printed StoreFault) (reply : AnswerLines) (Does : AnswerLines → Content → Type 0)
+      → Does reply (g.content store)
+      → IfOk result (λ printed. Prints reply printed.text.items printed.is_accepted)
+      → IfErr result (λ fault. fault ≡ Memory)
+      → AnswersBy g store store result Does
+  untouched store result reply Does does prints memory =
+      unasked store result _ _ (λ honest. if_ok result _ _ (λ printed h. record {
+        reply = reply;
+        gives = does;
+        prints = h;
+      }) prints) memory
 
-  -- so a result says
+  -- memory was refused, and nothing was asked of the store since
   pub refused_so : (store : S) (result : Result Printed StoreFault) (Does : AnswerLines → Content → Type 0)
       → IsErrAnd result (λ fault. fault ≡ Memory)
       → AnswersBy g store store result Does
-  refused_so store (Ok printed) Does is = absurd is
-  refused_so store (Err fault) Does is =
-      subst (λ f. AnswersBy g store store (Err f) Does) (sym is) (refused_memory store Does)
+  refused_so store (Ok printed) Does memory = absurd memory
+  refused_so store (Err fault) Does memory = unasked store (Err fault) _ _ (λ honest. tt) memory
+
+  -- ---- after a look
+
+  module _ {T : Type 0} (before mid : S) (look : Result T StoreFault) (IsRight : T → Content → Type 0)
+      (looks : LooksBy g before mid look IsRight) where
+    only : {A : Type 0} → A ⊎ ⊥ → A
+    only (inl a) = a
+    only (inr none) = absurd none
+
+    -- it failed
+    pub look_fails : {U : Type 0} (fault : StoreFault) → look ≡ Err fault → (result : Result U StoreFault)
+        (Gives : U → Content → Type 0) (IsMade : Content → Type 0) → IsErrAnd result (λ other. other ≡ fault)
+        → Answering g before mid result Gives IsMade
+    look_fails fault was (Ok given) Gives IsMade same = absurd same
+    look_fails fault was (Err other) Gives IsMade same =
+        let failed : LooksBy g before mid (Err other) IsRight =
+        subst (λ r. LooksBy g before mid r IsRight) (was ∙ ap Err (sym same)) looks in record {
+          answers = λ honest. tt;
+          unchanged = failed.unchanged;
+          whole = λ honest. inl (only (failed.whole honest));
+          settled = λ honest own. tt;
+          crash = λ honest clean own c leaves. inl (only (failed.crash honest clean own c leaves));
+          blames = failed.blames;
+          counts = failed.counts;
+          honest = failed.honest;
+          clean = failed.clean;
+          stays_honest = failed.stays_honest;
+          stays_whole = tt;
+        }
+
+    module _ (value : T) (was : look ≡ Ok value) where
+      looked : LooksBy g before mid (Ok value) IsRight
+      looked = subst (λ r. LooksBy g before mid r IsRight) was looks
+
+      -- what it gave is right for what is there then, which is what was there before
+      pub look_right : g.is_honest mid → IsRight value (g.content mid)
+      look_right honest = (looked.answers honest).0
+
+      pub look_as : (other : T) → value ≡ other → g.is_honest mid → IsRight other (g.content mid)
+      look_as other is honest = subst (λ x. IsRight x (g.content mid)) is (look_right honest)
+
+      pub look_same : g.is_honest mid → g.content mid ≡ g.content before
+      look_same honest = (looked.answers honest).1
+
+      look_honest : g.is_honest before → g.is_clean mid → g.is_honest mid
+      look_honest honest clean = looked.stays_honest honest clean tt
+
+      -- another call came after it
+      pub after_look : {U : Type 0} (now : S) (result : Result U StoreFault)
+          (Gives : Content → U → Content → Type 0) (IsMade : Content → Content → Type 0)
+          → Answering g mid now result (Gives (g.content mid)) (IsMade (g.content mid))
+          → Answering g before now result (Gives (g.content before)) (IsMade (g.content before))
+      after_look now result Gives IsMade a = record {
+        answers = λ honest. if_ok result _ _ (λ given h.
+            subst (λ b. Gives b given (g.content now)) (look_same (a.honest honest)) h) (a.answers honest);
+        unchanged = λ honest. if_err result _ _ (λ fault h is. h is ∙ look_same (a.honest honest))
+            (a.unchanged honest);
+        whole = λ honest. on_err result _ _ (λ h. left (look_same (a.honest honest)) (g.content now) h)
+            (a.whole honest);
+        settled = λ honest own. a.settled honest (looked.settled (a.honest honest) own);
+        crash = λ honest clean own.
+            let between = look_honest honest (a.clean clean) in
+            on_err result _ _ (λ h c leaves. left (look_same between) c (h c leaves))
+            (a.crash between clean (looked.settled between own));
+        blames = if_err result _ _ (λ fault h is. blamed_since (g.failures before) (g.failures mid) (g.failures now)
+            looked.counts a.counts (h is)) a.blames;
+        counts = let x = looked.counts in let y = a.counts in omega arith;
+        honest = λ honest. looked.honest (a.honest honest);
+        clean = λ clean. looked.clean (a.clean clean);
+        stays_honest = λ honest clean fine. a.stays_honest (look_honest honest (a.clean clean)) clean fine;
+        stays_whole = on_ok result _ _ (λ h whole. h (looked.stays_whole whole)) a.stays_whole;
+      }
+        where
+          left : g.content mid ≡ g.content before → (c : Content) → (c ≡ g.content mid) ⊎ IsMade (g.content mid) c
+              → (c ≡ g.content before) ⊎ IsMade (g.content before) c
+          left is c (inl stays) = inl (stays ∙ is)
+          left is c (inr made) = inr (subst (λ b. IsMade b c) is made)
+
+      -- another call replied after it
+      pub answers_after : (now : S) (result : Result Printed StoreFault) (Does : Content → AnswerLines → Content → Type 0)
+          → AnswersBy g mid now result (Does (g.content mid))
+          → AnswersBy g before now result (Does (g.content before))
+      answers_after now result Does a =
+          after_look now result (λ b printed c. Answered (Does b) c printed.text.items printed.is_accepted)
+          (λ b c. (reply : AnswerLines) × Does b reply c) a
 
   module _ {T : Type 0} (before mid : S) (read : Result T StoreFault) (IsRight : T → Type 0)
       (reads : ReadsBy g before mid read IsRight) (value : T) (was : read ≡ Ok value) where
-    -- what was read of an honest store that is clean still leaves it honest
-    read_honest : g.is_honest before → g.is_clean mid → g.is_honest mid
-    read_honest honest clean = reads.stays_honest honest clean (no_fault read value _ was)
+    own : ReadsBy g before mid (Ok value) IsRight
+    own = subst (λ r. ReadsBy g before mid r IsRight) was reads
 
-    read_whole : g.is_whole before → g.is_whole mid
-    read_whole = subst (λ r. OnOk r (g.is_whole before → g.is_whole mid)) was reads.whole
-
-    -- the store was read before
-    pub after_read : (now : S) (result : Result Printed StoreFault) (Does : Content → AnswerLines → Content → Type 0)
-        → AnswersBy g mid now result (Does (g.content mid))
-        → AnswersBy g before now result (Does (g.content before))
-    after_read now result Does a = record {
-      answers = λ honest. if_ok result _ _
-          (λ printed h. record {
-            reply = h.reply;
-            gives = subst (λ c. Does c h.reply (g.content now)) (same honest) h.gives;
-            prints = h.prints;
-          })
-          (a.answers honest);
-      unchanged = λ honest. if_err result _ _ (λ fault h is. h is ∙ same honest) (a.unchanged honest);
-      whole = λ honest. on_err result _ _ (λ h. left (same honest) (g.content now) h) (a.whole honest);
-      settled = λ honest own. a.settled honest (read_own (same honest) own);
-      crash = λ honest clean own.
-          let between = read_honest honest (a.clean clean) in
-          let same' = reads.same between in
-          on_err result _ _ (λ h c leaves. left same' c (h c leaves)) (a.crash between clean (read_own same' own));
-      blames = if_err result _ _ (λ fault h is. blamed_since (g.failures before) (g.failures mid) (g.failures now)
-          reads.counts a.counts (h is)) a.blames;
-      counts = let x = reads.counts in let y = a.counts in omega arith;
-      honest = λ honest. reads.honest (a.honest honest);
-      clean = λ clean. reads.clean (a.clean clean);
-      stays_honest = λ honest clean fine. a.stays_honest (read_honest honest (a.clean clean)) clean fine;
-      stays_whole = on_ok result _ _ (λ h whole. h (read_whole whole)) a.stays_whole;
-    }
-      where
-        same : g.is_honest now → g.content mid ≡ g.content before
-        same honest = reads.same (a.honest honest)
-
-        read_own : g.content mid ≡ g.content before → LeavesOwn g before → LeavesOwn g mid
-        read_own is own c leaves = own c (reads.crash c leaves) ∙ sym is
-
-        left : g.content mid ≡ g.content before → (c : Content)
-            → (c ≡ g.content mid) ⊎ ((reply : AnswerLines) × Does (g.content mid) reply c)
-            → (c ≡ g.content before) ⊎ ((reply : AnswerLines) × Does (g.content before) reply c)
-        left is c (inl stays) = inl (stays ∙ is)
-        left is c (inr (reply, does)) = inr (reply, subst (λ b. Does b reply c) is does)
-
-    -- the store was read, and that is all
-    pub read_printed : (printed : Printed) (Does : AnswerLines → Content → Type 0)
-        → (g.is_honest mid → (reply : AnswerLines) × Does reply (g.content before)
-        × Prints reply printed.text.items printed.is_accepted)
-        → AnswersBy g before mid (Ok printed) Does
-    read_printed printed Does told = record {
-      answers = λ honest. let (reply, does, prints) = told honest in
-          record { reply = reply; gives = subst (Does reply) (sym (reads.same honest)) does; prints = prints };
+    -- a store that was read was looked at
+    pub read_looks : LooksBy g before mid (Ok value) (λ x c. IsRight x)
+    read_looks = record {
+      answers = λ honest. (own.right honest, own.same honest);
       unchanged = λ honest. tt;
       whole = λ honest. tt;
-      settled = λ honest own c leaves. own c (reads.crash c leaves) ∙ sym (reads.same honest);
-      crash = λ honest clean own. tt;
+      settled = λ honest owns c leaves. owns c (own.crash c leaves) ∙ sym (own.same honest);
+      crash = λ honest clean owns. tt;
       blames = tt;
-      counts = reads.counts;
-      honest = reads.honest;
-      clean = reads.clean;
-      stays_honest = λ honest clean fine. read_honest honest clean;
-      stays_whole = read_whole;
+      counts = own.counts;
+      honest = own.honest;
+      clean = own.clean;
+      stays_honest = λ honest clean fine. own.stays_honest honest clean tt;
+      stays_whole = own.whole;
     }
 
-    -- it was read, and memory was refused
-    pub read_refused : (result : Result Printed StoreFault) (Does : AnswerLines → Content → Type 0)
-        → IsErrAnd result (λ fault. fault ≡ Memory)
-        → AnswersBy g before mid result Does
-    read_refused (Ok printed) Does memory = absurd memory
-    read_refused (Err fault) Does memory = record {
-      answers = λ honest. tt;
-      unchanged = λ honest is. reads.same honest;
-      whole = λ honest. inl (reads.same honest);
-      settled = λ honest own. tt;
-      crash = λ honest clean own c leaves. inl (own c (reads.crash c leaves));
-      blames = λ is. absurd (let no : Memory ≡ Device = sym memory ∙ is in let h : ⊥ = cc no in h);
-      counts = reads.counts;
-      honest = reads.honest;
-      clean = reads.clean;
-      stays_honest = λ honest clean fine. read_honest honest clean;
-      stays_whole = tt;
-    }
-
-    -- it was read, and the answer is printed, or memory was refused
-    pub read_answered : (result : Result Printed StoreFault) (Does : AnswerLines → Content → Type 0)
-        → (g.is_honest mid → (reply : AnswerLines) × Does reply (g.content before)
-        × IfOk result (λ printed. Prints reply printed.text.items printed.is_accepted))
+    -- it was read, and that is all: this was made of it, or memory was refused
+    pub read_gives : {U : Type 0} (result : Result U StoreFault) (Gives : U → Content → Type 0)
+        (IsMade : Content → Type 0)
+        → (g.is_honest mid → IfOk result (λ given. Gives given (g.content before)))
         → IfErr result (λ fault. fault ≡ Memory)
-        → AnswersBy g before mid result Does
-    read_answered (Ok printed) Does told memory = read_printed printed Does told
-    read_answered (Err fault) Does told memory = read_refused (Err fault) Does memory
+        → Answering g before mid result Gives IsMade
+    read_gives result Gives IsMade gives memory =
+        after_look before mid (Ok value) (λ x c. IsRight x) read_looks value refl mid result (λ b. Gives) (λ b. IsMade)
+        (unasked mid result Gives IsMade (λ honest. if_ok result _ _
+        (λ given h. subst (Gives given) (sym (own.same honest)) h) (gives honest)) memory)
 
-    -- it was read, and what is printed answers it, or memory was refused
-    pub read_tried : (result : Result Printed StoreFault) (Does : AnswerLines → Content → Type 0)
+    -- and memory was refused
+    pub read_refused : {U : Type 0} (result : Result U StoreFault) (Gives : U → Content → Type 0)
+        (IsMade : Content → Type 0) → IsErrAnd result (λ fault. fault ≡ Memory)
+        → Answering g before mid result Gives IsMade
+    read_refused (Ok given) Gives IsMade memory = absurd memory
+    read_refused (Err fault) Gives IsMade memory = read_gives (Err fault) Gives IsMade (λ honest. tt) memory
+
+    -- and a reply is printed, or memory was refused
+    pub read_answered : (result : Result Printed StoreFault) (Does : AnswerLines → Content → Type 0)
         → (g.is_honest mid → IfOk result (λ printed. (reply : AnswerLines) × Does reply (g.content before)
         × Prints reply printed.text.items printed.is_accepted))
         → IfErr result (λ fault. fault ≡ Memory)
         → AnswersBy g before mid result Does
-    read_tried (Ok printed) Does told memory = read_printed printed Does told
-    read_tried (Err fault) Does told memory = read_refused (Err fault) Does memory
-
-  module _ {T U : Type 0} (before now : S) (read : Result T StoreFault) (IsRight : T → Type 0)
-      (reads : ReadsBy g before now read IsRight) (value : T) (was : read ≡ Ok value) (Tells : U → Type 0) where
-    own : ReadsBy g before now (Ok value) IsRight
-    own = subst (λ r. ReadsBy g before now r IsRight) was reads
-
-    -- what was read tells this
-    pub read_tells : (told : U) → (IsRight value → Tells told) → ReadsBy g before now (Ok told) Tells
-    read_tells told tells = record {
-      right = λ honest. tells (own.right honest);
-      same = own.same;
-      crash = own.crash;
-      blames = tt;
-      broken = λ failed. absurd (let no : Ok value ≡ Err Device = own.broken failed in let h : ⊥ = cc no in h);
-      counts = own.counts;
-      still = own.still;
-      steady = tt;
-      caused = λ none clean. tt;
-      honest = own.honest;
-      clean = own.clean;
-      stays_honest = λ honest clean fine. own.stays_honest honest clean tt;
-      whole = own.whole;
-    }
-
-    -- it was read, and memory was refused
-    pub read_stops : (result : Result U StoreFault) → IsErrAnd result (λ fault. fault ≡ Memory)
-        → ReadsBy g before now result Tells
-    read_stops (Ok told) memory = absurd memory
-    read_stops (Err fault) memory = record {
-      right = λ honest. tt;
-      same = own.same;
-      crash = own.crash;
-      blames = λ is. absurd (let no : Memory ≡ Device = sym memory ∙ is in let h : ⊥ = cc no in h);
-      broken = λ failed. absurd (let no : Ok value ≡ Err Device = own.broken failed in let h : ⊥ = cc no in h);
-      counts = own.counts;
-      still = tt;
-      steady = λ _. own.still;
-      caused = λ none clean is. absurd (let no : Memory ≡ Device = sym memory ∙ is in let h : ⊥ = cc no in h);
-      honest = own.honest;
-      clean = own.clean;
-      stays_honest = λ honest clean fine. own.stays_honest honest clean tt;
-      whole = tt;
-    }
+    read_answered result Does told memory = read_gives result _ _ (λ honest. if_ok result _ _ (λ printed h.
+        let (reply, does, prints) = h in record { reply = reply; gives = does; prints = prints })
+        (told honest)) memory
 
 -- ---- a change that is made
 

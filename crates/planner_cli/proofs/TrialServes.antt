@@ -37,12 +37,12 @@ use Rattle.plan_store.specs.declared.changes.Change.{Change}
 use Rattle.plan_store.specs.declared.changes.Verdict.TheVariants.{Done, Refused}
 use Rattle.plan_store.proofs.PlaceLemmas.{stands_cp}
 use Rattle.plan_store.proofs.ViewLemmas.{once_from_rows}
-use Rattle.planner_cli.specs.Outcomes.{answer_text, answering}
-use Rattle.planner_cli.specs.Replies.{Prints, AnswerLines, ended}
+use Rattle.planner_cli.specs.Outcomes.{answering}
+use Rattle.planner_cli.specs.Replies.{ended}
 use Rattle.planner_cli.specs.Changes.{daily_change, plan_change}
 use Rattle.planner_cli.specs.Kinds.{count_of}
 use Rattle.planner_cli.specs.Rows.{ShowsDailyTrial, ShowsPlanTrial, ShowsTrial, daily_signed, plan_signed}
-use Rattle.planner_cli.specs.Steps.{Serves}
+use Rattle.planner_cli.specs.Steps.{Serves, ShowsAccepted}
 use Rattle.planner_cli.specs.Trials.{carried_part, completed, daily_changes, deleted, deleted_part, history_part}
 use Rattle.planner_cli.specs.Trials.{plan_changes}
 use Rattle.planner_cli.specs.Trials.{uncompleted, would_be_carried, would_be_deleted, would_be_history, would_be_made}
@@ -56,25 +56,6 @@ use Rattle.planner_cli.proofs.ShownLists.{shown_by}
 use Rattle.planner_cli.proofs.TrialLemmas.{AreCurrent, AreRowsOf, ComesIn, GoesOut, IsPlanFate, daily_apart}
 use Rattle.planner_cli.proofs.TrialLemmas.{daily_listed}
 use Rattle.planner_cli.proofs.TrialLemmas.{modify_fate, plan_apart, plan_listed, stays_fate}
-use Rattle.planner_cli.specs.declared.answers.Printed.{Printed}
-
--- an accepted trial: what it prints before its last line, and that it is served
-pub record TrialShown (change : MachineChange) (c : Content) (reply : Outcome) (text : List ℕ) : Type 0 where
-  pub lines : List (List ℕ)
-  pub text_is : text ≡ flat_map ended lines
-  pub serves : Serves (Trial change) c (record { rows = lines; line = answer_text (Ok reply) }) c
-
--- an answer that is printed behind the lines of its report
-pub trial_printed : (change : MachineChange) (c : Content) (reply : Outcome) (text : List ℕ) (printed : Printed)
-    → TrialShown change c reply text
-    → ((lines : List (List ℕ)) → text ≡ flat_map ended lines
-    → Prints (record { rows = lines; line = answer_text (Ok reply) }) printed.text.items printed.is_accepted)
-    → (told : AnswerLines) × Serves (Trial change) c told c × Prints told printed.text.items printed.is_accepted
-trial_printed change c reply text printed shown tells = (
-  record { rows = shown.lines; line = answer_text (Ok reply) },
-  shown.serves,
-  tells shown.lines shown.text_is,
-)
 
 -- a refused one
 pub trial_refused : (change : MachineChange) (c : Content) (r : Refusal) → VerdictIs (decision_of change) c (Refused r)
@@ -121,7 +102,7 @@ plan_signs_are made gone = sym
 pub plan_shown : (function : PlanFunction) → FollowsFate (plan_change function) → StaysSound (plan_change function)
     → (made : Change) (reply : Outcome)
     (c : Content) → IsSound c → VerdictIs (decision_of (plan_change function)) c (Done made reply) → (text : List ℕ)
-    → IsReport (plan_signs made.ltp.put.items made.ltp.gone.items) text → TrialShown (plan_change function) c reply text
+    → IsReport (plan_signs made.ltp.put.items made.ltp.gone.items) text → ShowsAccepted (plan_change function) c reply text
 plan_shown function law stays made reply c sound verdict text report =
     let left = after made c in
     let (drafts, makes, follows) = law c reply left sound verdict.1 in
@@ -220,7 +201,7 @@ pub daily_shown : (function : DailyFunction) → FollowsFate (daily_change funct
     → (rows : List CurrentRow)
     → ListsSet of_current c.sets.cp IsAny rows → (text : List ℕ)
     → IsReport (map daily_signed (daily_changes made.ltp.gone.items rows)) text
-    → TrialShown (daily_change function) c reply text
+    → ShowsAccepted (daily_change function) c reply text
 daily_shown function law stays made reply c sound verdict rows lists text report =
     let left = after made c in
     let (drafts, makes, follows) = law c reply left sound verdict.1 in

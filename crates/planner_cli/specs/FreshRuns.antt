@@ -16,9 +16,7 @@ use Rattle.planner_cli.specs.declared.tally.Tally.{Tally}
 
 -- the changes that make the whole long-term plan anew
 abbrev pub MakesPlan : Change → Type 0
-MakesPlan (Create from to) = Unit {0}
-MakesPlan ModifyAll = Unit {0}
-MakesPlan change = ⊥
+MakesPlan change = ((from : ℕ) × (to : ℕ) × (change ≡ Create from to)) ⊎ (change ≡ ModifyAll)
 
 -- where the content is c, the item is `ltp-create` or `ltp-modify-all`, its job is not kept yet, and its reply accepts it
 pub record PlansAnew (item : Item) (c : Content) (reply : AnswerLines) : Type 0 where

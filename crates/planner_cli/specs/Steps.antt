@@ -1,6 +1,7 @@
 -- The step of the planner: the reply to an item, and the content after it.
-use Rattle.std.specs.Prelude.{◌≡◌, ℕ, List, [], Option, None, Some, Ok}
+use Rattle.std.specs.Prelude.{◌≡◌, ℕ, List, [], Option, None, Some, Ok, flat_map}
 use Rattle.occurrences.specs.declared.refusal.Refusal.TheVariants.{NotAStatement}
+use Rattle.occurrences.specs.declared.reply.Reply.{Reply}
 use Rattle.plan_listings.specs.Line.{AreLinesOf}
 use Rattle.plan_store.specs.Listings.{ShowLinks, ShowPairs, ShowRows, Shown}
 use Rattle.run_cycles.specs.declared.named.Named.{Named}
@@ -11,7 +12,7 @@ use Rattle.planner_machine.specs.Stream.{IsStatement}
 use Rattle.planner_cli_stream.specs.Items.{Item}
 use Rattle.planner_cli.specs.Requests.{Asks}
 use Rattle.planner_cli.specs.Outcomes.{answer_text, refusing}
-use Rattle.planner_cli.specs.Replies.{Prints, AnswerLines}
+use Rattle.planner_cli.specs.Replies.{Prints, AnswerLines, ended}
 use Rattle.planner_cli.specs.declared.answers.Printed.{Printed}
 use Rattle.planner_cli.specs.Rows.{AreDaysLines, IsShownText, ShowsTrial}
 
@@ -36,6 +37,12 @@ pub record Serves (statement : Statement) (c : Content) (reply : AnswerLines) (c
   pub line : reply.line ≡ answer_text answer
   -- its values are such as a line and a block give
   pub well_formed : IsStatement statement
+
+-- the rows of an accepted trial of the change, each with its line feed
+pub record ShowsAccepted (change : Change) (c : Content) (reply : Reply) (text : List ℕ) : Type 0 where
+  pub lines : List (List ℕ)
+  pub text_is : text ≡ flat_map ended lines
+  pub serves : Serves (Trial change) c (record { rows = lines; line = answer_text (Ok reply) }) c
 
 -- what is printed is the reply to a trial of the change, and the content stays as it is
 abbrev pub PrintsTrial : Change → Content → Printed → Type 0

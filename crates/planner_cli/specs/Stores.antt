@@ -52,3 +52,8 @@ abbrev pub AnswersBy : {S : Type 0} → Ghosts S → (before now : S) → Result
 AnswersBy g before now result Does =
     Answering g before now result (λ printed c. Answered Does c printed.text.items printed.is_accepted)
     (λ c. (reply : AnswerLines) × Does reply c)
+
+-- a call that looks and changes nothing: what it returns is right for the content, which stays
+abbrev pub LooksBy : {S T : Type 0} → Ghosts S → (before now : S) → Result T StoreFault → (T → Content → Type 0) → Type 0
+LooksBy g before now result IsRight =
+    Answering g before now result (λ given c. IsRight given c × (c ≡ g.content before)) (λ c. ⊥)

@@ -1,39 +1,107 @@
 //! `define` and `undefine`: the definitions change, and the plans stay.
 ghost use Rattle.std.specs.Prelude.{◌↔◌, IsTrue};
 ghost use Rattle.app_definitions.specs.Definitions.{IsDefined};
-ghost use Rattle.planner_machine.specs.Content.{Content};
-ghost use Rattle.planner_machine.specs.Define as decided;
-ghost use Rattle.plan_store.specs.Verdicts.{VerdictIs};
-ghost use Rattle.plan_store.specs.Views.{Shows};
-ghost use Rattle.plan_store.specs.declared.stores.Need.TheVariants as need;
+ghost use Rattle.planner_machine.specs.Statement as statement;
+ghost use Rattle.plan_store.specs.declared.stores.Need.TheVariants.{Definitions as DefinitionsNeed};
 
+use crate::decisions::Decide;
 use app_definitions::{Block, Definitions, Kind};
 use occurrences::{Refusal, Reply};
-use plan_store::{Change, DefinitionChange, Verdict, View};
-use std::alloc::Global;
-use work_calendars::Name;
+use plan_store::{Change, DefinitionChange, Need, Verdict, View};
+use std::alloc::{AllocError, Global};
+use work_calendars::{Moment, Name};
 
-/// `define` with a block that was read: it is merged.
-pub(crate) fn define(alloc: Global, block: Block) -> Verdict
-    ensures { (c : Content) → VerdictIs (decided.define block) c result }
-{
-    let names = block.len();
-    let mut change = Change::none(alloc);
-    change.definitions = DefinitionChange::Merged(block);
-    Verdict::Done(change, Reply::Defined { names })
+/// `define` with a block that was read: to merge it.
+#[derive(Drop)]
+pub struct Merge {
+    /// What the block defines.
+    pub block: Block,
 }
 
-/// `undefine`: the definition of the name is removed. Refused if there is none (13).
-pub(crate) fn undefine(alloc: Global, view: &View<'_>, kind: Kind, name: &Name) -> Verdict
-    ensures { (c : Content) → Shows need.Definitions view.now c
-        → VerdictIs (decided.undefine kind name.now) c result }
-{
-    if !is_defined(view.definitions(), kind, name) {
-        return Verdict::Refused(Refusal::NotDefined);
+impl Decide for Merge {
+    ghost change = { λ merge. statement.Define merge.block };
+
+    ghost is_end = { λ merge c end. Unit {0} };
+
+    ghost sees = { λ merge end. DefinitionsNeed };
+
+    fn looks_ahead(&self) -> bool {
+        false
     }
-    let mut change = Change::none(alloc);
-    change.definitions = DefinitionChange::Removed { kind, name: *name };
-    Verdict::Done(change, Reply::Undefined)
+
+    fn early(&self, _view: &View<'_>) -> Option<Refusal> {
+        None
+    }
+
+    fn end(&self, _alloc: Global, _view: &View<'_>) -> Result<Option<Moment>, AllocError> {
+        Ok(None)
+    }
+
+    fn need(&self, _end: Option<Moment>) -> Need {
+        Need::Definitions
+    }
+
+    fn decide(
+        self,
+        alloc: Global,
+        _view: &View<'_>,
+        _end: Option<Moment>,
+    ) -> Result<Verdict, AllocError> {
+        let names = self.block.len();
+        let mut change = Change::none(alloc);
+        change.definitions = DefinitionChange::Merged(self.block);
+        Ok(Verdict::Done(change, Reply::Defined { names }))
+    }
+}
+
+/// `undefine`: to remove the definition of a name. Refused if there is none (13).
+#[derive(Clone, Copy, Debug, PartialEq, Eq)]
+pub struct Undefine {
+    /// The kind of the definition.
+    pub kind: Kind,
+    /// The name.
+    pub name: Name,
+}
+
+impl Decide for Undefine {
+    ghost change = { λ undefine. statement.Undefine undefine.kind undefine.name };
+
+    ghost is_end = { λ undefine c end. Unit {0} };
+
+    ghost sees = { λ undefine end. DefinitionsNeed };
+
+    fn looks_ahead(&self) -> bool {
+        false
+    }
+
+    fn early(&self, _view: &View<'_>) -> Option<Refusal> {
+        None
+    }
+
+    fn end(&self, _alloc: Global, _view: &View<'_>) -> Result<Option<Moment>, AllocError> {
+        Ok(None)
+    }
+
+    fn need(&self, _end: Option<Moment>) -> Need {
+        Need::Definitions
+    }
+
+    fn decide(
+        self,
+        alloc: Global,
+        view: &View<'_>,
+        _end: Option<Moment>,
+    ) -> Result<Verdict, AllocError> {
+        if !is_defined(view.definitions(), self.kind, &self.name) {
+            return Ok(Verdict::Refused(Refusal::NotDefined));
+        }
+        let mut change = Change::none(alloc);
+        change.definitions = DefinitionChange::Removed {
+            kind: self.kind,
+            name: self.name,
+        };
+        Ok(Verdict::Done(change, Reply::Undefined))
+    }
 }
 
 // Whether a name of that kind is defined.

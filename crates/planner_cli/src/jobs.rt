@@ -8,42 +8,69 @@ ghost use Rattle.planner_machine.specs.Sound.{IsSound};
 ghost use Rattle.planner_machine.specs.Statement.{Answer as AnswerValue, decision_of};
 ghost use Rattle.plan_store.specs.Changes.{Fits, after};
 ghost use Rattle.planner_cli_stream.specs.JobNumber.{IsJobNumber};
-ghost use Rattle.planner_cli.specs.Changes.{plan_change};
+ghost use Rattle.planner_cli.specs.Changes.{change_of};
 ghost use Rattle.planner_cli.specs.Outcomes.{answering};
 ghost use Rattle.planner_cli.specs.Stores.{AnswersBy, ReadsBy};
-ghost use Rattle.planner_cli.specs.Verdicts.{FitsVerdict, IsEndOf, IsKeptAnswer, answer_in, daily_of, job_change};
-ghost use Rattle.planner_cli.specs.Verdicts.{job_left, left_by};
+ghost use Rattle.planner_cli.specs.Verdicts.{FitsVerdict, IsKeptAnswer, answer_in, job_left, left_by};
 
 use crate::answers::{Printed, print_alone};
-use crate::decisions::{JobChange, daily_of, decide, need_of, plan_of};
-use crate::early::find_refusal;
-use crate::ends::find_end;
+use crate::decisions::{Decide, verdict_over};
+use crate::define::Undefine;
+use crate::kinds::definitions_kind;
+use crate::occurrence_changes::OnKey;
 use occurrences::{Refusal, Reply};
 use plan_store::{Change, PlanStore, StoreFault, Verdict};
-use planner_cli_stream::{ChangeStatement, PlanFunction};
+use planner_cli_stream::ChangeStatement;
 use planner_machine::{Answer, Job, JobText, streams};
 use std::alloc::Global;
-use work_calendars::Moment;
 
-/// Replies to a change that has a job number. If a job is kept under the number, its reply is given again, or the
-/// change is refused if its text is another (12), and nothing changes.
-pub(crate) fn answer_job<S: PlanStore>(
+/// Replies to a change without data, by its family.
+pub(crate) fn answer_family<S: PlanStore>(
     alloc: Global,
     store: &mut S,
     number: u64,
     text: JobText,
-    change: JobChange,
+    change: &ChangeStatement,
 ) -> Result<Printed, StoreFault>
     requires numbered { IsJobNumber number }
-    requires well_formed { IsWellFormed (job_change change) }
+    requires well_formed { IsWellFormed (change_of change.now) }
     ensures { AnswersBy S.PlanStore store.old store.new result (λ reply c.
         (answer : AnswerValue)
-        × AnswersJob number text (decision_of (job_change change)) (S.content store.old) answer c
+        × AnswersJob number text (decision_of (change_of change.now)) (S.content store.old) answer c
+        × (reply ≡ answering answer)) }
+{
+    match *change {
+        ChangeStatement::Undefine { kind, name } => {
+            let kind = definitions_kind(kind);
+            answer_job(alloc, store, number, text, Undefine { kind, name })
+        }
+        ChangeStatement::Plan(function) => answer_job(alloc, store, number, text, function),
+        ChangeStatement::Daily(function) => answer_job(alloc, store, number, text, function),
+        ChangeStatement::OnKey { key, act } => {
+            answer_job(alloc, store, number, text, OnKey { key, act })
+        }
+    }
+}
+
+/// Replies to a change that has a job number. If a job is kept under the number, its reply is given again, or the
+/// change is refused if its text is another (12), and nothing changes.
+pub(crate) fn answer_job<S: PlanStore, D: Decide + Drop>(
+    alloc: Global,
+    store: &mut S,
+    number: u64,
+    text: JobText,
+    statement: D,
+) -> Result<Printed, StoreFault>
+    requires numbered { IsJobNumber number }
+    requires well_formed { IsWellFormed (D.change statement) }
+    ensures { AnswersBy S.PlanStore store.old store.new result (λ reply c.
+        (answer : AnswerValue)
+        × AnswersJob number text (decision_of (D.change statement)) (S.content store.old) answer c
         × (reply ≡ answering answer)) }
 {
     match kept_answer(alloc, store, number, &text)? {
         Some(answer) => print_alone(alloc, &answer),
-        None => perform(alloc, store, number, text, change),
+        None => perform(alloc, store, number, text, statement),
     }
 }
 
@@ -75,103 +102,23 @@ fn answer_of(job: &Job, text: &JobText) -> Answer
 }
 
 // Decides a change under whose number no job is kept, and makes it.
-fn perform<S: PlanStore>(
+fn perform<S: PlanStore, D: Decide + Drop>(
     alloc: Global,
     store: &mut S,
     number: u64,
     text: JobText,
-    change: JobChange,
+    statement: D,
 ) -> Result<Printed, StoreFault>
     requires numbered { IsJobNumber number }
-    requires well_formed { IsWellFormed (job_change change) }
+    requires well_formed { IsWellFormed (D.change statement) }
     requires new { S.is_honest store.old → (S.content store.old).jobs number ≡ None }
     ensures { AnswersBy S.PlanStore store.old store.new result (λ reply c.
         (answer : AnswerValue)
-        × AnswersJob number text (decision_of (job_change change)) (S.content store.old) answer c
-        × (reply ≡ answering answer)) }
-{
-    match plan_of(&change) {
-        Some(function) => perform_plan(alloc, store, number, text, function),
-        None => perform_other(alloc, store, number, text, change),
-    }
-}
-
-// The same, where it is no change of the long-term plan by what the definitions name.
-fn perform_other<S: PlanStore>(
-    alloc: Global,
-    store: &mut S,
-    number: u64,
-    text: JobText,
-    change: JobChange,
-) -> Result<Printed, StoreFault>
-    requires numbered { IsJobNumber number }
-    requires well_formed { IsWellFormed (job_change change) }
-    requires new { S.is_honest store.old → (S.content store.old).jobs number ≡ None }
-    ensures { AnswersBy S.PlanStore store.old store.new result (λ reply c.
-        (answer : AnswerValue)
-        × AnswersJob number text (decision_of (job_change change)) (S.content store.old) answer c
-        × (reply ≡ answering answer)) }
-{
-    match daily_of(&change) {
-        Some(function) => {
-            let end = find_end(alloc, store, &function)?;
-            perform_within(alloc, store, end, number, text, change)
-        }
-        None => perform_within(alloc, store, None, number, text, change),
-    }
-}
-
-// The same of a change of the long-term plan by what the definitions name. What the bounds and its days refuse is
-// refused before a row is read.
-fn perform_plan<S: PlanStore>(
-    alloc: Global,
-    store: &mut S,
-    number: u64,
-    text: JobText,
-    function: PlanFunction,
-) -> Result<Printed, StoreFault>
-    requires numbered { IsJobNumber number }
-    requires well_formed { IsWellFormed (plan_change function) }
-    requires new { S.is_honest store.old → (S.content store.old).jobs number ≡ None }
-    ensures { AnswersBy S.PlanStore store.old store.new result (λ reply c.
-        (answer : AnswerValue)
-        × AnswersJob number text (decision_of (plan_change function)) (S.content store.old)
-        answer c × (reply ≡ answering answer)) }
-{
-    streams();
-    match find_refusal(alloc, store, &function)? {
-        Some(refusal) => settle(alloc, store, number, text, Verdict::Refused(refusal)),
-        None => {
-            let change = JobChange::Statement(ChangeStatement::Plan(function));
-            perform_within(alloc, store, None, number, text, change)
-        }
-    }
-}
-
-// The same where the end of a daily plan is known.
-fn perform_within<S: PlanStore>(
-    alloc: Global,
-    store: &mut S,
-    end: Option<Moment>,
-    number: u64,
-    text: JobText,
-    change: JobChange,
-) -> Result<Printed, StoreFault>
-    requires numbered { IsJobNumber number }
-    requires well_formed { IsWellFormed (job_change change) }
-    requires new { S.is_honest store.old → (S.content store.old).jobs number ≡ None }
-    requires ends { S.is_honest store.old → IsEndOf (S.content store.old) (daily_of change) end }
-    ensures { AnswersBy S.PlanStore store.old store.new result (λ reply c.
-        (answer : AnswerValue)
-        × AnswersJob number text (decision_of (job_change change)) (S.content store.old) answer c
+        × AnswersJob number text (decision_of (D.change statement)) (S.content store.old) answer c
         × (reply ≡ answering answer)) }
 {
     streams();
-    let need = need_of(end, &change);
-    let view = store.read_window(alloc, need)?;
-    let Ok(verdict) = decide(alloc, &view, &end, change) else {
-        return Err(StoreFault::Memory);
-    };
+    let verdict = verdict_over(alloc, store, statement)?;
     settle(alloc, store, number, text, verdict)
 }
 

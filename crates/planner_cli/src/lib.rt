@@ -11,17 +11,18 @@
 #![tactic(auto)]
 
 mod answers;
+mod daily_plans;
 mod days;
 mod decisions;
 mod define;
-mod early;
-mod ends;
 mod faults;
 mod jobs;
 mod kinds;
 mod laws;
 mod lists;
+mod occurrence_changes;
 mod over_lists;
+mod plans;
 mod rows;
 mod steps;
 mod stream;

@@ -12,8 +12,8 @@ ghost use Rattle.planner_cli.specs.Stores.{AnswersBy};
 ghost use Rattle.planner_cli.specs.Texts as texts;
 
 use crate::answers::{Printed, no_statement, print_alone};
-use crate::decisions::JobChange;
-use crate::jobs::answer_job;
+use crate::define::Merge;
+use crate::jobs::{answer_family, answer_job};
 use crate::kinds::definitions_kind;
 use crate::texts::data_text;
 use crate::well_formed::change_is_well_formed;
@@ -39,7 +39,7 @@ pub(crate) fn answer_change<S: PlanStore>(
 {
     change_is_well_formed(change);
     let text = JobText::from_vec(joined_words(alloc, line)?);
-    answer_job(alloc, store, number, text, JobChange::Statement(*change))
+    answer_family(alloc, store, number, text, change)
 }
 
 /// Replies to a line with data.
@@ -128,7 +128,7 @@ fn answer_data<S: PlanStore>(
     match read_block(alloc, kind, bytes) {
         Ok(block) => {
             let text = JobText::from_vec(text);
-            answer_job(alloc, store, number, text, JobChange::Define(block))
+            answer_job(alloc, store, number, text, Merge { block })
         }
         Err(BlockFault::Faulty { number }) => {
             print_alone(alloc, &Err(Refusal::FaultyData { record: number }))

@@ -21,11 +21,13 @@ use crate::kinds::{definitions_kind, what_of};
 use crate::lists::answer_list;
 use crate::steps::{answer_change, answer_define, answer_with_data};
 use crate::tally::Tally;
-use crate::trials::{answer_daily_trial, answer_plan_trial};
+use crate::trials::answer_trial;
 use crate::writing::{write_answer, write_bytes};
 use app_occurrences::CalendarIndexes;
 use plan_store::PlanStore;
-use planner_cli_stream::{DataBlock, Item, Page, Statement, read_statement};
+use planner_cli_stream::{
+    DailyFunction, DataBlock, Item, Page, PlanFunction, Statement, read_statement,
+};
 use planner_machine::streams;
 use std::alloc::Global;
 use std::io::{BufRead, Write};
@@ -213,11 +215,11 @@ fn answer_statement<S: PlanStore, W: Write>(
             write_answer(writer, answered)
         }
         Statement::PlanTrial(function) => {
-            let answered = answer_plan_trial(alloc, store, function);
+            let answered = answer_trial::<S, PlanFunction>(alloc, store, function);
             write_answer(writer, answered)
         }
         Statement::DailyTrial(function) => {
-            let answered = answer_daily_trial(alloc, store, function);
+            let answered = answer_trial::<S, DailyFunction>(alloc, store, function);
             write_answer(writer, answered)
         }
         Statement::List { what } => {

@@ -1,181 +1,109 @@
 //! Trials: the decision of a statement, and the rows that it would change, which are shown and not changed.
-ghost use Rattle.std.specs.Prelude.{◌≡◌, IfErr, IfOk, filter, map};
+ghost use Rattle.std.specs.Prelude.{◌≡◌, ℕ, IfOk, Option, filter, map};
 ghost use Rattle.planner_machine.specs.Content.{Content};
 ghost use Rattle.planner_machine.specs.DailyPlan.{is_completed, is_deleted, is_uncompleted};
 ghost use Rattle.planner_machine.specs.Sound.{IsSound};
-ghost use Rattle.planner_machine.specs.Laws.{IsWellFormed};
 ghost use Rattle.planner_machine.specs.Statement.{Trial, decision_of};
 ghost use Rattle.plan_listings.specs.Report.{IsReport};
-ghost use Rattle.plan_store_lists.specs.Rows.{of_current};
 ghost use Rattle.plan_store.specs.Verdicts.{VerdictIs};
-ghost use Rattle.plan_store.specs.Views.{IsAny, ListsSet, Shows};
-ghost use Rattle.planner_cli_stream.specs.declared.statements.DailyFunction.{DailyFunction as DailyValue};
-ghost use Rattle.planner_cli_stream.specs.declared.statements.PlanFunction.{PlanFunction as PlanValue};
-ghost use Rattle.daily_planning.specs.DailyPlans.{daily_need};
-ghost use Rattle.planner_cli.specs.Changes.{daily_change, plan_change};
-ghost use Rattle.planner_cli.specs.Steps.{Serves, PrintsTrial};
+ghost use Rattle.plan_store.specs.Views.{Shows};
+ghost use Rattle.plan_store.specs.declared.changes.Verdict.TheVariants.{Done};
+ghost use Rattle.planner_cli.specs.Steps.{PrintsTrial, Serves, ShowsAccepted};
 ghost use Rattle.planner_cli.specs.Stores.{AnswersBy};
 ghost use Rattle.occurrences.specs.declared.place.CurrentRow.{CurrentRow as CurrentRowValue};
+ghost use Rattle.occurrences.specs.declared.reply.Reply.{Reply as ReplyValue};
 ghost use Rattle.planner_cli.specs.Rows.{daily_signed};
 ghost use Rattle.planner_cli.specs.Trials.{daily_changes};
-ghost use Rattle.planner_cli.specs.Verdicts.{IsDone, IsEnd, need_of_plan};
 
 use crate::answers::{Printed, accepted, refused};
-use crate::decisions::{decide_daily, decide_plan, need_of_plan};
-use crate::early::find_refusal;
-use crate::ends::find_end;
+use crate::decisions::{Decide, look_ahead};
 use crate::well_formed::plan_is_well_formed;
-use daily_planning::daily_need;
-use occurrences::{CurrentRow, Refusal, Row, Status};
+use occurrences::{CurrentRow, Row, Status};
 use plan_listings::{dp_report, ltp_report};
-use plan_store::{PlanStore, StoreFault, Verdict, View};
+use plan_store::{Change, PlanStore, StoreFault, Verdict, View};
 use planner_cli_stream::{DailyFunction, PlanFunction};
 use planner_machine::{fate_is_followed, sound_content_stays_sound};
 use std::alloc::{AllocError, Global};
 use work_calendars::Moment;
 
-/// Shows what a change of the long-term plan would do.
-pub(crate) fn answer_plan_trial<S: PlanStore>(
+/// A family of statements that can be tried.
+pub(crate) trait Try: Decide + Copy {
+    /// The rows that a trial shows if it is accepted: those that the change would change. The laws of statements say
+    /// that they are all.
+    fn rows(&self, alloc: Global, view: &View<'_>, made: &Change) -> Result<Vec<u8>, AllocError>
+        ensures { IfOk result (λ text. (c : Content) (end : Option ℕ) (reply : ReplyValue)
+            → Self.is_end self.now c end → Shows (Self.sees self.now end) view.now c → IsSound c
+            → VerdictIs (decision_of (Self.change self.now)) c (Done made.now reply)
+            → ShowsAccepted (Self.change self.now) c reply text.items) };
+}
+
+/// Shows what a statement would do.
+pub(crate) fn answer_trial<S: PlanStore, T: Try>(
     alloc: Global,
     store: &mut S,
-    function: &PlanFunction,
+    statement: &T,
 ) -> Result<Printed, StoreFault>
     ensures { AnswersBy S.PlanStore store.old store.new result
-        (Serves (Trial (plan_change function.now)) (S.content store.old)) }
+        (Serves (Trial (T.change statement.now)) (S.content store.old)) }
 {
-    match find_refusal(alloc, store, function)? {
-        Some(refusal) => print_refusal(alloc, function, refusal),
-        None => answer_seen(alloc, store, function),
+    match look_ahead(alloc, store, statement)? {
+        Ok(end) => answer_seen(alloc, store, end, statement),
+        Err(refusal) => Ok(refused(alloc, Vec::new(alloc), &refusal)?),
     }
 }
 
-// The same where what it plans is seen.
-fn answer_seen<S: PlanStore>(
-    alloc: Global,
-    store: &mut S,
-    function: &PlanFunction,
-) -> Result<Printed, StoreFault>
-    ensures { AnswersBy S.PlanStore store.old store.new result
-        (Serves (Trial (plan_change function.now)) (S.content store.old)) }
-{
-    let view = store.read_window(alloc, need_of_plan(function))?;
-    Ok(plan_trial(alloc, &view, function)?)
-}
-
-// What a trial of the long-term plan prints that is refused.
-fn print_refusal(
-    alloc: Global,
-    function: &PlanFunction,
-    refusal: Refusal,
-) -> Result<Printed, StoreFault>
-    ensures prints { IfOk result (λ printed. (c : Content) → IsSound c
-        → VerdictIs (decision_of (plan_change function.now)) c (Verdict.Refused refusal)
-        → PrintsTrial (plan_change function.now) c printed) }
-    ensures err { IfErr result (λ fault. fault ≡ StoreFault.Memory) }
-{
-    plan_is_well_formed(function);
-    match print_plan(alloc, &Verdict::Refused(refusal)) {
-        Ok(printed) => Ok(printed),
-        Err(AllocError) => Err(StoreFault::Memory),
-    }
-}
-
-// What a trial of the long-term plan prints.
-fn plan_trial(
-    alloc: Global,
-    view: &View<'_>,
-    function: &PlanFunction,
-) -> Result<Printed, AllocError>
-    ensures { IfOk result (λ printed. (c : Content) → Shows (need_of_plan function.now) view.now c
-        → IsSound c
-        → PrintsTrial (plan_change function.now) c printed) }
-{
-    plan_is_well_formed(function);
-    let verdict = decide_plan(alloc, view, function)?;
-    print_plan(alloc, &verdict)
-}
-
-// What a trial prints of the verdict on a change of the long-term plan.
-fn print_plan(alloc: Global, verdict: &Verdict) -> Result<Printed, AllocError>
-    ensures { IfOk result (λ printed. (function : PlanValue) (c : Content)
-        → IsWellFormed (plan_change function) → IsSound c
-        → VerdictIs (decision_of (plan_change function)) c verdict.now
-        → PrintsTrial (plan_change function) c printed) }
-{
-    fate_is_followed();
-    sound_content_stays_sound();
-    match verdict {
-        Verdict::Done(change, reply) => {
-            let rows = ltp_report(alloc, &change.ltp.put, &change.ltp.gone)?;
-            accepted(alloc, rows, reply)
-        }
-        Verdict::Refused(refusal) => refused(alloc, Vec::new(alloc), refusal),
-    }
-}
-
-/// Shows what a daily plan would do.
-pub(crate) fn answer_daily_trial<S: PlanStore>(
-    alloc: Global,
-    store: &mut S,
-    function: &DailyFunction,
-) -> Result<Printed, StoreFault>
-    ensures { AnswersBy S.PlanStore store.old store.new result
-        (Serves (Trial (daily_change function.now)) (S.content store.old)) }
-{
-    let end = find_end(alloc, store, function)?;
-    answer_within(alloc, store, end, function)
-}
-
-// The same where the end is known.
-fn answer_within<S: PlanStore>(
+// The same where the end of a daily plan is known.
+fn answer_seen<S: PlanStore, T: Try>(
     alloc: Global,
     store: &mut S,
     end: Option<Moment>,
-    function: &DailyFunction,
+    statement: &T,
 ) -> Result<Printed, StoreFault>
-    requires { S.is_honest store.old → IsEnd (S.content store.old) function.now end }
+    requires { S.is_honest store.old → T.is_end statement.now (S.content store.old) end }
     ensures { AnswersBy S.PlanStore store.old store.new result
-        (Serves (Trial (daily_change function.now)) (S.content store.old)) }
+        (Serves (Trial (T.change statement.now)) (S.content store.old)) }
 {
-    let view = store.read_window(alloc, daily_need(end))?;
-    Ok(daily_trial(alloc, &view, end, function)?)
+    let need = statement.need(end);
+    let view = store.read_window(alloc, need)?;
+    Ok(print_trial(alloc, &view, end, statement)?)
 }
 
-// What a trial of a daily plan that has that end prints.
-fn daily_trial(
+// What a trial prints.
+fn print_trial<T: Try>(
     alloc: Global,
     view: &View<'_>,
     end: Option<Moment>,
-    function: &DailyFunction,
+    statement: &T,
 ) -> Result<Printed, AllocError>
-    ensures { IfOk result (λ printed. (c : Content) → IsEnd c function.now end
-        → Shows (daily_need end) view.now c
-        → IsSound c → PrintsTrial (daily_change function.now) c printed) }
+    ensures { IfOk result (λ printed. (c : Content) → T.is_end statement.now c end
+        → Shows (T.sees statement.now end) view.now c
+        → IsSound c → PrintsTrial (T.change statement.now) c printed) }
 {
-    let verdict = decide_daily(alloc, view, end, function)?;
-    let current = view.cp().to_vec(alloc)?;
-    print_daily(alloc, &current, &verdict)
+    let verdict = (*statement).decide(alloc, view, end)?;
+    match verdict {
+        Verdict::Done(made, reply) => {
+            let rows = statement.rows(alloc, view, &made)?;
+            accepted(alloc, rows, &reply)
+        }
+        Verdict::Refused(refusal) => refused(alloc, Vec::new(alloc), &refusal),
+    }
 }
 
-// What a trial prints of the verdict on a daily plan, which changes these rows of the current plan.
-fn print_daily(
-    alloc: Global,
-    current: &[CurrentRow],
-    verdict: &Verdict,
-) -> Result<Printed, AllocError>
-    ensures { IfOk result (λ printed. (function : DailyValue) (c : Content) → IsSound c
-        → (IsDone verdict.now → ListsSet of_current c.sets.cp IsAny current.now)
-        → VerdictIs (decision_of (daily_change function)) c verdict.now
-        → PrintsTrial (daily_change function) c printed) }
-{
-    fate_is_followed();
-    sound_content_stays_sound();
-    match verdict {
-        Verdict::Done(change, reply) => {
-            let rows = daily_rows(alloc, current, &change.ltp.gone)?;
-            accepted(alloc, rows, reply)
-        }
-        Verdict::Refused(refusal) => refused(alloc, Vec::new(alloc), refusal),
+impl Try for PlanFunction {
+    fn rows(&self, alloc: Global, _view: &View<'_>, made: &Change) -> Result<Vec<u8>, AllocError> {
+        fate_is_followed();
+        sound_content_stays_sound();
+        plan_is_well_formed(self);
+        ltp_report(alloc, &made.ltp.put, &made.ltp.gone)
+    }
+}
+
+impl Try for DailyFunction {
+    fn rows(&self, alloc: Global, view: &View<'_>, made: &Change) -> Result<Vec<u8>, AllocError> {
+        fate_is_followed();
+        sound_content_stays_sound();
+        let current = view.cp().to_vec(alloc)?;
+        daily_rows(alloc, &current, &made.ltp.gone)
     }
 }
 

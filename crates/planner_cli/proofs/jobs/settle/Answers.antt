@@ -6,7 +6,7 @@ use Rattle.planner_cli.specs.Replies.{Prints}
 use Rattle.planner_cli.specs.Stores.{AnswersBy}
 use Rattle.planner_cli.specs.Verdicts.{answer_in, job_left}
 use Rattle.planner_cli.proofs.ServeLemmas.{settled}
-use Rattle.planner_cli.proofs.StoreLemmas.{made, not_made, refused_memory}
+use Rattle.planner_cli.proofs.StoreLemmas.{made, not_made, unasked}
 use Rattle.planner_cli.proofs.jobs.settle.Goals as goal
 
 pub apply-requires-clause-sound : goal.apply-requires-clause-sound
@@ -25,7 +25,7 @@ returns-in_err-printed g c =
     subst (λ r. AnswersBy g.S.PlanStore c.args.store.now c.args.store.now r (λ reply c'.
     (c' ≡ job_left c.args.number c.args.text c.args.verdict (g.S.PlanStore.content c.args.store.now))
     × (reply ≡ answering (answer_in c.args.verdict)))) (sym refused)
-    (refused_memory g.S.PlanStore c.args.store.now _)
+    (unasked g.S.PlanStore c.args.store.now (Err Memory) _ _ (λ honest. tt) refl)
 
 pub returns-in-Ok : goal.returns-in-Ok
 returns-in-Ok g c =

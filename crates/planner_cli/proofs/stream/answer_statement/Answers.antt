@@ -26,16 +26,16 @@ returns-in-Days g c =
 
 pub returns-in-PlanTrial : goal.returns-in-PlanTrial
 returns-in-PlanTrial g c =
-    line_served g.S.PlanStore _ _ _ _ c.args.line.now c.args.statement.now _ c.answer_plan_trial-answered.result
+    line_served g.S.PlanStore _ _ _ _ c.args.line.now c.args.statement.now _ c.answer_trial-answered.result
     c.write_answer-in-PlanTrial.result c.requires (ap (asked_alone c.args.line.now) c.in-PlanTrial.is)
-    c.answer_plan_trial-answered.ensures c.write_answer-in-PlanTrial.ensures.ok
+    c.answer_trial-answered.ensures c.write_answer-in-PlanTrial.ensures.ok
     c.write_answer-in-PlanTrial.ensures.err
 
 pub returns-in-DailyTrial : goal.returns-in-DailyTrial
 returns-in-DailyTrial g c =
-    line_served g.S.PlanStore _ _ _ _ c.args.line.now c.args.statement.now _ c.answer_daily_trial-answered.result
+    line_served g.S.PlanStore _ _ _ _ c.args.line.now c.args.statement.now _ c.answer_trial-answered-in-DailyTrial.result
     c.write_answer-in-DailyTrial.result c.requires (ap (asked_alone c.args.line.now) c.in-DailyTrial.is)
-    c.answer_daily_trial-answered.ensures c.write_answer-in-DailyTrial.ensures.ok
+    c.answer_trial-answered-in-DailyTrial.ensures c.write_answer-in-DailyTrial.ensures.ok
     c.write_answer-in-DailyTrial.ensures.err
 
 pub answer_list-requires : goal.answer_list-requires
