@@ -12,5 +12,6 @@ pub mod Kept
 pub mod Text
 pub mod Parts
 pub mod JobNumberLemmas
+pub mod Texts
 pub mod OneStatement
 pub mod Measured

@@ -1,9 +1,8 @@
 -- No line is two statements.
-use Rattle.std.proofs.Common.{◌≡◌, ◌∙◌, ◌<◌, ◌^◌, ℕ, List, ◌∷◌, Bool, true, Option, Some, None, cond, refl, sym, ap}
+use Rattle.std.proofs.Common.{◌≡◌, ◌∙◌, ◌<◌, ◌^◌, ℕ, List, [], ◌∷◌, true, Option, Some, None, refl, sym, ap}
 use Rattle.std.proofs.Common.{ap₂, subst, codes, arith}
 use Rattle.std.specs.Fmt.{decimal}
 use Rattle.std.specs.List.{list_all}
-use Rattle.std.specs.Str.{bytes_eq}
 use Rattle.std.proofs.lemmas.Fmt.{decimal_injective}
 use Rattle.planner_cli_stream.specs.Grammar.{Text, Use, reading_of}
 use Rattle.planner_cli_stream.specs.Line.{is_line_byte, words_of}
@@ -16,6 +15,7 @@ use Rattle.planner_cli_stream.specs.Statement.{IsLineOf, IsWrittenIn, Reads, sta
 use Rattle.planner_cli_stream.specs.Values.{HasApp, HasCount, HasDay, HasDays, HasFunction, HasJob, HasKind, HasMoment, HasName}
 use Rattle.planner_cli_stream.specs.Values.{HasText, HasWhat, Reading}
 use Rattle.planner_cli_stream.specs.Verb.{layout_for, verb_text}
+use Rattle.planner_cli_stream.proofs.Texts.{IsFound, same_text}
 use Rattle.planner_cli_stream.specs.declared.arguments.Arguments.{Arguments}
 use Rattle.planner_cli_stream.specs.declared.statements.KeyAct.TheVariants as act
 use Rattle.planner_cli_stream.specs.declared.statements.Statement.{Statement}
@@ -32,121 +32,47 @@ use Rattle.planner_cli_stream.specs.declared.words.WhatWord.TheVariants as what
 
 -- ---- names and words by their texts
 
-abbrev or_else : {A : Type 0} → Bool → A → Option A → Option A
-or_else b x rest = cond b (Some x) rest
+abbrev verbs : List Verb
+verbs =
+    verb.Define ∷ verb.Undefine ∷ verb.Days ∷ verb.LtpCreate ∷ verb.LtpExtend ∷ verb.LtpModifyAll ∷ verb.LtpModifyOne
+    ∷ verb.LtpTrial ∷ verb.DpExtend ∷ verb.DpReplan ∷ verb.DpTrial ∷ verb.OnKey act.Add ∷ verb.OnKey act.Delete
+    ∷ verb.OnKey act.AddCurrent ∷ verb.OnKey (act.Act action.Start) ∷ verb.OnKey (act.Act action.Complete)
+    ∷ verb.OnKey (act.Act action.Fail) ∷ verb.OnKey (act.Act action.Reset) ∷ verb.OnKey (act.Act action.Delete)
+    ∷ verb.List ∷ []
 
-abbrev verb_by : Text → Option Verb
-verb_by t = or_else (bytes_eq t (codes "define")) verb.Define
-    (or_else (bytes_eq t (codes "undefine")) verb.Undefine
-    (or_else (bytes_eq t (codes "days")) verb.Days
-    (or_else (bytes_eq t (codes "ltp-create")) verb.LtpCreate
-    (or_else (bytes_eq t (codes "ltp-extend")) verb.LtpExtend
-    (or_else (bytes_eq t (codes "ltp-modify-all")) verb.LtpModifyAll
-    (or_else (bytes_eq t (codes "ltp-modify-one")) verb.LtpModifyOne
-    (or_else (bytes_eq t (codes "ltp-trial")) verb.LtpTrial
-    (or_else (bytes_eq t (codes "ltp-add")) (verb.OnKey act.Add)
-    (or_else (bytes_eq t (codes "ltp-delete")) (verb.OnKey act.Delete)
-    (or_else (bytes_eq t (codes "dp-extend")) verb.DpExtend
-    (or_else (bytes_eq t (codes "dp-replan")) verb.DpReplan
-    (or_else (bytes_eq t (codes "dp-trial")) verb.DpTrial
-    (or_else (bytes_eq t (codes "cp-add")) (verb.OnKey act.AddCurrent)
-    (or_else (bytes_eq t (codes "cp-start")) (verb.OnKey (act.Act action.Start))
-    (or_else (bytes_eq t (codes "cp-complete")) (verb.OnKey (act.Act action.Complete))
-    (or_else (bytes_eq t (codes "cp-fail")) (verb.OnKey (act.Act action.Fail))
-    (or_else (bytes_eq t (codes "cp-reset")) (verb.OnKey (act.Act action.Reset))
-    (or_else (bytes_eq t (codes "cp-delete")) (verb.OnKey (act.Act action.Delete))
-    (or_else (bytes_eq t (codes "list")) verb.List None)))))))))))))))))))
+abbrev kinds : List KindWord
+kinds = kind.Calendars ∷ kind.Periods ∷ kind.Applications ∷ kind.RunCycles ∷ kind.Predecessors ∷ kind.Options ∷ []
 
-verb_by-text : (x : Verb) → verb_by (verb_text x) ≡ Some x
-verb_by-text verb.Define = refl
-verb_by-text verb.Undefine = refl
-verb_by-text verb.Days = refl
-verb_by-text verb.LtpCreate = refl
-verb_by-text verb.LtpExtend = refl
-verb_by-text verb.LtpModifyAll = refl
-verb_by-text verb.LtpModifyOne = refl
-verb_by-text verb.LtpTrial = refl
-verb_by-text (verb.OnKey act.Add) = refl
-verb_by-text (verb.OnKey act.Delete) = refl
-verb_by-text verb.DpExtend = refl
-verb_by-text verb.DpReplan = refl
-verb_by-text verb.DpTrial = refl
-verb_by-text (verb.OnKey act.AddCurrent) = refl
-verb_by-text (verb.OnKey (act.Act action.Start)) = refl
-verb_by-text (verb.OnKey (act.Act action.Complete)) = refl
-verb_by-text (verb.OnKey (act.Act action.Fail)) = refl
-verb_by-text (verb.OnKey (act.Act action.Reset)) = refl
-verb_by-text (verb.OnKey (act.Act action.Delete)) = refl
-verb_by-text verb.List = refl
+abbrev functions : List FunctionWord
+functions = function.Create ∷ function.Extend ∷ function.ModifyAll ∷ function.ModifyOne ∷ function.Replan ∷ []
 
-same_verb : (x y : Verb) → verb_text x ≡ verb_text y → x ≡ y
-same_verb x y e = let same : Some x ≡ Some y = sym (verb_by-text x) ∙ ap verb_by e ∙ verb_by-text y in cc
+abbrev counts : List CountWord
+counts = count.AllDays ∷ count.WorkDays ∷ []
 
-abbrev kind_by : Text → Option KindWord
-kind_by t = or_else (bytes_eq t (codes "calendars")) kind.Calendars
-    (or_else (bytes_eq t (codes "periods")) kind.Periods
-    (or_else (bytes_eq t (codes "applications")) kind.Applications
-    (or_else (bytes_eq t (codes "run-cycles")) kind.RunCycles
-    (or_else (bytes_eq t (codes "predecessors")) kind.Predecessors
-    (or_else (bytes_eq t (codes "options")) kind.Options None)))))
+abbrev listings : List WhatWord
+listings = what.Ltp ∷ what.Cp ∷ what.History ∷ what.Deletions ∷ what.Dependencies ∷ what.Links ∷ []
 
-kind_by-text : (x : KindWord) → kind_by (kind_text x) ≡ Some x
-kind_by-text kind.Calendars = refl
-kind_by-text kind.Periods = refl
-kind_by-text kind.Applications = refl
-kind_by-text kind.RunCycles = refl
-kind_by-text kind.Predecessors = refl
-kind_by-text kind.Options = refl
+found_verb : (x : Verb) → IsFound verb_text verbs x
+found_verb verb.Define = refl
+found_verb (verb.OnKey act.Add) = refl
+found_verb (verb.OnKey (act.Act action.Start)) = refl
+found_verb _ = refl
 
-same_kind : (x y : KindWord) → kind_text x ≡ kind_text y → x ≡ y
-same_kind x y e = let same : Some x ≡ Some y = sym (kind_by-text x) ∙ ap kind_by e ∙ kind_by-text y in cc
+found_kind : (x : KindWord) → IsFound kind_text kinds x
+found_kind kind.Calendars = refl
+found_kind _ = refl
 
-abbrev function_by : Text → Option FunctionWord
-function_by t = or_else (bytes_eq t (codes "create")) function.Create
-    (or_else (bytes_eq t (codes "extend")) function.Extend
-    (or_else (bytes_eq t (codes "modify-all")) function.ModifyAll
-    (or_else (bytes_eq t (codes "modify-one")) function.ModifyOne
-    (or_else (bytes_eq t (codes "replan")) function.Replan None))))
+found_function : (x : FunctionWord) → IsFound function_text functions x
+found_function function.Create = refl
+found_function _ = refl
 
-function_by-text : (x : FunctionWord) → function_by (function_text x) ≡ Some x
-function_by-text function.Create = refl
-function_by-text function.Extend = refl
-function_by-text function.ModifyAll = refl
-function_by-text function.ModifyOne = refl
-function_by-text function.Replan = refl
+found_count : (x : CountWord) → IsFound count_text counts x
+found_count count.AllDays = refl
+found_count _ = refl
 
-same_function : (x y : FunctionWord) → function_text x ≡ function_text y → x ≡ y
-same_function x y e =
-    let same : Some x ≡ Some y = sym (function_by-text x) ∙ ap function_by e ∙ function_by-text y in cc
-
-abbrev count_by : Text → Option CountWord
-count_by t = or_else (bytes_eq t (codes "A")) count.AllDays (or_else (bytes_eq t (codes "W")) count.WorkDays None)
-
-count_by-text : (x : CountWord) → count_by (count_text x) ≡ Some x
-count_by-text count.AllDays = refl
-count_by-text count.WorkDays = refl
-
-same_count : (x y : CountWord) → count_text x ≡ count_text y → x ≡ y
-same_count x y e = let same : Some x ≡ Some y = sym (count_by-text x) ∙ ap count_by e ∙ count_by-text y in cc
-
-abbrev what_by : Text → Option WhatWord
-what_by t = or_else (bytes_eq t (codes "ltp")) what.Ltp
-    (or_else (bytes_eq t (codes "cp")) what.Cp
-    (or_else (bytes_eq t (codes "history")) what.History
-    (or_else (bytes_eq t (codes "deletions")) what.Deletions
-    (or_else (bytes_eq t (codes "dependencies")) what.Dependencies
-    (or_else (bytes_eq t (codes "links")) what.Links None)))))
-
-what_by-text : (x : WhatWord) → what_by (what_text x) ≡ Some x
-what_by-text what.Ltp = refl
-what_by-text what.Cp = refl
-what_by-text what.History = refl
-what_by-text what.Deletions = refl
-what_by-text what.Dependencies = refl
-what_by-text what.Links = refl
-
-same_what : (x y : WhatWord) → what_text x ≡ what_text y → x ≡ y
-same_what x y e = let same : Some x ≡ Some y = sym (what_by-text x) ∙ ap what_by e ∙ what_by-text y in cc
+found_what : (x : WhatWord) → IsFound what_text listings x
+found_what what.Ltp = refl
+found_what _ = refl
 
 -- ---- values
 
@@ -154,13 +80,13 @@ one_text : (us : List Use) (key a b : Text) → HasText us key a → HasText us 
 one_text us key a b p q = let same : Some a ≡ Some b = sym p ∙ q in cc
 
 one_kind : (us : List Use) (x y : KindWord) → HasKind us x → HasKind us y → x ≡ y
-one_kind us x y p q = same_kind x y (one_text us (codes "KIND") (kind_text x) (kind_text y) p q)
+one_kind us x y p q = same_text kind_text kinds found_kind x y (one_text us (codes "KIND") (kind_text x) (kind_text y) p q)
 
 one_function : (us : List Use) (x y : FunctionWord) → HasFunction us x → HasFunction us y → x ≡ y
-one_function us x y p q = same_function x y (one_text us (codes "FUNCTION") (function_text x) (function_text y) p q)
+one_function us x y p q = same_text function_text functions found_function x y (one_text us (codes "FUNCTION") (function_text x) (function_text y) p q)
 
 one_what : (us : List Use) (x y : WhatWord) → HasWhat us x → HasWhat us y → x ≡ y
-one_what us x y p q = same_what x y (one_text us (codes "WHAT") (what_text x) (what_text y) p q)
+one_what us x y p q = same_text what_text listings found_what x y (one_text us (codes "WHAT") (what_text x) (what_text y) p q)
 
 one_job : (us : List Use) (m n : ℕ) → HasJob us m → HasJob us n → m ≡ n
 one_job us m n p q =
@@ -175,7 +101,7 @@ one_days us m n p q =
     decimal_injective m n small low (one_text us (codes "days") (decimal m) (decimal n) p.0 q.0)
 
 one_count : (us : List Use) (x y : CountWord) → HasCount us x → HasCount us y → x ≡ y
-one_count us x y p q = same_count x y (one_text us (codes "count") (count_text x) (count_text y) p q)
+one_count us x y p q = same_text count_text counts found_count x y (one_text us (codes "count") (count_text x) (count_text y) p q)
 
 one_app : (us : List Use) (a b : Text) → HasApp us a → HasApp us b → a ≡ b
 one_app us a b p q = one_text us (codes "app") a b p.0 q.0
@@ -231,7 +157,7 @@ one_verb name after words v s e named w =
     let both : verb_text w.verb ∷ w.after ≡ name ∷ after = sym w.name_first ∙ e in
     let first : verb_text w.verb ≡ name = cc in
     let rest : w.after ≡ after = cc in
-    (same_verb w.verb v (first ∙ named), rest)
+    (same_text verb_text verbs found_verb w.verb v (first ∙ named), rest)
 
 one_written : (words : List Text) (s t : Statement) → IsWrittenIn words s → IsWrittenIn words t → s ≡ t
 one_written words s t p q =
