@@ -10,10 +10,9 @@ use Rattle.planner_machine.specs.Content.{Content}
 use Rattle.planner_machine.specs.Decision.{Decides}
 use Rattle.planner_machine.specs.Jobs.{with_job}
 use Rattle.planner_machine.specs.Moves.{or_else}
-use Rattle.planner_machine.specs.Statement.{Act, Add, AddCurrent, Change as MachineChange, Create, DailyExtend}
-use Rattle.planner_machine.specs.Statement.{DailyExtendBy, Define, Delete, Extend, ModifyAll, ModifyOne, Replan}
-use Rattle.planner_machine.specs.Statement.{Undefine, decision_of}
+use Rattle.planner_machine.specs.Statement.{Change as MachineChange, decision_of}
 use Rattle.planner_machine.specs.declared.job.Job.{Job}
+use Rattle.planner_machine.proofs.ChangeLemmas.{lawful_of}
 use Rattle.plan_store_lists.specs.Rows.{HasEachOnce, of_current, of_deletion, of_row}
 use Rattle.plan_store.specs.Changes.{ChangesNothing, Fits, FitsSet, LeadsOn, MovesNothing, after, jobs_after}
 use Rattle.plan_store.specs.Changes.{lists_after, moved_set, pairs_after, redefined}
@@ -131,19 +130,7 @@ after_with_job change job c jobs = λ i. record {
 -- no change of the machine touches the kept jobs
 pub keeps_jobs : (change : MachineChange) (c : Content) (reply : Reply) (c' : Content)
     → Decides (decision_of change) c (Ok reply) c' → c'.jobs ≡ c.jobs
-keeps_jobs (Define block) c reply c' (good, does) = ap (λ (x : Content). x.jobs) does.1
-keeps_jobs (Undefine kind name) c reply c' (good, does) = ap (λ (x : Content). x.jobs) does.1
-keeps_jobs (Create from to) c reply c' (good, does) = does.jobs
-keeps_jobs (Extend to) c reply c' (good, does) = does.jobs
-keeps_jobs ModifyAll c reply c' (good, does) = does.jobs
-keeps_jobs (ModifyOne app) c reply c' (good, does) = does.jobs
-keeps_jobs (Add key) c reply c' (good, does) = does.jobs
-keeps_jobs (Delete key) c reply c' (good, does) = does.jobs
-keeps_jobs (DailyExtend to) c reply c' (good, does) = does.jobs
-keeps_jobs (DailyExtendBy days count) c reply c' (good, does) = does.jobs
-keeps_jobs Replan c reply c' (good, does) = does.jobs
-keeps_jobs (AddCurrent key) c reply c' (good, does) = does.jobs
-keeps_jobs (Act action key) c reply c' (good, does) = does.jobs
+keeps_jobs change c reply c' (good, does) = (lawful_of change).jobs c reply c' does
 
 pub nothing_changed : (none : Change) → ChangesNothing none → (c : Content) → after none c ≡ c
 nothing_changed none is c = redefined_so none AsBefore (record {
