@@ -32,7 +32,9 @@ returns g c =
     (answers_so g.S.PlanStore _ _ _ _ _ (λ honest reply c'.
     verdict_answers c.args.number c.args.text change c.in_ok-verdict.verdict _
     (look_right g.S.PlanStore _ _ _ _ looks _ c.in_ok-verdict.was honest)
-    (settle-requires-clause-new g c honest) reply c') c.settle.ensures)
+    (ap (λ (x : Content). x.jobs c.args.number)
+    (look_same g.S.PlanStore _ _ _ _ looks _ c.in_ok-verdict.was honest) ∙ c.requires.new (looks.honest honest)) reply c')
+    c.settle.ensures)
 
 pub returns-in_err-verdict : goal.returns-in_err-verdict
 returns-in_err-verdict g c =

@@ -16,8 +16,8 @@ returns-in-Ok g c =
     c.answer_seen.new.store c.answer_seen.result
     (Serves (Trial (g.T.Decide.change c.args.statement.now))) c.answer_seen.ensures
 
-pub returns-in-Err : goal.returns-in-Err
-returns-in-Err g c =
+pub returns-in_ok-refused-in-Err : goal.returns-in_ok-refused-in-Err
+returns-in_ok-refused-in-Err g c =
     let change = g.T.Decide.change c.args.statement.now in
     let refusal = c.in-Err.refusal in
     answers_after g.S.PlanStore _ _ _ _ c.look_ahead.ensures _ c.in_ok-end.was _ _ (Serves (Trial change))
