@@ -2,10 +2,9 @@
 that are added or moved with a deadline: by keys and by the pointer."""
 
 import json
+import threading
 
-from support import desks
-
-from browser_desk import CTRL, SAID, STATE, Room, clicked_at
+from browser_desk import CTRL, SAID, SETTLED, STATE, Room, clicked_at
 from headless import SHIFT
 
 BAR = "document.querySelector('#several')"
@@ -133,4 +132,149 @@ def several_by_pointer(browser, folder, ask):
     room.end()
 
 
-OF_SEVERAL = [several_by_keys, several_by_pointer]
+def half_way(browser, folder, ask):
+    """Somebody else changes the plan while an act of many rows is done: the bar says how far it came, and goes on from
+    there on request; each row is deleted once."""
+    room = Room(browser, folder, ask)
+    room.open()
+    chosen = rows(room, "state(i) === 'L' && name(i) !== 'STOCKUPDATE'", 60)
+    choose_rows(room, chosen)
+    busy = room.key_of(room.row("state(i) === 'R'"))
+    over = threading.Event()
+
+    def other():
+        while not over.is_set() and not room.desk.health()["position"]:
+            pass
+        room.post(f"cp-start {busy}\n")
+
+    room.js(f"{BAR}.querySelector('[data-key=\"all Cancel\"]').click()")
+    room.comes(READY, "a preview of many rows comes", 10)
+    beside = threading.Thread(target=other)
+    beside.start()
+    stops = []
+    for _ in range(9):
+        room.comes("several.shown && !several.shown.busy", "the desk answers", 10)
+        if not room.holds("several.shown.act || several.shown.isLeft"):
+            break
+        told = room.js(SHOWN)
+        stops += [told] if " done: " in told else []
+        room.js("document.querySelector('#several-preview :is([data-key=\"do it\"], [data-key=\"look again\"])').click()")
+    over.set()
+    beside.join()
+    if stops:
+        ask("Left: " in stops[0] and "in between" in stops[0] and "Go on as shown" in stops[0], "it says what is left",
+            stops[0][:300])
+    else:
+        print("half_way: nobody came in between")
+    ask(room.js(SHOWN).startswith("Done: 60 runs, 60 statements."), "it goes on to its end", room.js(SHOWN))
+    lines = [json.loads(line) for line in room.desk.asked("GET", "/journal")[2].splitlines()]
+    deleted = [one["statement"].split(" --job")[0] for one in lines if one["statement"].startswith("ltp-delete")]
+    ask(len(deleted) == len(set(deleted)) == 60, "each is deleted once", len(deleted))
+    keys = {one["key"].partition("#")[0] for one in lines if one["statement"].startswith("ltp-delete")}
+    ask(len(keys) == 1, "all under one key, so that undo takes all of them", keys)
+    room.same("an act that was stopped")
+    room.end()
+
+
+def search_of_desk(browser, folder, ask):
+    """Enter in the search opens the run that is meant, lists several, and names the nearest if none fits."""
+    room = Room(browser, folder, ask)
+    room.open()
+    number = room.row("state(i) === 'E'")
+    app, day, minute = room.js(f"(i => [name(i), isoDay(dayOf(ia[i])), clock(ia[i])])(rowOfSerial({number}))")
+    card = "document.querySelector('#card').textContent"
+    for typed in (str(number), f"{app} {day}", f"{app.lower()} {day}/{minute}", f"{app} {day} {minute}"):
+        room.js("choose(-1); document.activeElement.blur()")
+        browser.key("/")
+        browser.type(typed)
+        browser.key("Enter")
+        room.comes(f"serial[view.pick] === {number} && document.activeElement.id === 'card'", f"Enter opens {typed}", 5)
+        ask(room.js("document.querySelector('#find').value") == "", "the search is emptied")
+    room.js("choose(-1)")
+    browser.key("/")
+    browser.type(f"{app} {minute}")
+    browser.key("Enter")
+    fits = len(room.js(f"[...Array(rowCount).keys()].filter(i => name(i) === '{app}' && clock(ia[i]) === '{minute}' "
+                       "&& 'ESRBFC'.includes(state(i)))"))
+    if fits > 1:
+        room.comes(f"{card}.includes('{fits} runs fit {app} {minute}.')", "several are listed", 5)
+        ask(room.js("document.activeElement.id") == "card", "the list has the focus")
+        browser.key("Tab", 2)
+        browser.key("Enter")
+        room.comes(f"view.pick >= 0 && name(view.pick) === '{app}'", "one of them is opened")
+    else:
+        room.comes(f"view.pick >= 0 && name(view.pick) === '{app}'", "one that fits is opened", 5)
+    room.js("choose(-1); document.querySelector('#find').value = ''; find()")
+    browser.key("/")
+    browser.type(f"{app} 2026-11-25/00.01")
+    browser.key("Enter")
+    room.comes(f"{card}.includes('No run of {app} arrives then') && {card}.includes('Before')",
+               "none that fits: the nearest are named", 5)
+    room.comes(f"{SAID}.includes('No run of {app} arrives then')", "it is said to a screen reader")
+    browser.key("Escape")
+    ask(room.js("view.other === null") and not room.holds("document.body.matches('.chosen')"), "Escape closes it")
+    browser.key("/")
+    browser.type(f"{app} 2026-13-25")
+    browser.key("Enter")
+    room.comes(f"{card}.includes('is neither a day nor a minute nor a moment')", "a text that names none", 5)
+    ask(not room.complaints(), "the console", room.complaints())
+    room.end()
+
+
+def card_verbs(browser, folder, ask):
+    """On the card: Complete of a row that waits, a run that is added, and one that is moved with its deadline."""
+    room = Room(browser, folder, ask)
+    room.open()
+    shown = "(document.querySelector('#preview')?.textContent ?? '')"
+    ready = "document.querySelector('#preview [data-key=\"do it\"]:not(:disabled)')"
+    blocked = room.row("state(i) === 'B' && behind(i).length > 0 && [...walk(i, before)].filter(isOpen).length < 5")
+    ahead, behind = room.js(f"(i => [[...walk(i, before)].filter(isOpen).length, behind(i).length])"
+                            f"(rowOfSerial({blocked}))")
+    room.js(f"choose(rowOfSerial({blocked}))")
+    button = "document.querySelector('.acts [data-act=complete]')"
+    ask(room.js(f"{button}.textContent") == f"Complete with {ahead} before it", "Complete says how many are before it",
+        room.js(f"{button}.textContent"))
+    clicked_at(room, button)
+    room.comes(ready, "its preview comes", 6)
+    told = room.js(shown)
+    ask(f"{behind} run" in told and "wait" in told and "can't be undone" in told, "it says who waits", told)
+    ask(room.js("document.activeElement.id") == "preview" and room.desk.health()["position"] == 0, "nothing is done yet")
+    browser.key("Enter", 2)
+    ask(room.desk.health()["position"] == 0, "Enter does nothing")
+    clicked_at(room, ready)
+    room.comes(f"{STATE.format(blocked)} === 'C'", "it is complete with all before it", 6)
+    room.same("Complete of a chain")
+    app = room.js("name([...Array(rowCount).keys()].find(i => state(i) === 'L'))")
+    last = room.js("D.plan.last")
+    room.js(f"showApp(D.apps.findIndex(one => one[0] === '{app}'))")
+    day = f"isoDay({last})"
+    room.js(f"((day) => {{ for (const [name, value] of [['day', day], ['time', '03:33'], ['due time', '04:44']]) {{"
+            f"const one = inputOf('add app {app} ' + name); one.value = value; one.dispatchEvent(new Event('input')); }}"
+            f"}})({day}); document.querySelector('[data-verb=add]').focus()")
+    browser.key("Enter")
+    room.comes(f"{ready} || {shown}.length > 40", "a preview of an addition comes", 6)
+    ask(room.js("document.activeElement.id") == "preview", "it has the focus", room.js(shown))
+    room.post("cp-start " + room.key_of(room.row("state(i) === 'R'")) + "\n")
+    room.comes(SETTLED, "another caller's change is drawn", 4)
+    ask(room.js(f"inputOf('add app {app} time').value") == "03:33", "what is typed stays")
+    browser.key("Tab")
+    browser.key("Enter")
+    room.comes(f"{shown}.startsWith('Done: ')", "it is added", 8)
+    room.comes(f"[...Array(rowCount).keys()].some(i => name(i) === '{app}' && dayOf(ia[i]) === {last} && clock(ia[i]) "
+               "=== '03.33' && clock(due[i]) === '04.44')", "with its deadline", 8)
+    planned = room.row("state(i) === 'L' && clock(ia[i]) !== '05.55' && dayOf(ia[i]) > dayOf(D.plan.end)")
+    room.js(f"choose(rowOfSerial({planned}))")
+    room.js(f"(() => {{ for (const [name, value] of [['time', '05:55'], ['due time', '07:07']]) {{ const one = "
+            f"inputOf('move {planned} ' + name); one.value = value; one.dispatchEvent(new Event('input')); }} }})();"
+            "document.querySelector('[data-verb=move]').click()")
+    room.comes(f"{ready}", "a preview of a move with a deadline comes", 6)
+    app, day = room.js(f"(i => [name(i), dayOf(ia[i])])(rowOfSerial({planned}))")
+    room.js(f"{ready}.click()")
+    room.comes(f"[...Array(rowCount).keys()].some(i => name(i) === '{app}' && dayOf(ia[i]) === {day} && clock(ia[i]) === "
+               "'05.55' && clock(due[i]) === '07.07' && state(i) === 'L')", "it is moved with it", 8)
+    room.same("a move with a deadline")
+    ask(not room.complaints(), "the console", room.complaints())
+    room.end()
+
+
+OF_SEVERAL = [several_by_keys, several_by_pointer, half_way, search_of_desk, card_verbs]
