@@ -98,7 +98,8 @@ class Room:
         held = self.js(HELD)
         names = "serials", "arrivals", "deadlines", "states", "marks", "roots", "pairs"
         for name, one, other in zip(names, held, wanted, strict=True):
-            self.ask(one == other, f"{what}: {name}", (str(one)[:200], str(other)[:200]))
+            self.ask(one == other, f"{what}: {name}", [(held[0][place], *pair) for place, pair in enumerate(
+                zip(one, other)) if pair[0] != pair[1]][:9] or (len(one), len(other)))
 
     def complaints(self):
         own = f"http://127.0.0.1:{self.desk.port}/"

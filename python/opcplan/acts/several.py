@@ -30,13 +30,13 @@ def act_of(world: World, wanted: Intention, near: int | None = None) -> Act:
     trial = world.copy()
     again: dict[int, Row] = {}  # by serial of a row that runs again with another one: that one
     for of, row in rows:
-        part, more = part_of(world, trial, wanted, of, row, again)
+        part, own_notes = part_of(world, trial, wanted, of, row, again)
         for step in part.steps:
             trial.apply(step)
         if part.steps and wanted.verb == "rerun" and wanted.followers:
             again |= {one.serial: row for one in chains.followers(world, row) if one.serial not in again}
         parts.append(part)
-        notes += more
+        notes += own_notes
     if not any(part.steps for part in parts):
         reasons = list(dict.fromkeys(part.why_not.removesuffix(".") for part in parts))
         more = f", and {len(reasons) - MOST_REASONS} more reasons" if len(reasons) > MOST_REASONS else ""

@@ -1,5 +1,6 @@
 """Intentions and previews as JSON has them. No I/O."""
 
+import dataclasses
 import re
 from collections.abc import Mapping
 from typing import Any
@@ -31,7 +32,8 @@ def of_values(found: Mapping[str, Any]) -> Intention:
         raise InvalidIntention("`entry` must be the number of an entry")
     if "verb" not in found:
         raise InvalidIntention(f"`verb` is missing; it is one of {', '.join(verbs.VERBS)}")
-    wanted = Intention(**{**found, "each": tuple(found.get("each", ()))})
+    wanted = dataclasses.replace(Intention(**{name: value for name, value in found.items() if name != "each"}),
+                                 each=tuple(found.get("each", ())))
     verbs.check(wanted)
     return wanted
 
