@@ -614,7 +614,10 @@ def looks(browser, folder, ask, pictures=None):
                            "look: 'is-done' }); showCard()",
                 "sure": "answers.set(serial[view.pick], { sure: 'delete', of: statusOfRow(view.pick), look: 'is-late', "
                         "text: ['Press once more'] }); showCard()",
-                "trial": "choose(-1); document.querySelector('#look').click(); "
+                "several": "choose(-1); showKind('all'); several.serials.clear(); "
+                           "mark([...Array(rowCount).keys()].filter(i => 'WSE'.includes(statusOfRow(i))).slice(0, 5), "
+                           "true); document.querySelector('#lines').scrollIntoView({behavior: 'instant'})",
+                "trial": "clearAll(); choose(-1); document.querySelector('#look').click(); "
                          "new Promise(done => setTimeout(done, 700))",
                 "planning": "document.querySelectorAll('#trial details').forEach(one => { one.open = true; }); "
                             "document.querySelector('#planning').scrollIntoView({behavior: 'instant'})",
@@ -629,7 +632,7 @@ def looks(browser, folder, ask, pictures=None):
                 ask(not browser.js(NAMELESS), f"{look}, {step}: names", browser.js(NAMELESS))
                 if pictures:
                     browser.picture(os.path.join(pictures, f"{width}-{'dark' if dark else 'light'}-{step}.png"))
-            small = room.js("[...document.querySelectorAll('.acts button, .do')].filter(x => x.offsetHeight && "
+            small = room.js("[...document.querySelectorAll('.acts button, .do, #several .buttons button')].filter(x => x.offsetHeight && "
                             "x.offsetHeight < 36).length")
             ask(width > 760 or not small, f"{look}: buttons are large enough for a finger", small)
             ask(not room.complaints(), f"{look}: the console", room.complaints())

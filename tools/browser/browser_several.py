@@ -278,4 +278,29 @@ def card_verbs(browser, folder, ask):
     room.end()
 
 
-OF_SEVERAL = [several_by_keys, several_by_pointer, half_way, search_of_desk, card_verbs]
+def forced(browser, folder, ask):
+    """With the viewer's own few colours, what can't be undone, what is asked twice and what is chosen still look it."""
+    room = Room(browser, folder, ask)
+    room.open()
+    browser.media(forced=True)
+    ask(room.js("matchMedia('(forced-colors: active)').matches"), "the colours are forced")
+    room.js("showKind('all')")
+    errors = rows(room, "state(i) === 'E'")
+    room.js(f"choose(rowOfSerial({errors[0]}))")
+    choose_rows(room, errors)
+    edge = "[...document.querySelectorAll('{}')].map(x => getComputedStyle(x).borderLeftWidth)"
+    for box in (".acts", "#several"):
+        apart, others = (room.js(edge.format(f"{box} .buttons{which} button:not(:disabled)"))
+                         for which in (".final", ":not(.final)"))
+        ask(apart and set(apart) == {"5px"} and set(others) == {"1px"}, f"{box}: what can't be undone", (apart, others))
+    room.js("document.querySelector('.acts [data-act=complete]').click()")
+    ground = "getComputedStyle(document.querySelector('.acts [data-act={}]')).backgroundColor"
+    ask(room.js(ground.format("complete")) != room.js(ground.format("delete")), "what is asked twice",
+        room.js(ground.format("complete")))
+    line = room.js("(x => x && getComputedStyle(x).textDecorationLine)(document.querySelector('.marked .row .name'))")
+    ask(line == "underline", "what is chosen", line)
+    browser.media()
+    room.end()
+
+
+OF_SEVERAL = [several_by_keys, several_by_pointer, half_way, search_of_desk, card_verbs, forced]

@@ -101,10 +101,11 @@ class Browser:
             else:
                 return found["result"]
 
-    def media(self, dark=False, printed=False):
-        """The colours that the viewer likes, and whether it is paper."""
-        feature = {"name": "prefers-color-scheme", "value": "dark" if dark else "light"}
-        self.call("Emulation.setEmulatedMedia", media="print" if printed else "", features=[feature])
+    def media(self, dark=False, printed=False, forced=False):
+        """The colours that the viewer likes, or whose own few there are alone, and whether it is paper."""
+        features = [{"name": "prefers-color-scheme", "value": "dark" if dark else "light"},
+                    {"name": "forced-colors", "value": "active" if forced else "none"}]
+        self.call("Emulation.setEmulatedMedia", media="print" if printed else "", features=features)
 
     def size(self, width, height):
         """The size of what is seen; one that is narrow is a telephone's."""

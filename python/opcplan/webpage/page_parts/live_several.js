@@ -110,7 +110,10 @@ function onLineClick(event) {
   const isWith = event.ctrlKey || event.metaKey;
   if (!tick && !(row && (isWith || event.shiftKey))) return;
   event.stopPropagation();
-  const n = numberOf(row || tick.parentElement.querySelector('.row'));
+  const button = row || tick.parentElement.querySelector('.row'), n = numberOf(button);
+  $('#lines [tabindex="0"]')?.setAttribute('tabindex', '-1');
+  button.setAttribute('tabindex', '0');
+  button.focus({ preventScroll: true });
   if (event.shiftKey) markTo(n);
   else {
     several.anchor = keyOfLine(drawnLines[n]);
