@@ -31,7 +31,8 @@ def intentions(rnd, planner):
         near.setdefault(last, []).append(first)
     found = act_worlds.rows_of(planner)
     for _ in range(EACH):
-        verb, more = rnd.choice([verb for verb in (*VERBS, "fail", "reset", "rerun", "rerun", "complete") if fits[verb]]), {}
+        often = (*VERBS, "fail", "reset", "rerun", "rerun", "complete")
+        verb, more = rnd.choice([verb for verb in often if fits[verb]]), {}
         chosen = [rnd.choice(fits[verb])]
         for _ in range(rnd.randrange(1, 4)):
             beside = [found[one] for one in near.get(chosen[0].serial, ())]
@@ -206,7 +207,8 @@ class Words(unittest.TestCase):
                 verbs.check(wanted)
 
     def test_no_text_of_an_act(self):
-        for text in ("dp-replan\n", "cp-go --app A\n", "define periods\nA,B\n", "cp-start --app A --ia x\n", "list cp\n"):
+        for text in ("dp-replan\n", "cp-go --app A\n", "define periods\nA,B\n", "cp-start --app A --ia x\n",
+                     "list cp\n"):
             with self.assertRaises(steps.NoSteps):
                 steps.of_text(text)
 

@@ -26,7 +26,8 @@ except ImportError:  # the gate's Python may have no package
 
 NOW = moments.moment_of(data_centre.NOW)
 PARTS = ["live_asks.js", "live_acts.js", "live_doing.js", "live_verbs.js", "live_several.js", "live_search.js"]
-OWN = """const inCard = [], inAppCard = [], onFind = [], alsoDrawn = [], BOXES = [], KEYS = [], sent = [], MOST_LOOKS = 4;
+OWN = """const inCard = [], inAppCard = [], onFind = [], alsoDrawn = [], BOXES = [], KEYS = [], sent = [];
+    const MOST_LOOKS = 4;
     const showCard = () => {}, tellLink = () => {}, meaning = () => [], close = () => '', link = i => fullName(i);
     const address = () => {}, showApp = () => {}, find = () => {}, live = {}, ownKeys = new Set(), SERIAL = /^[0-9]+$/;
     const CSS = { escape: text => text };

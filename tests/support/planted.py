@@ -42,7 +42,8 @@ BUGS = (
         "  if (isSame) return { ...progress, done, isBegun: true, key: 'act-' + newKey() };",
         "test_page_doing.Doing.test_every_interleaving", "what the page counts is what was done"),
     Bug("what the page does may be other than what it showed", "webpage/page_parts/live_doing.js",
-        "    if (!again.act || !sameAct(act, again.act)) return tell(again);", "    if (!again.act) return tell(again);",
+        "    if (!again.act || !sameAct(act, again.act)) return tell(again);",
+        "    if (!again.act) return tell(again);",
         "test_page_doing.Doing.test_every_interleaving", "no statement of a part is done after a refused one"),
     # the agent's jobs
     Bug("root's groups are kept", "agent/runner.py", "extra_groups=user.groups)", "extra_groups=None)",

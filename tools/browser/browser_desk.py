@@ -632,8 +632,8 @@ def looks(browser, folder, ask, pictures=None):
                 ask(not browser.js(NAMELESS), f"{look}, {step}: names", browser.js(NAMELESS))
                 if pictures:
                     browser.picture(os.path.join(pictures, f"{width}-{'dark' if dark else 'light'}-{step}.png"))
-            small = room.js("[...document.querySelectorAll('.acts button, .do, #several .buttons button')].filter(x => x.offsetHeight && "
-                            "x.offsetHeight < 36).length")
+            small = room.js("[...document.querySelectorAll('.acts button, .do, #several .buttons button')].filter("
+                            "x => x.offsetHeight && x.offsetHeight < 36).length")
             ask(width > 760 or not small, f"{look}: buttons are large enough for a finger", small)
             ask(not room.complaints(), f"{look}: the console", room.complaints())
     heard = [name for role, name in browser.names() if role in ("button", "link", "searchbox", "combobox", "Date")]

@@ -1,5 +1,5 @@
-"""What tools/browser/desk-in-browser asks of several chosen rows, of acts that stop half way, of the search, and of runs
-that are added or moved with a deadline: by keys and by the pointer."""
+"""What tools/browser/desk-in-browser asks of several chosen rows, of acts that stop half way, of the search, and of
+runs that are added or moved with a deadline: by keys and by the pointer."""
 
 import json
 import threading
@@ -158,7 +158,8 @@ def half_way(browser, folder, ask):
             break
         told = room.js(SHOWN)
         stops += [told] if " done: " in told else []
-        room.js("document.querySelector('#several-preview :is([data-key=\"do it\"], [data-key=\"look again\"])').click()")
+        room.js("document.querySelector('#several-preview :is([data-key=\"do it\"], [data-key=\"look again\"])')"
+                ".click()")
     over.set()
     beside.join()
     if stops:
@@ -239,7 +240,8 @@ def card_verbs(browser, folder, ask):
     room.comes(ready, "its preview comes", 6)
     told = room.js(shown)
     ask(f"{behind} run" in told and "wait" in told and "can't be undone" in told, "it says who waits", told)
-    ask(room.js("document.activeElement.id") == "preview" and room.desk.health()["position"] == 0, "nothing is done yet")
+    ask(room.js("document.activeElement.id") == "preview" and room.desk.health()["position"] == 0,
+        "nothing is done yet")
     browser.key("Enter", 2)
     ask(room.desk.health()["position"] == 0, "Enter does nothing")
     clicked_at(room, ready)
@@ -250,8 +252,8 @@ def card_verbs(browser, folder, ask):
     room.js(f"showApp(D.apps.findIndex(one => one[0] === '{app}'))")
     day = f"isoDay({last})"
     room.js(f"((day) => {{ for (const [name, value] of [['day', day], ['time', '03:33'], ['due time', '04:44']]) {{"
-            f"const one = inputOf('add app {app} ' + name); one.value = value; one.dispatchEvent(new Event('input')); }}"
-            f"}})({day}); document.querySelector('[data-verb=add]').focus()")
+            f"const one = inputOf('add app {app} ' + name); one.value = value; "
+            f"one.dispatchEvent(new Event('input')); }} }})({day}); document.querySelector('[data-verb=add]').focus()")
     browser.key("Enter")
     room.comes(f"{ready} || {shown}.length > 40", "a preview of an addition comes", 6)
     ask(room.js("document.activeElement.id") == "preview", "it has the focus", room.js(shown))
@@ -271,8 +273,8 @@ def card_verbs(browser, folder, ask):
     room.comes(f"{ready}", "a preview of a move with a deadline comes", 6)
     app, day = room.js(f"(i => [name(i), dayOf(ia[i])])(rowOfSerial({planned}))")
     room.js(f"{ready}.click()")
-    room.comes(f"[...Array(rowCount).keys()].some(i => name(i) === '{app}' && dayOf(ia[i]) === {day} && clock(ia[i]) === "
-               "'05.55' && clock(due[i]) === '07.07' && state(i) === 'L')", "it is moved with it", 8)
+    room.comes(f"[...Array(rowCount).keys()].some(i => name(i) === '{app}' && dayOf(ia[i]) === {day} && clock(ia[i]) "
+               "=== '05.55' && clock(due[i]) === '07.07' && state(i) === 'L')", "it is moved with it", 8)
     room.same("a move with a deadline")
     ask(not room.complaints(), "the console", room.complaints())
     room.end()

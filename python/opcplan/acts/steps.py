@@ -83,7 +83,8 @@ def of_item(item: stream.Item) -> Step:
     """The step of an item. Raises NoSteps."""
     asked = item.statement
     if asked is None or item.has_data and item.data is None:
-        raise NoSteps(f"line {item.line} of the stream is no statement of an act: {item.wrong or 'its data have no end'}")
+        why = item.wrong or "its data have no end"
+        raise NoSteps(f"line {item.line} of the stream is no statement of an act: {why}")
     if asked.name == "define":
         return Step("define", "", None, asked.kind, (item.data or b"").decode("utf-8", "replace"))
     if asked.name == "undefine":

@@ -27,7 +27,7 @@ function noteAnswers({ parts, order }, answers) {
   });
 }
 
-/** What is left of an act: the same stream under the same key if that goes on with it, else the rest under a new one. */
+/** What is left of an act: the same stream under the same key if that goes on with it, else the rest under another. */
 function restOf(progress) {
   const { parts, order } = progress, left = openOf(parts), done = order.length - left.length;
   const isAnswered = order.slice(0, done).every(([p, t]) => isOk(parts[p].replies[t] ?? ''));

@@ -42,8 +42,8 @@ function whyFound(text, { row, choices, why }) {
   return choices.length ? choices.length + ' runs fit ' + text + '.' : why;
 }
 
-const meantText = ({ app: title, ia: arrival, place, serial: number }) => title + ' ' + arrival.replace('/', ' ') + ', ' +
-  PLACES[place] + ' (serial ' + number + ')';
+const meantText = ({ app: title, ia: arrival, place, serial: number }) => title + ' ' + arrival.replace('/', ' ') +
+  ', ' + PLACES[place] + ' (serial ' + number + ')';
 
 /** A run that the desk names: a button if the page has it. */
 function foundLine(row) {

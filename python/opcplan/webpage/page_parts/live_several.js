@@ -1,4 +1,4 @@
-// Several rows of the day, chosen by keys or by the pointer, and the bar with what can be done with all of them at once.
+// Several rows of the day, chosen by keys or by the pointer, and the bar with what can be done with all of them.
 // The rows are a treegrid: the arrows move, Space chooses, Shift with an arrow chooses on, Ctrl+A all that are shown.
 const MOST_CHOSEN = 200;
 const SEVERAL = [
@@ -49,8 +49,8 @@ function markLines() {
   const box = $('#lines .rows');
   if (!box?.matches('.choosing')) return;
   [...box.querySelectorAll('.tick input')].forEach(tick => {
-    const rows = rowsOfLine(drawnLines[+tick.dataset.n]), count = rows.filter(isMarked).length, item = tick.closest('li');
-    const isAll = count === rows.length;
+    const rows = rowsOfLine(drawnLines[+tick.dataset.n]), count = rows.filter(isMarked).length;
+    const item = tick.closest('li'), isAll = count === rows.length;
     Object.assign(tick, { checked: isAll, indeterminate: count > 0 && !isAll });
     for (const one of [item, item.querySelector('.row')]) one.setAttribute('aria-selected', String(isAll));
     item.classList.toggle('marked', isAll);
