@@ -23,7 +23,7 @@ LINES = (START, COMPLETE, FAIL, "list cp --app APP00\n", "list links\n", "x\n", 
          "undefine calendars --name C\n", "days --app APP01 --from 2024-01-01 --to 2024-01-03\n", "cp-start\n")
 # of the fuzz: seeds, and requests for each operation; the slow ones start a process
 SEEDS, EACH, EACH_SLOW = range(2), 12, 2
-SLOW = {"/acts", "/", "/page/data", "/status", "/snapshot", "/metrics"}
+SLOW = {"/acts", "/edits", "/", "/page/data", "/status", "/snapshot", "/metrics"}
 REPORT = {"idle": {"1": {"why": "place", "text": "t", "where": "w"}}, "unknown": {"2": "u"}, "trouble": "t"}
 ROLL = {"outcome": "stopped", "end": "2024-01-03/00.00", "ahead": 1, "reserve": 2, "every": 3, "why": "w"}
 CALLS = {"watch": "w", "undelivered": [{"id": "i", "target": "t", "since": 1.5, "tries": 1, "why": "w"}]}
@@ -86,6 +86,7 @@ class Document(desks.Case):
         self.check("POST", "/statements", COMPLETE, Idempotency_Key="key-text/plain")
         self.check("POST", "/statements", "x" * (33 << 20))
         self.check_acts()
+        self.check_edits()
         for name, body in (("agent", REPORT), ("roll", ROLL), ("calls", CALLS)):
             self.check("PUT", f"/reports/{name}", json.dumps(body), X_Opcplan_Agent="a1")
             self.check("PUT", f"/reports/{name}", "{")
@@ -130,6 +131,21 @@ class Document(desks.Case):
         self.assertEqual(self.check("POST", "/acts", do, token="read", If_Match=found["tag"])[0], 403)
         self.assertEqual(self.check("POST", "/acts", json.dumps({"verb": "go"}))[0], 400)
         self.check("POST", "/acts", "{")
+
+    def check_edits(self):
+        """Asks edits: a preview, what can't be done, and what is done in a state."""
+        words = ["run-cycle", "APP02", "RC", "rule=E", "ia=09.00"]
+        found = json.loads(self.check("POST", "/edits", json.dumps({"edit": words}))[2])
+        self.assertEqual([one["app"] for one in found["edit"]["apps"]], ["APP02"])
+        span = {"edit": ["calendar", "NONE", "MON", "free"], "from": "2024-01-01", "to": "2024-01-31"}
+        self.assertTrue(json.loads(self.check("POST", "/edits", json.dumps(span))[2])["why_not"])
+        do = json.dumps({"stream": found["edit"]["stream"]})
+        self.assertEqual(self.check("POST", "/edits", do, If_Match='"x"')[0], 412)
+        self.assertEqual(self.check("POST", "/edits", do, token="operate", If_Match=found["tag"])[0], 403)
+        done = self.check("POST", "/edits", do, If_Match=found["tag"], Idempotency_Key="an-edit")
+        self.assertTrue(json.loads(done[2])["is_whole"], done)
+        self.assertEqual(self.check("POST", "/edits", do)[0], 400)
+        self.check("POST", "/edits", "{")
 
     def test_answers_to_requests_at_random(self):
         for seed in SEEDS:

@@ -29,7 +29,7 @@ def line_of(kind):
 
 # a body that each route takes
 BODIES = {"/statements": "list cp\n", "/acts": '{"verb": "start", "of": "APP00"}', "/logs/{serial}": "list cp\n",
-          "/reports/agent": "{}",
+          "/edits": '{"edit": ["options", "max_extension_hours=48"]}', "/reports/agent": "{}",
           "/reports/calls": '{"undelivered": []}', "/reports/roll": json.dumps(
               {"outcome": "done", "end": f"{DAY}/06.00", "ahead": 2880, "reserve": 60, "every": 1440, "why": ""})}
 

@@ -20,6 +20,7 @@ from opcplan.acts import loaded, undoing, values, verbs
 from opcplan.acts.verbs import Intention
 from opcplan.commands import ready
 from opcplan.desk import client, requests
+from opcplan.edits import days as edit_days, previews as edit_previews
 from opcplan.errors import Error, Unreadable
 from opcplan.plans import plan_definitions, plan_file, waits
 from opcplan.rules import moments, statuses
@@ -113,6 +114,41 @@ class Act:
         return len(self.answers) == count and all(one.ok for one in self.answers)
 
 
+@dataclasses.dataclass(frozen=True)
+class EditDays:
+    """The days of an application before and after an edit: those on which its runs go, those on which runs come, those
+    that stay as they are, and those on which other runs are named instead, with another time, deadline or run cycle."""
+
+    app: str
+    goes: tuple[datetime.date, ...]
+    comes: tuple[datetime.date, ...]
+    stays: tuple[datetime.date, ...]
+    other: tuple[datetime.date, ...]
+
+
+@dataclasses.dataclass(frozen=True)
+class Edit:
+    """What an edit of definitions does: its words, its statements as a stream without job numbers, what changes and
+    what stays in sentences, the days of each application that it concerns, the planning statement that takes it into
+    the long-term plan (None if none does), the stream that gives the definitions as they were, and the words of the
+    edit that takes it back (None if no single one does). `answers` has those of a desk that did it."""
+
+    words: tuple[str, ...]
+    stream: str
+    sentences: tuple[str, ...]
+    days: tuple[EditDays, ...]
+    modify: str | None
+    inverse: str
+    edit_back: tuple[str, ...] | None
+    answers: tuple[Answer, ...] = ()
+
+    @property
+    def ok(self) -> bool:
+        """Whether a desk accepted each of its statements."""
+        count = len(requests.of_stream(self.stream.encode()))
+        return len(self.answers) == count and all(one.ok for one in self.answers)
+
+
 class NotDoable(Error):
     """Why there is no act: the plan doesn't allow it, or several rows fit (`choices`), or none does."""
 
@@ -176,6 +212,14 @@ class Plan:
         at = moments.now() if now is None else minutes_of(now)
         wanted = intention_of(verb, of, to, due, chain, followers)
         return act_of(values.answer(loaded.world_of(self._plan), wanted, at, [], None))
+
+    def edit(self, *words: str, first: datetime.date | str | None = None, last: datetime.date | str | None = None,
+             now: Moment | None = None) -> Edit:
+        """What an edit of the definitions would do, in the words of `./plan edit` (`"calendar", "DEFAULT",
+        "2027-12-24", "free"`), with the days before and after it from `first` to `last`, else of a year. Nothing is
+        done: its stream is for opcplan. Raises Plan.NotDoable and ValueError."""
+        at = moments.now() if now is None else minutes_of(now)
+        return edit_of(edit_previews.answer(loaded.world_of(self._plan), edit_asked(words, first, last), at))
 
     def definitions(self) -> Definitions:
         """The definitions, as opcplan.rules.definitions has them: days are numbers since 1970-01-01."""
@@ -243,6 +287,32 @@ class Desk:
                     raise
         raise client.RequestRefused(CHANGED, "the plan has changed, and the act would now do something else")
 
+    def edit(self, *words: str, first: datetime.date | str | None = None, last: datetime.date | str | None = None,
+             dry_run: bool = False) -> Edit:
+        """Does an edit of the definitions, in the words of `./plan edit`; with `dry_run` it only says what it would do.
+        If somebody else changes the plan, it is done all the same as long as it would do the same. It isn't in the
+        long-term plan before its statement `modify` is sent. Raises Desk.NotDoable, ValueError, and Desk.Refused with
+        status 412 if others keep changing what it would do."""
+        asked = json.dumps(edit_asked(words, first, last)).encode()
+        before: Edit | None = None
+        for _ in range(MOST_SENT):
+            _, body = self._client.request("POST", "/edits", asked)
+            found = json.loads(body)
+            made = edit_of(found)
+            if dry_run:
+                return made
+            if before is not None and made != before:
+                break
+            before = made
+            heads = {"If-Match": found["tag"], "Idempotency-Key": f"{undoing.ACT_KEY}{secrets.token_hex(16)}"}
+            try:
+                _, body = self._client.request("POST", "/edits", json.dumps({"stream": made.stream}).encode(), heads)
+                return dataclasses.replace(made, answers=tuple(map(answer_of, json.loads(body)["answers"])))
+            except client.RequestRefused as why:
+                if why.status != CHANGED:
+                    raise
+        raise client.RequestRefused(CHANGED, "the plan has changed, and the edit would now do something else")
+
     def log(self, serial: int) -> str:
         """The ends of the logs of an occurrence's job, one try after the other, as agents sent them to the desk; empty
         if none did. It needs the role `operate`."""
@@ -283,6 +353,38 @@ def act_of(found: Mapping[str, Any]) -> Act:
     row = None if act["row"] is None else row_of_act(act["row"])
     return Act(act["verb"], row, act["stream"], tuple(act["lines"]), tuple(act["notes"]), changes, act["waiting"],
                act["inverse"], act["why_not"])
+
+
+def edit_asked(words: tuple[str, ...], first: datetime.date | str | None, last: datetime.date | str | None
+               ) -> dict[str, Any]:
+    """What a desk is asked for an edit. Raises ValueError."""
+    asked = {"edit": list(words), "from": day_text(first), "to": day_text(last)}
+    found = {name: value for name, value in asked.items() if value is not None}
+    try:
+        edit_previews.asked_of(found)
+    except edit_previews.InvalidEdit as why:
+        raise ValueError(str(why)) from None
+    return found
+
+
+def edit_of(found: Mapping[str, Any]) -> Edit:
+    """The Edit of an answer. Raises NotDoable."""
+    made = found["edit"]
+    if made is None:
+        raise NotDoable(found["why_not"])
+    first, back = datetime.date.fromisoformat(made["first"]), made["edit_back"]
+    return Edit(tuple(made["edit"]), made["stream"], tuple(made["sentences"]),
+                tuple(edit_days_of(one, first) for one in made["apps"]), made["modify"], made["inverse"],
+                None if back is None else tuple(back))
+
+
+def edit_days_of(found: Mapping[str, Any], first: datetime.date) -> EditDays:
+    """The EditDays of an application in an answer, whose first sign is that of a day."""
+    def dates(sign: str) -> tuple[datetime.date, ...]:
+        return tuple(first + datetime.timedelta(place) for place, one in enumerate(found["signs"]) if one == sign)
+
+    return EditDays(found["app"], dates(edit_days.GOES), dates(edit_days.COMES), dates(edit_days.SAME),
+                    dates(edit_days.OTHER))
 
 
 def row_of_act(fields: Mapping[str, Any]) -> Row:

@@ -192,6 +192,10 @@ class World:
     def define(self, step: Step) -> str:
         """Takes the definitions of a block."""
         block = blocks.read(step.kind, step.data.encode())
+        if step.kind == "options":
+            name, hours = block.defined["default_calendar"], block.defined["max_extension_hours"]
+            self.defined = dataclasses.replace(self.defined, default_calendar=name, max_hours=hours)
+            return "ok defined 1"
         held = HELD[step.kind]
         defined = {**getattr(self.defined, held), **block.defined}
         self.defined = dataclasses.replace(self.defined, **{held: defined})

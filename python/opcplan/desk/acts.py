@@ -27,7 +27,7 @@ from opcplan.plans.program import PYTHON
 if TYPE_CHECKING:
     from opcplan.desk.core import Desk
 
-PROCESS = [sys.executable, "-E", "-B", "-m", "opcplan.desk.acts_process"]
+PROCESS = "opcplan.desk.acts_process"
 MOST_BYTES = 1 << 20
 LONGEST = 120
 
@@ -42,10 +42,12 @@ class Asked(NamedTuple):
 
 
 class Answered(NamedTuple):
-    """The answers to statements as objects of JSON, and the state of the plan after the last one."""
+    """The answers to statements as objects of JSON, the state of the plan after the last one, and whether each
+    statement has one."""
 
     found: list[dict[str, Any]]
     state: body.PlanState
+    is_whole: bool = True
 
 
 class Acts:
@@ -88,7 +90,7 @@ class Acts:
                     with contextlib.suppress(LogUnwritable):  # then the last entries can't be undone for now
                         await self.desk.keep_replies()
                 words = [copy, os.path.abspath(self.journal), str(stands.position), request["who"]]
-                found = await found_by(words, look)
+                found = await found_by(PROCESS, words, look)
         state = body.PlanState(stands.tag, stands.position)
         return answer({**found, "answers": [], "is_whole": False}, state)
 
@@ -96,6 +98,13 @@ class Acts:
 
     async def do(self, request: web.Request, stream: bytes, tag: str, key: str | None) -> web.StreamResponse:
         """Does the statements of a preview in the state of a tag. Raises StatementRejected and PlannerStopped."""
+        done = await self.done(request, stream, tag, key)
+        values = {"act": None, "found": None, "why_not": "", "answers": done.found, "is_whole": done.is_whole}
+        return answer(values, done.state)
+
+    async def done(self, request: web.Request, stream: bytes, tag: str, key: str | None) -> Answered:
+        """The answers to the statements of a preview, done in the state of a tag. Raises StatementRejected and
+        PlannerStopped."""
         try:
             items = requests.of_stream(stream)
         except requests.BadStream as why:
@@ -112,9 +121,7 @@ class Acts:
             if not taken.take_at_once():
                 self.keep(asyncio.create_task(taken.take()))
             found = await answers_of(taken)
-        values = {"act": None, "found": None, "why_not": "", "answers": found.found,
-                  "is_whole": len(found.found) == len(items)}
-        return answer(values, found.state)
+        return found._replace(is_whole=len(found.found) == len(items))
 
 
 async def answers_of(taken: body.Body) -> Answered:
@@ -157,11 +164,11 @@ def of_body(data: bytes) -> Asked:
     return Asked(None, found["stream"].encode("utf-8", "replace"))
 
 
-async def found_by(words: list[str], look: dict[str, Any]) -> dict[str, Any]:
-    """What the process finds. Raises HTTPServiceUnavailable."""
+async def found_by(module: str, words: list[str], look: dict[str, Any]) -> dict[str, Any]:
+    """What the process of a module finds. Raises HTTPServiceUnavailable."""
     process = await asyncio.create_subprocess_exec(
-        *PROCESS, *words, cwd=PYTHON, stdin=asyncio.subprocess.PIPE, stdout=asyncio.subprocess.PIPE,
-        stderr=asyncio.subprocess.PIPE)
+        sys.executable, "-E", "-B", "-m", module, *words, cwd=PYTHON, stdin=asyncio.subprocess.PIPE,
+        stdout=asyncio.subprocess.PIPE, stderr=asyncio.subprocess.PIPE)
     try:
         text = json.dumps(look).encode()
         out, said = await asyncio.wait_for(process.communicate(text), LONGEST)

@@ -4,10 +4,10 @@ from collections.abc import Sequence
 
 from opcplan.webpage import page_html
 
-STYLES = [*page_html.STYLES, "live.css"]
+STYLES = [*page_html.STYLES, "live.css", "live_edits.css"]
 SCRIPTS = [*page_html.SCRIPTS[:-1], "live_model.js", "live_place.js", "live_asks.js", "live_needs.js", "live_acts.js",
            "live_doing.js", "live_verbs.js", "live_several.js", "live_search.js", "live_logs.js", "live_trials.js",
-           "live_events.js", page_html.SCRIPTS[-1], "live_start.js"]
+           "live_year.js", "live_edits.js", "live_events.js", page_html.SCRIPTS[-1], "live_start.js"]
 SIGN_STYLES, SIGN_SCRIPTS = ["colours.css", "sign_in.css"], ["sign_in.js"]
 MORE = "connect-src 'self'; "
 

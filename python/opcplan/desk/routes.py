@@ -96,6 +96,11 @@ ROUTES = (
           "statements that do it and what they would do, and nothing is done. With `If-Match` and the `stream` of that "
           "answer the desk does them; each needs its role", OF_STATEMENTS, body=JSON,
           statuses=("408", "409", "412", "413"), is_of_state=True),
+    Route("POST", "/edits", Role.READ, "edits.handle", JSON,
+          "the body has in `edit` the words of a change of definitions, as `./plan edit` takes them (`EDITS.md`). The "
+          "answer has the statements that make it, and the days before and after it; nothing is done. With `If-Match` "
+          "and the `stream` of that answer the desk does them, which needs the role `plan`", OF_STATEMENTS, body=JSON,
+          statuses=("408", "409", "412", "413"), is_of_state=True),
     Route("GET", "/", Role.READ, "page.whole", HTML,
           "the live page, for a browser (`DESK_PAGE.md`); without a token the page that asks for one", (NOW, FRESH),
           lesser="page.sign_in", is_open=True, is_of_state=True),

@@ -7,6 +7,7 @@ from typing import Any, NamedTuple
 
 from opcplan.acts import previews, values, verbs
 from opcplan.desk import routes
+from opcplan.edits import previews as edit_previews
 from opcplan.needs import facts, need
 from opcplan.rules import columns, statements
 from opcplan.webpage import page_values
@@ -107,6 +108,15 @@ COMPONENTS: Mapping[str, Schema] = {
         changes=listed(record(was=maybe(ref("ActRow")), row=ref("ActRow"))),
         waits=listed(record(row=ref("ActRow"), was=listed(ref("ActRow")), now=listed(ref("ActRow")))),
         waiting=COUNT, notes=listed(TEXT), lines=listed(TEXT), inverse=maybe(TEXT), why_not=TEXT)},
+    "Run": {"description": "a run that the definitions name", **record(ia=MOMENT, deadline=MOMENT, run_cycle=TEXT)},
+    "AppDays": {"description": "the days of an application before and after an edit: a sign for each", **record(
+        app=TEXT, signs={"type": "string", "pattern": "^[ =+~.-]*$"}, goes=COUNT, comes=COUNT, stays=COUNT, other=COUNT,
+        differences=listed(record(day=DAY, was=listed(ref("Run")), now=listed(ref("Run")))), obstacle_before=TEXT,
+        obstacle=TEXT)},
+    "Edit": {"description": "what an edit does, before it is done", **record(
+        edit=listed(TEXT), stream=TEXT, role=ROLE, statements=listed(TEXT), sentences=listed(TEXT), modify=maybe(TEXT),
+        first=DAY, last=DAY, begin=maybe(MOMENT), apps=listed(ref("AppDays")), inverse=TEXT,
+        edit_back=maybe(listed(TEXT)))},
 }
 EVENTS: Schema = {"description": "one event; `data` is JSON", "anyOf": [
     record(id=TEXT, event={"const": "entry"}, data=ref("Entry")), record(event={"const": "state"}, data=ref("State"))]}
@@ -127,6 +137,7 @@ ACTS: Schema = record(**STATE, act=maybe(ref("Act")), why_not=TEXT, answers=list
                       found=maybe(record(choices=listed(ref("ActRow")), row=maybe(ref("ActRow")), why=TEXT,
                                          before=maybe(ref("ActRow")), after=maybe(ref("ActRow")),
                                          lines=listed(TEXT))))
+EDITS: Schema = record(**STATE, edit=maybe(ref("Edit")), why_not=TEXT, answers=listed(ref("Answer")), is_whole=FLAG)
 DOCUMENT: Schema = record(openapi=TEXT, info=record(title=TEXT, version=TEXT), paths=by_name({"type": "object"}),
                           components={"type": "object"})
 # what callers send
@@ -145,6 +156,10 @@ OF_ACTS: Schema = {"anyOf": [
             "entry": {"type": "integer", "minimum": 1, "maximum": values.MOST_ENTRY}},
            verb={"enum": list(verbs.VERBS)}),
     record(of=TEXT), record({"done": {"type": "integer", "minimum": 0, "maximum": values.MOST_DONE}}, stream=TEXT)]}
+OF_EDITS: Schema = {"anyOf": [
+    record({"from": DAY, "to": DAY}, edit={"type": "array", "items": {**TEXT, "maxLength": edit_previews.MOST_TEXT},
+                                           "minItems": 1, "maxItems": edit_previews.MOST_WORDS}),
+    record(stream=TEXT)]}
 OF_CALLS: Schema = record({"watch": TEXT}, undelivered=listed(record(
     id=TEXT, target=TEXT, since={"type": "number", "minimum": 0, "maximum": 1 << 32}, tries=OF_NUMBER, why=TEXT)))
 
@@ -158,6 +173,7 @@ class Bodies(NamedTuple):
 
 
 BODIES: Mapping[str, Bodies] = {
+    "post_edits": Bodies({routes.JSON: EDITS}, OF_EDITS),
     "post_acts": Bodies({routes.JSON: ACTS}, OF_ACTS),
     "post_statements": Bodies({routes.TEXT: TEXT, routes.LINES: ref("Answer")}, TEXT),
     "get_page": Bodies({routes.HTML: TEXT}),

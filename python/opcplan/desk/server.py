@@ -15,7 +15,8 @@ from typing import Any
 from aiohttp import web
 
 from opcplan.cli import signals, version
-from opcplan.desk import acts, body, bootstrap, connections, core, guard, job_tails, local_log, log_words, openapi, page
+from opcplan.desk import acts, body, bootstrap, connections, core, edits, guard, job_tails, local_log, log_words
+from opcplan.desk import openapi, page
 from opcplan.desk import reports, requests, routes, rows, shares, snapshot, status, versions
 from opcplan.desk.agents import Caller
 from opcplan.desk.errors import StatementRejected
@@ -47,6 +48,7 @@ class Server:
         self.streams: set[asyncio.Task[None]] = set()
         self.connections = connections.Connections()
         self.acts = acts.Acts(desk, given.plan, given.journal, self.keep)
+        self.edits = edits.Edits(self.acts)
         self.page = page.Page(desk, given.plan, the_guard.tokens is not None)
         self.status = status.Status(desk, given.plan, given.journal, given.by_usual)
         self.tails = job_tails.JobTails(desk, job_logs.beside(given.plan), given.job_logs << 20)
