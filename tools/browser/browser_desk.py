@@ -15,6 +15,7 @@ from opcplan.desk import client
 from opcplan.rules import moments
 from opcplan.webpage import page_data
 
+import browser_edits
 from browser_checks import SIZES
 from browser_plans import FAINT, NAMELESS
 
@@ -676,4 +677,11 @@ def large(browser, folder, ask):
     room.end()
 
 
-OF_DESKS = [another_caller, needs, place, buttons, final, verbs, logs, trials, roles, gone, clock, large]
+def edits(browser, folder, ask):
+    """Changes of definitions from the card of an application."""
+    room = Room(browser, folder, ask)
+    browser_edits.check(room, os.environ.get("EDITS_PICTURES"))
+    room.end()
+
+
+OF_DESKS = [another_caller, needs, place, buttons, final, verbs, edits, logs, trials, roles, gone, clock, large]
