@@ -11,12 +11,13 @@ from collections.abc import Mapping
 from typing import Any, NamedTuple
 
 from opcplan.rules import moments, naming
-from opcplan.rules.definitions import FIRST_DAY, LAST_DAY, Definitions
+from opcplan.rules.definitions import FIRST_DAY, LAST_DAY, Definitions, RunCycle
 
 SAME, GOES, COMES, OTHER, NONE, PLANNED = "=", "-", "+", "~", ".", " "
 MONTHS = 12  # of a span that nobody names
 MOST_DAYS = 1_462
-MOST_SHOWN = 62  # days of one application whose runs are shown
+# days of one application whose runs are shown, and applications of which any are
+MOST_SHOWN, MOST_APPS = 62, 50
 
 
 class Span(NamedTuple):
@@ -65,10 +66,10 @@ class AppDays(NamedTuple):
     differences: tuple[Difference, ...]
     obstacles: tuple[str, str]
 
-    def values(self) -> dict[str, Any]:
-        """As JSON has it."""
+    def values(self, most: int = MOST_SHOWN) -> dict[str, Any]:
+        """As JSON has it, with the runs of at most so many days."""
         shown = [{"day": moments.day_text(one.day), "was": [run.values() for run in one.was],
-                  "now": [run.values() for run in one.now]} for one in self.differences[:MOST_SHOWN]]
+                  "now": [run.values() for run in one.now]} for one in self.differences[:most]]
         count = self.signs.count
         return {"app": self.app, "signs": self.signs, "goes": count(GOES), "comes": count(COMES),
                 "stays": count(SAME), "other": count(OTHER), "differences": shown,
@@ -105,30 +106,37 @@ def concerned(before: Definitions, after: Definitions) -> list[str]:
 
 
 class Namer:
-    """The runs that definitions name, of applications that are alike once."""
+    """The runs that definitions name. Which days a run cycle names is found once for all that are alike but for their
+    names and times, because an installation has thousands of run cycles, and few such kinds."""
 
     def __init__(self, defined: Definitions, span: Span) -> None:
         self.defined, self.span = defined, span
-        self.found: dict[str, dict[int, Runs]] = {}
+        self.found: dict[tuple[object, ...], frozenset[int]] = {}
 
     def runs(self, app: str) -> Mapping[int, Runs]:
         """The runs of an application by day."""
-        if naming.obstacle_of(self.defined, app) is not None or not self.defined.run_cycles.get(app):
+        if naming.obstacle_of(self.defined, app) is not None:
             return {}
-        key = repr((self.defined.calendar_name(app), sorted(self.defined.run_cycles[app].items())))
-        if key not in self.found:
-            self.found[key] = dict(self.named(app))
-        return self.found[key]
-
-    def named(self, app: str) -> dict[int, Runs]:
-        """The runs of an application by day, found anew."""
+        naming_by_day: dict[int, list[RunCycle]] = {}
+        for _, cycle in sorted(self.defined.run_cycles.get(app, {}).items()):
+            for day in self.days(app, cycle):
+                naming_by_day.setdefault(day, []).append(cycle)
         found = {}
-        for day in self.span.days:
+        for day, cycles in sorted(naming_by_day.items()):
             runs = [Run(day * moments.DAY + one.time, one.deadline, one.cycle.name)
-                    for one in naming.names(self.defined, app, day).times if not one.excluded_by]
+                    for one in naming.times_of(cycles, day) if not one.excluded_by]
             if kept := tuple(run for run in runs if run.ia >= self.span.begin):
                 found[day] = kept
         return found
+
+    def days(self, app: str, cycle: RunCycle) -> frozenset[int]:
+        """The days that a run cycle of an application names."""
+        key = (self.defined.calendar_name(app), cycle.period, cycle.rule, tuple(cycle.offsets), cycle.in_effect,
+               cycle.out_effect)
+        if key not in self.found:
+            period, work = self.defined.periods[cycle.period], self.defined.work_days(app)
+            self.found[key] = frozenset(day for day in self.span.days if naming.answer(cycle, period, work, day).names)
+        return self.found[key]
 
 
 def sign(was: Runs, now: Runs) -> str:

@@ -54,7 +54,9 @@ class Preview(NamedTuple):
             "edit": list(self.words), "stream": self.stream, "role": steps.role_of(self.steps).name.lower(),
             "statements": [step.line for step in self.steps], "sentences": list(self.sentences),
             "modify": self.modify, "first": moments.day_text(self.span.first), "last": moments.day_text(self.span.last),
-            "begin": moments.moment_word(begin) if begin else None, "apps": [one.values() for one in self.apps],
+            "begin": moments.moment_word(begin) if begin else None,
+            "apps": [one.values(days.MOST_SHOWN if place < days.MOST_APPS else 0)
+                     for place, one in enumerate(self.apps)],
             "inverse": steps.text_of(self.inverse),
             "edit_back": None if self.edit_back is None else list(self.edit_back),
         }

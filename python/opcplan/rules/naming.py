@@ -5,7 +5,7 @@ answer's parts mean in words stands in naming_words.py.
 """
 
 import dataclasses
-from collections.abc import Callable, Iterable
+from collections.abc import Callable, Iterable, Sequence
 
 from opcplan.rules.definitions import FIRST_DAY, LAST_DAY, Definitions, Interval, Period, RunCycle, WorkDays
 
@@ -89,7 +89,11 @@ def names(defined: Definitions, app: str, day: int) -> DayNames:
     work = defined.work_days(app)
     cycles = [cycle for _, cycle in sorted(defined.run_cycles.get(app, {}).items())]
     answers = tuple(answer(cycle, defined.periods.get(cycle.period), work, day) for cycle in cycles)
-    naming = [found.cycle for found in answers if found.names]
+    return DayNames(obstacle, answers, times_of([found.cycle for found in answers if found.names], day))
+
+
+def times_of(naming: Sequence[RunCycle], day: int) -> tuple[Named, ...]:
+    """The times at which run cycles that name a day do so, in the order of their names."""
     times = []
     for time in sorted({cycle.time for cycle in naming if not cycle.excludes}):
         first, *others = [cycle for cycle in naming if cycle.time == time and not cycle.excludes]
@@ -97,7 +101,7 @@ def names(defined: Definitions, app: str, day: int) -> DayNames:
         assert first.due is not None, "a run cycle that excludes nothing has a deadline"
         deadline = (day + first.due.days) * 1440 + first.due.minute
         times.append(Named(time, first, deadline, tuple(cycle.name for cycle in others), excluded_by))
-    return DayNames(obstacle, answers, tuple(times))
+    return tuple(times)
 
 
 def obstacle_of(defined: Definitions, app: str) -> str | None:
