@@ -17,7 +17,7 @@ from typing import NamedTuple
 
 # what decides whether a plan is sound, below the package
 RULES = ("plans/page_sums.py", "plans/plan_file.py", "plans/sound_pairs.py", "plans/sound_rows.py",
-         "plans/successions.py", "rules/definitions.py", "rules/loops.py")
+         "plans/successions.py", "plans/table_checks.py", "rules/definitions.py", "rules/loops.py")
 PACKAGE = os.path.dirname(os.path.dirname(os.path.abspath(__file__)))
 FOLDER, PART = "opcplan", ".part"
 MOST_KEPT, LONGEST = 500, 4096

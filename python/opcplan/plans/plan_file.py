@@ -18,7 +18,7 @@ from collections.abc import Callable, Iterator
 from typing import NamedTuple, TypeVar
 
 from opcplan.errors import Error, Unreadable
-from opcplan.plans import kept_checks, page_sums, progress, sound_pairs, sound_rows, tempfiles
+from opcplan.plans import kept_checks, page_sums, progress, sound_pairs, sound_rows, table_checks, tempfiles
 
 T = TypeVar("T")  # what is made of a plan
 
@@ -238,17 +238,28 @@ def checked(path: str, db: sqlite3.Connection, copy: str, state: State, by_progr
     with progress.of(f"checks {path}") as far:
         ask_sums(db, copy)
         plan = Plan(path, db, state.written, checking)
-        ask_rows(plan, far)
+        ask_rows(plan, copy, far)
     keep(plan)
     return plan
 
 
-def ask_rows(plan: Plan, far: progress.Progress) -> None:
-    """Asks that the rows of a plan are sound. Raises Unsound."""
-    for done in sound_rows.asked(plan.db, plan.version):
-        far.at(done * ROWS_SHARE)
-    for done in sound_pairs.asked(plan.db, plan.version):
-        far.at(ROWS_SHARE + done * (1 - ROWS_SHARE))
+def ask_rows(plan: Plan, copy: str, far: progress.Progress) -> None:
+    """Asks that the tables of a plan, of which there is a private copy, are undamaged, and that its rows are sound.
+    Raises Unsound."""
+    count = len(sound_rows.RULES)
+    with table_checks.TableChecks(copy, plan.db.interrupt) as tables:
+        begun = 1  # of so many tables the rows are asked for
+        try:
+            tables.begin(begun)
+            for done in sound_rows.asked(plan.db, plan.version):
+                far.at(done * ROWS_SHARE)
+                tables.begin(begun := min(begun + 1, count))
+            for done in sound_pairs.asked(plan.db, plan.version):
+                far.at(ROWS_SHARE + done * (1 - ROWS_SHARE))
+        except Exception:
+            tables.wait(begun)
+            raise
+        tables.wait(count)
 
 
 def check(plan: Plan) -> None:
@@ -258,7 +269,7 @@ def check(plan: Plan) -> None:
         return
     with progress.of(f"checks {plan.path}") as far:
         ask_sums(plan.db, plan.checking.copy)
-        ask_rows(plan, far)
+        ask_rows(plan, plan.checking.copy, far)
     keep(plan)
 
 

@@ -24,22 +24,26 @@ EXPECTED = (
     COUNTED.format(f"coalesce(({IS_THERE} FROM ({LATEST.format('ltp_row')}) AS near), {PAST})", "ltp_row"),
     COUNTED.format(PAST, "(SELECT serial, app, ia FROM cp_row WHERE status = 'W')"),
 )
-# of what is no longer open
-CLOSED = ("history_row", "(SELECT serial, app, ia FROM cp_row WHERE status IN ('S', 'E', 'C'))")
+# of what is no longer open: history by its pairs, in their order, since most rows are history; of the current plan by rows
+CLOSED = ("dependency AS pair CROSS JOIN history_row AS row ON row.serial = pair.successor",
+          "(SELECT serial, app, ia FROM cp_row WHERE status IN ('S', 'E', 'C')) AS row "
+          "CROSS JOIN dependency AS pair ON pair.successor = row.serial")
 OF_CLOSED = (
-    "FROM {0} AS row CROSS JOIN dependency AS pair ON pair.successor = row.serial "
-    "LEFT JOIN history_row AS past ON past.serial = pair.predecessor "
-    "LEFT JOIN cp_row AS done ON done.serial = pair.predecessor AND done.status = 'C'"
+    "FROM {0} LEFT JOIN history_row AS past ON past.serial = pair.predecessor "
+    "LEFT JOIN cp_row AS done ON past.serial IS NULL AND done.serial = pair.predecessor AND done.status = 'C'"
 )
 APP, ARRIVES = "coalesce(past.app, done.app)", "coalesce(past.ia, done.ia)"
+# whether both arrive together, but aren't one of the lists in force
+IS_OTHER = (f"CASE WHEN {ARRIVES} = row.ia THEN NOT EXISTS (SELECT 1 FROM link_in_force AS link WHERE "
+            f"link.app = row.app AND link.pred = {APP}) ELSE 0 END")
 # how many pairs each has, of how many applications, and how many are complete and arrive in time
 FITTING = (
-    "SELECT coalesce(sum(pairs), 0), coalesce(sum(pairs <> apps OR pairs <> fit), 0) FROM (SELECT count(*) AS pairs, "
-    f"count(DISTINCT {APP}) AS apps, coalesce(sum({ARRIVES} <= row.ia - ({APP} = row.app)), 0) AS fit "
-    f"{OF_CLOSED} GROUP BY row.serial)"
+    "SELECT coalesce(sum(pairs), 0), coalesce(sum(pairs <> apps OR pairs <> fit), 0), coalesce(sum(others), 0) FROM "
+    f"(SELECT count(*) AS pairs, count(DISTINCT {APP}) AS apps, "
+    f"coalesce(sum({ARRIVES} <= row.ia - ({APP} = row.app)), 0) AS fit, coalesce(sum({IS_OTHER}), 0) AS others "
+    f"{OF_CLOSED} GROUP BY pair.successor)"
 )
 TOGETHER = f"{OF_CLOSED} WHERE {ARRIVES} = row.ia"
-
 
 def asked(db: sqlite3.Connection, version: int) -> Iterator[float]:
     """Asks the rules of a database whose rows keep those of sound_rows, step by step; each time the share that is done.
@@ -52,15 +56,14 @@ def asked(db: sqlite3.Connection, version: int) -> Iterator[float]:
             yield (1 + done) / steps
     finally:
         db.execute("DROP TABLE IF EXISTS temp.cp_live")
-    ask_rings(db)
 
 
 def asked_pairs(db: sqlite3.Connection, version: int) -> Iterator[int]:
-    """Asks that the lists in force have no loop, and that there are the pairs that there have to be, step by step; each
-    time how many steps are done. Raises Unsound."""
+    """Asks that the lists in force have no loop, that there are the pairs that there have to be, and that they have no
+    ring, step by step; each time how many steps are done. Raises Unsound."""
     if loops.all_of(grouped(db.execute("SELECT app, pred FROM link_in_force"))):
         raise Unsound("its rows are no sound plan: the lists of predecessors in force have a loop")
-    found = done = 0
+    found = done = others = 0
     for question in EXPECTED:
         lacking, pairs = db.execute(question.format(within="link.within" if version > 1 else "NULL")).fetchone()
         if lacking:
@@ -68,14 +71,17 @@ def asked_pairs(db: sqlite3.Connection, version: int) -> Iterator[int]:
         found += pairs
         yield (done := done + 1)
     for table in CLOSED:
-        pairs, wrong = db.execute(FITTING.format(table)).fetchone()
+        pairs, wrong, apart = db.execute(FITTING.format(table)).fetchone()
         if wrong:
             raise Unsound("its rows are no sound plan: a row that is no longer open has an impossible pair")
         found += pairs
+        others += apart
         yield (done := done + 1)
     if db.execute("SELECT count(*) FROM dependency").fetchone()[0] != found:
         raise Unsound("its rows are no sound plan: dependency has a pair that isn't one of a row and its nearest "
                       "predecessor")
+    if others:  # the lists in force have no loop, so neither have pairs of these lists
+        ask_rings(db)
 
 
 def ask_keys(db: sqlite3.Connection) -> None:

@@ -226,17 +226,18 @@ def ask_form(db: sqlite3.Connection, version: int) -> None:
 
 
 def ask(db: sqlite3.Connection, version: int) -> None:
-    """Asks that the rows of all tables keep the rules. Raises Unsound."""
+    """Asks that all tables are undamaged, and that their rows keep the rules. Raises Unsound."""
+    ask_tables(db)
     for _ in asked(db, version):
         pass
 
 
 def asked(db: sqlite3.Connection, version: int) -> Iterator[float]:
-    """The same, step by step; each time the share that is done."""
+    """Asks that the rows of all tables keep the rules, step by step: each table, and then what they have to do with
+    each other; each time the share that is done. Raises Unsound. Whoever asks asks for the tables themselves too."""
     sizes = {table: 1 + db.execute(f"SELECT count(*) FROM {table}").fetchone()[0] for table in RULES}
     whole, done = sum(sizes.values()) * (1 + RELATIONS_SHARE), 0.0
     for table, rules in RULES.items():
-        ask_table(db, table)
         ask_values(db, table, {column: rule for column, rule in rules.items() if version > 1 or column != LATER})
         done += sizes[table]
         yield done / whole
