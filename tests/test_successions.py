@@ -1,6 +1,7 @@
 """Which states of a plan's file are sound because opcplan made them of a sound one: in every order of events of small
 worlds, and over real files of which somebody else changes a cell at each moment."""
 
+import contextlib
 import os
 import shutil
 import sqlite3
@@ -15,6 +16,7 @@ from unittest import mock
 from support import plans, succession_worlds
 from support.succession_worlds import explored, first
 
+from opcplan.desk import sound_states
 from opcplan.plans import own_runs, plan_file, sound_rows, successions, trial
 
 PLAN = "week-of-daily-plans"
@@ -26,6 +28,9 @@ WORLDS = {
     "a desk": (["desk"], {"kills": 0, "now": 2}),
     "a desk that is killed": (["desk"], {"now": 3, "most": 1}),
     "a look beside a stream": (["send", "look"], {"kills": 0, "now": 3, "most": 1}),
+    "a desk over a foreign file": (["desk"], {"kills": 0, "now": 2, "most": 1, "is_known": False}),
+    "a desk over a damaged file": (["desk"], {"kills": 0, "now": 2, "most": 1, "is_known": False,
+                                              "says": succession_worlds.Damaged(0)}),
 }
 # what is decided wrongly, by name, and in which worlds that is seen
 MUTANTS = {
@@ -36,6 +41,9 @@ MUTANTS = {
     "is_sound_unwritten": (lambda sound, now: sound is not None and now.is_settled,
                            "a stream is sent, and one thing is killed"),
     "is_sound_beside": (lambda sound, log, now: successions.goes_on(sound, now) and now.is_settled, "a desk"),
+    "is_opened": (lambda before, opened: before.is_settled, "a desk over a foreign file"),
+    "is_sound_opened": (lambda before, is_undamaged, now: successions.goes_on(before, now),
+                        "a desk over a damaged file"),
 }
 UNSETTLED = {
     "is_sound_copied": (lambda before, is_equal, after: is_equal and successions.is_alone(before)
@@ -54,7 +62,7 @@ class Worlds(unittest.TestCase):
             with self.subTest(name):
                 came, bad = explored([world(name)])
                 self.assertIsNone(bad)
-                self.assertGreater(len(came), 1000)
+                self.assertGreater(len(came), 300)
 
     def test_what_nobody_disturbs_is_kept(self):
         """Each of our programs can keep each state to which it comes, if nobody else writes and nothing is killed."""
@@ -67,13 +75,20 @@ class Worlds(unittest.TestCase):
             for made in says - ({2} if ways == "trial" else set()):
                 self.assertTrue(any(one.is_marked for one in ends if one.file.says == made), (ways, made))
 
+    def test_foreign_file_of_a_desk_is_kept(self):
+        """What opcplan has opened and isn't damaged is kept, and stays so while opcplan answers."""
+        for says, wanted in ((succession_worlds.FIRST, {0, 1, 2}), (succession_worlds.Damaged(0), set())):
+            came, _ = explored([first(["desk"], says=says, is_known=False, writes=0, kills=0)])
+            kept = {succession_worlds.merged(one.file, one.log) for one in came if one.is_marked}
+            self.assertEqual(kept, wanted)
+
     def test_wrong_decisions_are_seen(self):
         for number, mutants in enumerate((MUTANTS, UNSETTLED)):
             for name, (wrong, where) in mutants.items():
                 with self.subTest(name, number=number):
                     plain = types.SimpleNamespace(**{key: getattr(successions, key) for key in (
                         "goes_on", "may_be_copied", "log_is_empty", "log_begin", "is_sound_copied",
-                        "is_sound_unwritten", "is_sound_beside")} | {name: wrong})
+                        "is_sound_unwritten", "is_sound_beside", "is_opened", "is_sound_opened")} | {name: wrong})
                     if name == "goes_on":
                         plain.may_be_copied = lambda sound, log, now, goes_on=wrong: goes_on(sound, now)
                         plain.is_sound_unwritten = lambda sound, now, goes_on=wrong: (
@@ -92,6 +107,7 @@ class Files(unittest.TestCase):
         for patched in (mock.patch.dict(os.environ, XDG_CACHE_HOME=str(cache)),
                         mock.patch.object(own_runs, "is_own", lambda program: True),
                         mock.patch.object(trial, "is_own", lambda program: True),
+                        mock.patch.object(sound_states, "is_own", lambda program: True),
                         mock.patch.object(own_runs, "SETTLES", 10.0)):
             patched.start()
             self.addCleanup(patched.stop)
@@ -241,6 +257,72 @@ class Files(unittest.TestCase):
             with self.assertRaises(KeyboardInterrupt):
                 self.send(path, OPTIONS % (1, 7))
         self.assertFalse(self.is_kept(path))
+
+    # A desk.
+
+    @contextlib.contextmanager
+    def opened_by_desk(self, path):
+        """The states of a plan that opcplan has just opened, as a desk notes them."""
+        own_runs.settled(str(path))
+        states = sound_states.SoundStates(str(plans.PROGRAM), str(path))
+        states.begins()
+        with subprocess.Popen([plans.PROGRAM, "--db", path], stdin=subprocess.PIPE, stdout=subprocess.PIPE) as ran:
+            ran.stdin.write(b"nonsense\n")
+            ran.stdin.flush()
+            self.assertEqual(ran.stdout.readline(), b"refused 10\n")
+            states.opened()
+            yield states, ran
+            states.ends()
+            ran.stdin.close()
+
+    def test_foreign_file_of_a_desk_is_checked_by_opcplan(self):
+        path = plans.copy_of(plans.of_worked(PLAN), self.room, "foreign.db")
+        with mock.patch.object(sound_rows, "asked") as asked, self.opened_by_desk(path) as (states, ran):
+            self.assertFalse(self.is_kept(path))
+            states.note()
+            self.assertTrue(self.is_kept(path))
+            ran.stdin.write(OPTIONS % (1, 7))
+            ran.stdin.flush()
+            self.assertTrue(ran.stdout.readline().startswith(b"ok"))
+            states.note()
+            with plan_file.opened(path) as plan:
+                self.assertEqual((plan.meta["max_hours"], plan_file.is_sound(plan)), (7, True))
+        self.assertFalse(asked.called)
+
+    def test_file_of_a_desk_that_somebody_writes_to_is_not_kept(self):
+        for name, step in (("tables", "is_undamaged"), ("note", "judge")):
+            path = plans.copy_of(plans.of_worked(PLAN), self.room, f"{name}.db")
+            with self.subTest(name), self.opened_by_desk(path) as (states, _):
+                plain = getattr(states, step)
+
+                def disturbed(plain=plain, path=path):
+                    found = plain()
+                    self.planted(path)
+                    return found
+
+                with mock.patch.object(states, step, disturbed):
+                    states.note()
+                self.assertFalse(self.is_kept(path))
+
+    def test_damaged_index_of_a_desk_is_not_kept(self):
+        """opcplan takes the rows of a plan whose index says other names."""
+        path = plans.copy_of(plans.of_worked(PLAN), self.room, "damaged.db")
+        with closing(sqlite3.connect(path)) as db:
+            app, root = (db.execute(text).fetchone()[0] for text in (
+                "SELECT min(name) FROM application",
+                "SELECT rootpage FROM sqlite_schema WHERE name = 'sqlite_autoindex_application_1'"))
+            db.execute("PRAGMA wal_checkpoint(TRUNCATE)")
+        data = path.read_bytes()
+        page = data[(root - 1) * 4096:root * 4096]
+        other = page.replace(app.encode(), b"0" * len(app))
+        self.assertNotEqual(page, other)
+        path.write_bytes(data[:(root - 1) * 4096] + other + data[root * 4096:])
+        states = sound_states.SoundStates(str(plans.PROGRAM), str(path))
+        own_runs.settled(str(path))
+        states.begins()
+        self.assertIsNotNone(states.before)
+        states.judge()
+        self.assertIsNone(states.sound)
 
     # The commands.
 

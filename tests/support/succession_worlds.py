@@ -3,7 +3,8 @@ opcplan over it in three ways, a stranger writes at each moment with all times b
 opcplan and we are killed at each moment.
 
 What bytes say is a number of a sound plan, or something else. Of a file that somebody wrote to, what SQLite reads by a
-log is a mixture, which is no sound plan. `plain` decides as the package does; a test replaces a part of it."""
+log is a mixture, which is no sound plan. Of a `Damaged` plan the rows are sound, but an index says other things:
+opcplan takes it, and we don't. `plain` decides as the package does; a test replaces a part of it."""
 
 import dataclasses
 from typing import NamedTuple
@@ -24,6 +25,12 @@ class File(NamedTuple):
     tick: int
 
 
+class Damaged(NamedTuple):
+    """What a file says whose rows are those of a sound plan, and an index isn't."""
+
+    number: int
+
+
 class Log(NamedTuple):
     """Its log: the number at random in its first bytes, the frames up to which nothing is damaged, inode, the tick of
     its last change, and whether something is damaged: nobody reads the frames behind that."""
@@ -40,8 +47,15 @@ def merged(file, log):
     if file is None or log is None or not log.frames:
         return None if file is None else file.says
     # a log goes on from the plan that its first frame changes, and may be in the file already, up to some frame
-    fits = isinstance(file.says, int) and log.frames[0] - 1 <= file.says <= log.frames[-1]
-    return log.frames[-1] if fits else ("mixed", file.says, log.frames[-1])
+    number = taken(file.says)
+    if number is None or not log.frames[0] - 1 <= number <= log.frames[-1]:
+        return ("mixed", file.says, log.frames[-1])
+    return log.frames[-1] if isinstance(file.says, int) else Damaged(log.frames[-1])
+
+
+def taken(says):
+    """As which plan opcplan takes what bytes say, or None."""
+    return says.number if isinstance(says, Damaged) else says if isinstance(says, int) else None
 
 
 class Ours(NamedTuple):
@@ -54,6 +68,7 @@ class Ours(NamedTuple):
     copied: tuple = ()
     begin: object = None  # which log opcplan began
     merged: object = None  # what a private copy says, which opcplan made
+    opened: State | None = None  # in which opcplan has opened a file of which nothing was known
 
 
 @dataclasses.dataclass(frozen=True)
@@ -95,10 +110,11 @@ class World:
         return self.state.text in self.marks
 
 
-def first(ways, **budget):
-    """A world in which the file was just found sound, and these programs of ours are going to run."""
-    world = World(File(FIRST, 1, 0), Log(0, (), 2, 0), frozenset(), tuple(Ours(way) for way in ways), **budget)
-    return world.but(marks=frozenset([world.state.text]))
+def first(ways, says=FIRST, is_known=True, **budget):
+    """A world in which the file was just found sound, or nothing is known of it, and these programs of ours are going
+    to run."""
+    world = World(File(says, 1, 0), Log(0, (), 2, 0), frozenset(), tuple(Ours(way) for way in ways), **budget)
+    return world.but(marks=frozenset([world.state.text] if is_known else []))
 
 
 def following(world, plain):
@@ -159,11 +175,11 @@ def copied(world):
 
 def opened(world):
     """The world once opcplan has opened the file, or None where it refuses it."""
-    says = merged(world.file, world.log)
-    if world.run is not None or not isinstance(says, int):
+    number = taken(merged(world.file, world.log))
+    if world.run is not None or number is None:
         return None
     log = world.log or Log(0, (), 3, world.now)
-    return copied(world.but(log=log)).but(run=says, answers=0)
+    return copied(world.but(log=log)).but(run=number, answers=0)
 
 
 def marked(world, state):
@@ -250,17 +266,26 @@ def of_desk(world, one, plain):
     """The planner of a desk, which looks at the files between statements, and takes a copy at its end."""
     if one.step == 0:
         if world.run is None:
-            yield "sees it", world, one._replace(step=1, sound=world.state if world.is_marked else None)
+            yield "sees it", world, one._replace(step=1, sound=world.state if world.is_marked else None,
+                                                 seen=world.state)
     elif one.step == 1:
         after = opened(world)
         if after is None:
             yield "is refused", world, None
         else:
-            yield "has opcplan open it", after, one._replace(step=2, begin=plain.log_begin(after.state))
+            is_opened = one.sound is None and plain.is_opened(one.seen, after.state)
+            yield "has opcplan open it", after, one._replace(
+                step=2, begin=plain.log_begin(after.state), seen=None, opened=one.seen if is_opened else None)
     elif one.step == 2:
         if world.run is not None:
             yield "sees it", world, one._replace(step=3, seen=world.state)
             yield "begins to end", world, Ours("send", 2, one.sound, begin=one.begin)
+        if one.opened is not None:
+            yield "asks for the tables", world, one._replace(step=4, copied=(isinstance(world.file.says, int),))
+    elif one.step == 4:
+        is_sound = one.sound is None and plain.is_sound_opened(one.opened, one.copied[0], world.state)
+        yield "knows of the tables", world, one._replace(step=2, sound=one.opened if is_sound else one.sound,
+                                                         copied=(), opened=None)
     else:
         is_kept = plain.is_sound_beside(one.sound, one.begin, one.seen)
         yield "keeps it", marked(world, one.seen) if is_kept else world, one._replace(step=2, seen=None)

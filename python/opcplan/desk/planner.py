@@ -334,6 +334,7 @@ class Planner:
         finally:
             for task in tasks:
                 task.cancel()
+            self.sound.ends()
             self.files.forget_log()
             self.is_open, self.open_since = False, None
         self.state.ended()
@@ -441,6 +442,7 @@ class Planner:
                 await asyncio.to_thread(look.take)
             self.heard = time.monotonic()
             self.closing.set()
+            self.sound.ends()
             if self.process is not None:
                 piped(self.process.stdin).close()
             if self.task is not None:

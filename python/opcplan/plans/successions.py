@@ -15,14 +15,17 @@ The invariant: whenever the files are in a state with a result, what SQLite read
   some statement, also if somebody wrote into the log. That nobody forges frames whose sums match is trusted, as opcplan
   itself does.
 
-So there are two ways to a new state, and neither believes that nobody else wrote meanwhile:
+So there are three ways to a new state, and none believes that nobody else wrote meanwhile:
 
 1. `Copied`: at its end the file has, byte by byte, what a private copy has that is sound. Such a copy is what opcplan
    made where nobody else writes: of a trial that ended well. Or it is the file and its log, copied once opcplan had
    answered all and before it copied its log, and merged by SQLite; the file was still as it was when it was found sound
    (`goes_on`), so whatever somebody wrote into it since shows as a difference.
 2. `Beside`: the file is still as it was when it was found sound, and the log is the one with which opcplan began: the
-   inode and the first bytes are the same, in which SQLite puts numbers at random for each log."""
+   inode and the first bytes are the same, in which SQLite puts numbers at random for each log.
+3. `Opened`: opcplan has opened the file and answers, so it found its rows sound; what opcplan doesn't read was asked of
+   the file itself. No log had a page before, nor once it was opened, and the file is as it was before all that
+   (`goes_on`), so both have read the bytes of that state and no others. What is in the log since, opcplan made."""
 
 from typing import NamedTuple
 
@@ -82,6 +85,18 @@ def is_sound_unwritten(sound: State | None, now: State) -> bool:
 def is_sound_beside(sound: State | None, log: LogBegin | None, now: State) -> bool:
     """Whether a file and the log of a run, which began with a sound state, are sound now, while it runs."""
     return goes_on(sound, now) and log is not None and log_begin(now) == log and now.is_settled
+
+
+def is_opened(before: State, opened: State) -> bool:
+    """Whether opcplan, which has opened a file since it was in the state `before` and answered nothing yet, has read the
+    file in that state, and nothing else."""
+    return is_alone(before) and before.is_settled and is_alone(opened) and goes_on(before, opened)
+
+
+def is_sound_opened(before: State, is_undamaged: bool, now: State) -> bool:
+    """Whether a file was sound in the state in which opcplan has opened it: its tables and indexes were asked for
+    since."""
+    return is_undamaged and goes_on(before, now)
 
 
 def is_alone(state: State) -> bool:
