@@ -1,18 +1,17 @@
-"""The words of a subcommand: what `argparse` asks of them here, and what is told where they are wrong."""
+"""The words of a subcommand: what `argparse` asks of them here, and what is told where they are wrong. What only wrong
+words need is imported where it is needed."""
 
 import argparse
-import difflib
+import contextlib
 import itertools
 import os
 import re
-import shlex
 import sys
 from collections.abc import Callable, Iterable, Sequence
 from typing import Any, NoReturn
 
-from opcplan.cli import bare_words
 from opcplan.errors import UsageError
-from opcplan.rules import amounts, hints, moments, printable
+from opcplan.rules import moments, printable
 
 CALLED = "./plan"  # by make install as the command is called there
 
@@ -27,8 +26,31 @@ def print_message(message: str) -> None:
         sys.stderr = open(os.devnull, "w", encoding="utf-8")
 
 
+class Formatter(argparse.HelpFormatter):
+    """The form of a help, as wide as the terminal. `argparse` itself would import `shutil` for that, and with it all that
+    compresses files."""
+
+    def __init__(self, prog: str, indent_increment: int = 2, max_help_position: int = 24,
+                 width: int | None = None) -> None:
+        super().__init__(prog, indent_increment, max_help_position, columns() - 2 if width is None else width)
+
+
+def columns() -> int:
+    """How many columns a terminal has: by COLUMNS, or by the terminal itself, or 80."""
+    with contextlib.suppress(KeyError, ValueError):
+        if (count := int(os.environ["COLUMNS"])) > 0:
+            return count
+    with contextlib.suppress(AttributeError, ValueError, OSError):
+        if sys.__stdout__ is not None and (count := os.get_terminal_size(sys.__stdout__.fileno()).columns) > 0:
+            return count
+    return 80
+
+
 class Parser(argparse.ArgumentParser):
     """A parser that raises UsageError, in one line."""
+
+    def __init__(self, *, formatter_class: type[argparse.HelpFormatter] = Formatter, **given: Any) -> None:
+        super().__init__(formatter_class=formatter_class, **given)
 
     is_mixed = False  # whether options may stand between words that belong together
     typed: Sequence[str] = ()  # the words that it was given
@@ -47,6 +69,8 @@ class Parser(argparse.ArgumentParser):
         for word in itertools.takewhile(lambda word: word != "--", self.typed):
             option = word.partition("=")[0]
             if option.startswith("--") and not any(one.startswith(option) for one in known):
+                import difflib
+
                 near = difflib.get_close_matches(option, known, 1)
                 return f"there is no option {option}{f' (did you mean {near[0]}?)' if near else ''}"
         return ""
@@ -61,10 +85,14 @@ class Parser(argparse.ArgumentParser):
             return ""
         rest = list(self.typed)
         rest.remove(behind)
+        import shlex
+
         return f"PLAN.db comes first: {shlex.join([*self.prog.split(), behind, *rest])}"
 
     def without_option(self, message: str) -> str:
         """Which words lack the option that takes them, or nothing where another thing is wrong with the words."""
+        from opcplan.cli import bare_words
+
         line = bare_words.Line(self._actions, self.typed, is_database)
         if "--" in self.typed or message.startswith("argument -") and not any(one.nargs == "+" for one in line.given):
             return ""
@@ -119,6 +147,8 @@ def day(text: str) -> int:
     """A day, for `type=`."""
     found = moments.day_of(text)
     if found is None:
+        from opcplan.rules import hints
+
         raise argparse.ArgumentTypeError(f"{text!r} is not a day such as 2026-11-25{hint_text(hints.of_day(text))}")
     return found
 
@@ -127,6 +157,8 @@ def moment(text: str) -> int:
     """A moment, for `type=`."""
     found = moments.typed_moment(text)
     if found is None:
+        from opcplan.rules import hints
+
         raise argparse.ArgumentTypeError(f"{text!r} is not a moment such as "
                                          f"2026-11-25/06.00{hint_text(hints.of_moment(text))}")
     return found
@@ -152,6 +184,8 @@ def name(text: str) -> str:
 
 def span(text: str) -> int:
     """A span of time in seconds, for `type=`."""
+    from opcplan.rules import amounts
+
     found = amounts.seconds_of(text)
     if found is None:
         raise argparse.ArgumentTypeError(f"{text!r} is not a span of time such as 90d, 12h or 4w")
@@ -160,6 +194,8 @@ def span(text: str) -> int:
 
 def size(text: str) -> int:
     """A size in bytes, 0 too, for `type=`."""
+    from opcplan.rules import amounts
+
     found = 0 if text == "0" else amounts.bytes_of(text)
     if found is None:
         raise argparse.ArgumentTypeError(f"{text!r} is not a size such as 64K, 500M or 2G")
