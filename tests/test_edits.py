@@ -13,14 +13,17 @@ import sys
 import unittest
 from unittest import mock
 
-from dateutil import rrule
-
 from support import edit_worlds
 from support.plans import plain
 
 from opcplan.acts.world import World
 from opcplan.edits import days, inverses, previews
 from opcplan.rules import moments
+
+try:
+    from dateutil import rrule
+except ImportError:
+    rrule = None
 
 SEEDS, EDITS = range(12), 6
 SPAN = days.Span(edit_worlds.FIRST, edit_worlds.LAST)
@@ -149,6 +152,7 @@ class Days(unittest.TestCase):
                     self.assertEqual(planned.get(app["app"], set()), wanted, app["app"])
         self.assertGreater(modified, 10)
 
+    @unittest.skipUnless(rrule, "there is no python3-dateutil")
     def test_a_holiday_by_dateutil(self):
         """Work days by rrule: each first work day of a month, and each work day of a week."""
         text = """define calendars --job 1
@@ -228,7 +232,7 @@ class Mutants(unittest.TestCase):
             test.run(result)
         return bool(result.failures or result.errors)
 
-    @mock.patch.object(sys.modules[__name__], "SEEDS", range(3))
+    @mock.patch.object(sys.modules[__name__], "SEEDS", range(3, 6))
     def test_each_is_found(self):
         true_sign = days.sign
         true_concerned, true_back = days.concerned, inverses.changes_back
