@@ -29,6 +29,7 @@ WORLDS = {
     "a desk that is killed": (["desk"], {"now": 3, "most": 1}),
     "a look beside a stream": (["send", "look"], {"kills": 0, "now": 3, "most": 1}),
     "a desk over a foreign file": (["desk"], {"kills": 0, "now": 2, "most": 1, "is_known": False}),
+    "a desk over a file that was just written": (["desk"], {"kills": 0, "now": 0, "most": 1, "is_known": False}),
     "a desk over a damaged file": (["desk"], {"kills": 0, "now": 2, "most": 1, "is_known": False,
                                               "says": succession_worlds.Damaged(0)}),
 }
@@ -41,7 +42,8 @@ MUTANTS = {
     "is_sound_unwritten": (lambda sound, now: sound is not None and now.is_settled,
                            "a stream is sent, and one thing is killed"),
     "is_sound_beside": (lambda sound, log, now: successions.goes_on(sound, now) and now.is_settled, "a desk"),
-    "is_opened": (lambda before, opened: before.is_settled, "a desk over a foreign file"),
+    "is_opened": (lambda before, opened: successions.is_alone(before) and successions.goes_on(before, opened),
+                  "a desk over a file that was just written"),
     "is_sound_opened": (lambda before, is_undamaged, now: successions.goes_on(before, now),
                         "a desk over a damaged file"),
 }

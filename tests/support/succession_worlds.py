@@ -4,7 +4,8 @@ opcplan and we are killed at each moment.
 
 What bytes say is a number of a sound plan, or something else. Of a file that somebody wrote to, what SQLite reads by a
 log is a mixture, which is no sound plan. Of a `Damaged` plan the rows are sound, but an index says other things:
-opcplan takes it, and we don't. `plain` decides as the package does; a test replaces a part of it."""
+opcplan takes it, and we don't. Of an `Unruly` one tables and indexes are undamaged, but a row breaks a rule: opcplan
+refuses it. `plain` decides as the package does; a test replaces a part of it."""
 
 import dataclasses
 from typing import NamedTuple
@@ -27,6 +28,12 @@ class File(NamedTuple):
 
 class Damaged(NamedTuple):
     """What a file says whose rows are those of a sound plan, and an index isn't."""
+
+    number: int
+
+
+class Unruly(NamedTuple):
+    """What a file says whose tables and indexes are undamaged, and a row isn't that of a sound plan."""
 
     number: int
 
@@ -138,6 +145,8 @@ def strangers(world):
     """What somebody else may do, who keeps size, first bytes and times of the file."""
     now, file, log = world.now, world.file, world.log
     yield "writes a byte", world.but(file=File(("foreign", file.says), file.inode, now))
+    if isinstance(file.says, int):
+        yield "writes a value", world.but(file=File(Unruly(file.says), file.inode, now))
     yield "replaces the file", world.but(file=File(("foreign", "other"), 9, now))
     yield "puts the first plan back", world.but(file=File(FIRST, file.inode, now))
     if log is not None:
@@ -281,7 +290,8 @@ def of_desk(world, one, plain):
             yield "sees it", world, one._replace(step=3, seen=world.state)
             yield "begins to end", world, Ours("send", 2, one.sound, begin=one.begin)
         if one.opened is not None:
-            yield "asks for the tables", world, one._replace(step=4, copied=(isinstance(world.file.says, int),))
+            is_undamaged = isinstance(world.file.says, int | Unruly)
+            yield "asks for the tables", world, one._replace(step=4, copied=(is_undamaged,))
     elif one.step == 4:
         is_sound = one.sound is None and plain.is_sound_opened(one.opened, one.copied[0], world.state)
         yield "knows of the tables", world, one._replace(step=2, sound=one.opened if is_sound else one.sound,
