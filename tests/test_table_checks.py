@@ -15,7 +15,7 @@ from unittest import mock
 from support import large_plans
 
 from opcplan.errors import Unreadable
-from opcplan.plans import plan_file, progress, sound_pairs, sound_rows, table_checks
+from opcplan.plans import plan_file, progress, sound_pairs, sound_rows
 
 APPS, DAYS, SEEDS = 30, 10, 150
 COUNT = len(sound_rows.RULES)
@@ -32,8 +32,8 @@ DEFECTS = {
                                          ["UPDATE ltp_row SET ia = ia - 1 WHERE serial = 5"]),
     "two entries of an index are swapped": (
         "ltp_row", UNIQUE, ["UPDATE ltp_row SET ia = -ia WHERE serial IN (1, 31)",
-                            "UPDATE ltp_row SET ia = (SELECT ia FROM temp.kept AS k WHERE k.serial = 32 - ltp_row.serial) "
-                            "WHERE serial IN (1, 31)"],
+                            "UPDATE ltp_row SET ia = (SELECT ia FROM temp.kept AS k "
+                            "WHERE k.serial = 32 - ltp_row.serial) WHERE serial IN (1, 31)"],
         ["UPDATE ltp_row SET ia = (SELECT ia FROM temp.kept AS k WHERE k.serial = ltp_row.serial) "
          "WHERE serial IN (1, 31)"]),
     "two rows have one unique key": ("ltp_row", UNIQUE, [], ["UPDATE ltp_row SET (app, ia) = (SELECT app, ia FROM "

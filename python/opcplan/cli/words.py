@@ -27,8 +27,8 @@ def print_message(message: str) -> None:
 
 
 class Formatter(argparse.HelpFormatter):
-    """The form of a help, as wide as the terminal. `argparse` itself would import `shutil` for that, and with it all that
-    compresses files."""
+    """The form of a help, as wide as the terminal. `argparse` itself would import `shutil` for that, and with it all
+    that compresses files."""
 
     def __init__(self, prog: str, indent_increment: int = 2, max_help_position: int = 24,
                  width: int | None = None) -> None:

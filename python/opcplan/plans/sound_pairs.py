@@ -24,7 +24,8 @@ EXPECTED = (
     COUNTED.format(f"coalesce(({IS_THERE} FROM ({LATEST.format('ltp_row')}) AS near), {PAST})", "ltp_row"),
     COUNTED.format(PAST, "(SELECT serial, app, ia FROM cp_row WHERE status = 'W')"),
 )
-# of what is no longer open: history by its pairs, in their order, since most rows are history; of the current plan by rows
+# of what is no longer open: history by its pairs, in their order, since most rows are history; of the current plan by
+# rows
 CLOSED = ("dependency AS pair CROSS JOIN history_row AS row ON row.serial = pair.successor",
           "(SELECT serial, app, ia FROM cp_row WHERE status IN ('S', 'E', 'C')) AS row "
           "CROSS JOIN dependency AS pair ON pair.successor = row.serial")
@@ -44,6 +45,7 @@ FITTING = (
     f"{OF_CLOSED} GROUP BY pair.successor)"
 )
 TOGETHER = f"{OF_CLOSED} WHERE {ARRIVES} = row.ia"
+
 
 def asked(db: sqlite3.Connection, version: int) -> Iterator[float]:
     """Asks the rules of a database whose rows keep those of sound_rows, step by step; each time the share that is done.

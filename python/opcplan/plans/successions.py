@@ -88,8 +88,8 @@ def is_sound_beside(sound: State | None, log: LogBegin | None, now: State) -> bo
 
 
 def is_opened(before: State, opened: State) -> bool:
-    """Whether opcplan, which has opened a file since it was in the state `before` and answered nothing yet, has read the
-    file in that state, and nothing else."""
+    """Whether opcplan, which has opened a file since it was in the state `before` and answered nothing yet, has read
+    the file in that state, and nothing else."""
     return is_alone(before) and before.is_settled and is_alone(opened) and goes_on(before, opened)
 
 
