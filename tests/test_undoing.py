@@ -211,8 +211,8 @@ class Cases(unittest.TestCase):
         stream += "cp-add --app AA --ia 2024-01-01/08.30 --job 15\n"
         entries = entries_of(stream, plans.plain.run(stream.encode(), planner))
         world = World(act_worlds.Source(DAY + stream, planner))
-        with self.assertRaisesRegex(NotDoable, "`cp-start .*` would be refused with 30 11: it waits for AA 2024-01-01 08"
-                                    ".30 now"):
+        with self.assertRaisesRegex(NotDoable, "`cp-start .*` would be refused with 30 11: it waits for AA 2024-01-01 "
+                                    "08.30 now"):
             undoing.act_of(world, UNDO, undoing.of_entry(entries, 5), entries)
 
     def test_a_move_by_run_cycles_that_others_changed_is_not_undone(self):
