@@ -137,7 +137,7 @@ async function doAct(asked, tell) {
 }
 
 /** An act that is shown, with the buttons that do it, look again at what is left, or drop it; or what came of it. */
-function shownAct(shown, id, { onDo, onLook, onDrop }) {
+function shownAct(shown, { id, onDo, onLook, onDrop }) {
   const { act, progress } = shown, isLess = act && !may(act.role), off = shown.busy || isLess ? '' : undefined;
   const isBegun = progress?.isBegun, text = shown.sure ? 'It can’t be undone: do it all the same'
     : isBegun ? 'Go on as shown' : 'Do it as shown';

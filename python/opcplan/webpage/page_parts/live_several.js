@@ -159,7 +159,7 @@ function drawBar() {
     h('p', { class: 'chosen-count', tabindex: -1 }, h('b', {}, many(rows.length, 'row') + ' chosen'), ' ',
       statusParts(rows), ' ', tool('clear', 'Choose none', clearAll, { class: 'in' })),
     rows.length ? severalButtons(rows, shown?.busy) : '',
-    shown ? shownAct(shown, 'several-preview', { onDo: doAll, onLook: lookAtAllLeft, onDrop: dropShown }) : ''));
+    shown ? shownAct(shown, { id: 'several-preview', onDo: doAll, onLook: lookAtAllLeft, onDrop: dropShown }) : ''));
 }
 alsoDrawn.push(['#several', drawBar]);
 

@@ -75,7 +75,7 @@ function addOf(k) {
 inAppCard.push(addOf);
 
 /** What an act would do, with the button that does it; or what came of it. */
-const previewOf = shown => shownAct(shown, 'preview', { onDo: doLooked, onLook: lookAtLeft,
+const previewOf = shown => shownAct(shown, { id: 'preview', onDo: doLooked, onLook: lookAtLeft,
   onDrop: () => tellLooked({ own: shown.own, text: 'What is left isn’t done.', look: 'is-late' }) });
 
 /** Shows and announces it; the focus goes there from the button that was pressed. */
