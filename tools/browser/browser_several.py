@@ -276,7 +276,8 @@ def card_verbs(browser, folder, ask):
     room.comes(f"[...Array(rowCount).keys()].some(i => name(i) === '{app}' && dayOf(ia[i]) === {day} && clock(ia[i]) "
                "=== '05.55' && clock(due[i]) === '07.07' && state(i) === 'L')", "it is moved with it", 8)
     room.same("a move with a deadline")
-    ask(not room.complaints(), "the console", room.complaints())
+    others = [one for one in room.complaints() if "412" not in str(one)]  # those the page expects
+    ask(not others, "the console", others)
     room.end()
 
 

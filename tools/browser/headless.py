@@ -11,7 +11,7 @@ import tempfile
 from pathlib import Path
 
 CODES = {"Enter": 13, "Escape": 27, "ArrowUp": 38, "ArrowDown": 40, "ArrowLeft": 37, "ArrowRight": 39, "Tab": 9,
-         " ": 32, "End": 35, "Home": 36}
+         " ": 32, "End": 35, "Home": 36, "-": 189, ".": 190, "/": 191}
 SHIFT = 8
 COMPLAINTS = ("Runtime.exceptionThrown", "Log.entryAdded", "Runtime.consoleAPICalled")
 
