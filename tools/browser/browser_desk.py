@@ -308,7 +308,9 @@ def buttons(browser, folder, ask):
     blocked = room.row("state(i) === 'B'")
     room.js(f"choose(rowOfSerial({blocked}))")
     allowed = "[...document.querySelectorAll('.acts button:not(:disabled)')].map(x => x.dataset.act)"
-    ask(room.js(allowed) == ["delete"], "what waits for another can't be started", room.js(allowed))
+    ask(room.js(allowed) == ["complete", "delete"], "what waits for another can't be started", room.js(allowed))
+    text = room.js("document.querySelector('.acts [data-act=complete]').textContent")
+    ask(text.endswith(" before it"), "and is completed only with what it waits for", text)
     other = room.row("state(i) === 'R'")
     room.js(f"choose(rowOfSerial({other})); live.source.close()")
     room.post(f"cp-start {room.key_of(other)}\n")
