@@ -13,7 +13,9 @@ class ActingDesk {
   constructor(rows, script, refuses) {
     this.refuses = refuses;  // whether a statement may be refused for what no preview knows; the stream ends there
     this.rows = { ...rows };  // by key: the status
-    this.keys = {};  // by the key of a statement: what it was answered
+    this.keys = {};  // by the key of a statement: what it was answered, and the tag of the state after it
+    this.away = 0;  // how many requests have no answer, because the desk ended
+    this.ends = this.absences = this.changes = 0;  // how often it ended; was away for long; others changed a row
     this.tag = 1;
     this.accepted = [];  // the page's statements that were accepted, in order, with the key of each
     this.asked = 0;  // previews
@@ -50,6 +52,16 @@ class ActingDesk {
     if (!chosen) return;
     ActingDesk.apply(this.rows, ways[chosen - 1]);
     this.tag++;
+    this.changes++;
+  }
+
+  /** The desk may end after a statement, and come again at once, or only once the page doesn't send any more. */
+  isEnded() {
+    const chosen = this.choice(3);
+    this.ends += chosen > 0;
+    this.absences += chosen === 2;
+    this.away = chosen === 2 ? RESTS.length : 0;
+    return chosen > 0;
   }
 
   act(texts, parts) {
@@ -78,7 +90,8 @@ class ActingDesk {
     return texts.length ? { act: this.act(texts, parts) } : { act: null, found: null, why_not: 'none of them' };
   }
 
-  /** Does a stream in a state: HTTP's status, the answers, and whether the answer is lost on its way. */
+  /** Does a stream in a state: HTTP's status, the answers, the tag of the state after the last one, and whether it is
+   *  lost on its way. */
   do(stream, key, tag) {
     const lines = stream.split('\n').slice(0, -1), answers = [];
     let state = null;
@@ -86,30 +99,38 @@ class ActingDesk {
       const own = key + (n ? '#' + n : '');
       if (!(own in this.keys)) {
         if ((state ?? tag) !== this.tag) break;
-        this.keys[own] = this.refuses && this.choice(2) ? 'refused 31' : ActingDesk.apply(this.rows, line);
-        if (this.keys[own].startsWith('ok')) {
+        const reply = this.refuses && this.choice(2) ? 'refused 31' : ActingDesk.apply(this.rows, line);
+        if (reply.startsWith('ok')) {
           this.accepted.push([line, own]);
           this.tag++;
         }
         state = this.tag;
+        this.keys[own] = { reply, state };
+        if (this.isEnded()) return [503, 'the desk ends', this.tag, false];
       }
-      answers.push({ statement: line, reply: this.keys[own] });
-      if (this.refuses && this.keys[own].startsWith('refused')) break;
+      const { reply } = this.keys[own];
+      answers.push({ statement: line, reply });
+      if (this.refuses && reply.startsWith('refused')) break;
       this.others();
     }
-    if (!answers.length) return [412, 'the plan has changed', false];
-    return [200, { act: null, found: null, why_not: '', answers, is_whole: answers.length === lines.length },
-      this.choice(2) === 1];
+    if (!answers.length) return [412, 'the plan has changed', this.tag, false];
+    const last = this.keys[key + (answers.length > 1 ? '#' + (answers.length - 1) : '')];
+    const found = { act: null, found: null, why_not: '', answers, is_whole: answers.length === lines.length };
+    return [200, found, last.state, this.choice(2) === 1];
   }
 
   async fetch(_, { body, headers }) {
     const asked = JSON.parse(body), tag = headers['If-Match'];
+    if (this.away > 0) {
+      this.away--;
+      throw new Error('nobody answers');
+    }
     this.others();
-    const [status, found, isLost] = tag === undefined ? [200, this.preview(asked), false]
+    const [status, found, state, isLost] = tag === undefined ? [200, this.preview(asked), this.tag, false]
       : this.do(asked.stream, headers['Idempotency-Key'], +tag);
     if (isLost) throw new Error('the connection was lost');
     return { ok: status === 200, status, text: async () => JSON.stringify(found),
-      headers: new Map([['ETag', String(this.tag)]]) };
+      headers: new Map([['ETag', String(state)]]) };
   }
 }
 

@@ -105,6 +105,21 @@ async function lookedAtRest({ own, wanted, progress }) {
 
 const sameAct = (one, other) => one.stream === other.stream && one.lines.join('\n') === other.lines.join('\n');
 
+/** The desk's answer to an act. If the desk ended half way, the same request under its key is answered as far as it came,
+ *  and the rest goes on in the state that this left: so nobody else changed the plan in between. */
+async function answerTo({ stream, key, order, done }, tag) {
+  let found = await askAct({ stream }, key, tag);
+  for (let known = done; isPartOf(order, found) && found.answers.length > known;) {
+    known = found.answers.length;
+    const more = await askAct({ stream }, key, found.tag);
+    if (!more.wrong || more.isOpen) found = more;
+  }
+  return found;
+}
+
+const isPartOf = (order, { wrong, answers }) => !wrong && answers.length < order.length &&
+  answers.every(({ reply }) => isOk(reply));
+
 /** Does what is shown in the state of its preview, or in a later one in which it would do the same; `tell` shows. */
 async function doAct(asked, tell) {
   const { act, progress, own, wanted } = asked;
@@ -112,7 +127,7 @@ async function doAct(asked, tell) {
   tell({ ...asked, busy: true, sure: false, text: WAITING, look: '' });
   let { tag } = asked;
   for (let looks = 0; looks < MOST_LOOKS; looks++) {
-    const found = await askAct({ stream: progress.stream }, progress.key, tag);
+    const found = await answerTo(progress, tag);
     if (found.wrong && found.isOpen) return tell({ ...asked, tag, sure: false, text: found.wrong, look: 'is-error' });
     if (found.wrong && found.status !== 412) {
       const text = found.wrong + (progress.isBegun ? ' ' + howFar(progress.parts) : '');
