@@ -25,11 +25,12 @@ except ImportError:  # the gate's Python may have no package
     page = None
 
 NOW = moments.moment_of(data_centre.NOW)
-PARTS = ["live_asks.js", "live_acts.js", "live_doing.js", "live_verbs.js", "live_several.js", "live_search.js"]
+PARTS = ["live_asks.js", "live_acts.js", "live_doing.js", "live_verbs.js", "live_several.js", "search.js",
+         "live_search.js"]
 OWN = """const inCard = [], inAppCard = [], onFind = [], alsoDrawn = [], BOXES = [], KEYS = [], sent = [];
     const MOST_LOOKS = 4;
     const showCard = () => {}, tellLink = () => {}, meaning = () => [], close = () => '', link = i => fullName(i);
-    const address = () => {}, showApp = () => {}, find = () => {}, live = {}, ownKeys = new Set(), SERIAL = /^[0-9]+$/;
+    const address = () => {}, showApp = () => {}, find = () => {}, live = {}, ownKeys = new Set();
     const CSS = { escape: text => text };
     globalThis.crypto ??= require('crypto').webcrypto;
     const answers_ = GIVEN.answers || [];

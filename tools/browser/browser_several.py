@@ -2,6 +2,7 @@
 runs that are added or moved with a deadline: by keys and by the pointer."""
 
 import json
+import signal
 import threading
 
 from browser_desk import CTRL, SAID, SETTLED, STATE, Room, clicked_at
@@ -220,6 +221,13 @@ def search_of_desk(browser, folder, ask):
     browser.key("Enter")
     room.comes(f"{card}.includes('is neither a day nor a minute nor a moment')", "a text that names none", 5)
     ask(not room.complaints(), "the console", room.complaints())
+    room.desk.ended(signal.SIGKILL)
+    room.comes("live.lost", "the desk is gone")
+    room.js("choose(-1); document.querySelector('#find').value = ''; find()")
+    browser.key("/")
+    browser.type(f"{app} {day}/{minute}")
+    browser.key("Enter")
+    room.comes(f"serial[view.pick] === {number} && document.activeElement.id === 'card'", "it finds without a desk", 5)
     room.end()
 
 

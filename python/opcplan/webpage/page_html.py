@@ -15,7 +15,7 @@ from opcplan.webpage.page_values import Data
 PARTS = Path(__file__).resolve().parent / "page_parts"
 STYLES = ["colours.css", "frame.css", "day.css", "graph.css", "month.css", "card.css", "small.css", "print.css"]
 SCRIPTS = ["model.js", "words.js", "now.js", "needs.js", "actual.js", "groups.js", "day.js", "arrows.js",
-           "layout.js", "graph.js", "month.js", "card.js", "apps.js", "changes.js", "keys.js"]
+           "layout.js", "graph.js", "month.js", "card.js", "apps.js", "changes.js", "search.js", "keys.js"]
 MOST_WITHOUT_SCRIPT = 500
 STATES = {"E": "in error", "S": "started", "R": "ready", "B": "blocked", "F": "to come"}
 

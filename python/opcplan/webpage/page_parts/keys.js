@@ -62,36 +62,6 @@ function nameTab() {
   document.title = counts.E + ' in error, ' + counts.late + ' late of ' + findText() + ': ' + titleOfAll;
 }
 
-const SERIAL = /^#?0*([1-9]\d{0,8})$/, KEY = /^(\S+)\s+(\d{4}-\d\d-\d\d)(?:[/T]|\s+)(\d\d)[.:](\d\d)$/;
-
-/** The row that a text names by its serial, or by application and arrival as lists print them, or undefined. */
-function typedRow(text) {
-  const number = text.match(SERIAL), key = text.match(KEY);
-  if (number && !D.apps.some(one => one[0] === text)) return rowOfSerial(+number[1]);
-  if (!key) return undefined;
-  const k = D.apps.findIndex(one => one[0] === key[1]);
-  const arrival = Date.parse(key[2] + 'T00:00Z') / 60000 + 60 * key[3] + +key[4];
-  return (perApp.get(k) || []).find(i => ia[i] === arrival);
-}
-
-/** Opens the row that the search names, or the first application that it names, begins or is part of. */
-function openFound() {
-  const text = $('#find').value.trim().toUpperCase(), row = typedRow(text);
-  if (row !== undefined) {
-    $('#find').value = '';
-    find();
-    choose(row);
-    $('#card').focus();
-    return;
-  }
-  const of = test => text ? D.apps.findIndex(test) : -1;
-  const found = [of(one => one[0] === text), of(one => one[0].startsWith(text)), of(one => one[0].includes(text))]
-    .find(k => k >= 0);
-  if (found === undefined) return;
-  showApp(found);
-  $('#card').focus();
-}
-
 /** Goes to the next row in trouble: first those in error, then the late, then those at risk, each by deadline. */
 function nextTrouble() {
   const rank = i => state(i) === 'E' ? 0 : late.has(i) ? 1 : 2;
