@@ -34,6 +34,8 @@ LISTS = tuple(TABLES)
 ANEW = "anew-0"
 # HTTP's status if the plan isn't in the state of a preview, and how often an act is looked at
 CHANGED, MOST_SENT = 412, 9
+# HTTP's status if the desk has no answer for now, and the seconds after which it is asked again
+UNAVAILABLE, REST = 503, 0.5
 
 
 @dataclasses.dataclass(frozen=True)
@@ -72,7 +74,8 @@ class Why:
 @dataclasses.dataclass(frozen=True)
 class Answer:
     """A statement and its answer: its number in the journal and its job number (None if it changes nothing), the lines
-    of its rows, its reply, when the desk took it, and the key under which it was sent."""
+    of its rows, its reply, when the desk took it, and the key under which it was sent. If it is of an act, `means` says
+    in words what its refusal means."""
 
     statement: str
     reply: str
@@ -81,6 +84,7 @@ class Answer:
     rows: tuple[str, ...] = ()
     at: str | None = None
     key: str | None = None
+    means: str = ""
 
     @property
     def ok(self) -> bool:
@@ -93,8 +97,8 @@ class Act:
     """What a verb does: the row that it is about (None if it makes one), its statements as a stream without job
     numbers, all that is to be said of them in sentences, what can't be kept, each changed row as it was (None if it is
     made) and as it is then, how many rows of the current plan wait for it, and the stream that takes it back (None if
-    there is none: `why_not` says why). `answers` has those of a desk that did it, which are fewer than its statements
-    if somebody else changed the plan in between."""
+    there is none: `why_not` says why). `answers` has those of a desk that did it. If these are fewer than its
+    statements, `stopped` says why the others can't be done. `key` and `tag` are those under which a desk does it."""
 
     verb: str
     row: Row | None
@@ -106,6 +110,9 @@ class Act:
     inverse: str | None
     why_not: str
     answers: tuple[Answer, ...] = ()
+    stopped: str = ""
+    key: str = dataclasses.field(default="", compare=False)
+    tag: str = dataclasses.field(default="", compare=False)
 
     @property
     def ok(self) -> bool:
@@ -270,22 +277,51 @@ class Desk:
         wanted = intention_of(verb, of, to, due, chain, followers, entry)
         first: Act | None = None
         for _ in range(MOST_SENT):
-            _, body = self._client.request("POST", "/acts", json.dumps(values.values_of(wanted)).encode())
-            found = json.loads(body)
-            act = act_of(found)
+            found = self._acts(values.values_of(wanted))
+            act = dataclasses.replace(act_of(found), tag=found["tag"], key=f"{undoing.ACT_KEY}{secrets.token_hex(16)}")
             if dry_run:
                 return act
             if first is not None and act != first:
                 break
             first = act
-            heads = {"If-Match": found["tag"], "Idempotency-Key": f"{undoing.ACT_KEY}{secrets.token_hex(16)}"}
             try:
-                _, body = self._client.request("POST", "/acts", json.dumps({"stream": act.stream}).encode(), heads)
-                return dataclasses.replace(act, answers=tuple(map(answer_of, json.loads(body)["answers"])))
+                return self.do(act)
             except client.RequestRefused as why:
                 if why.status != CHANGED:
                     raise
         raise client.RequestRefused(CHANGED, "the plan has changed, and the act would now do something else")
+
+    def do(self, act: Act, *, wait: float = 60) -> Act:
+        """Does an act that `act(.., dry_run=True)` returned, or what is left of one that was stopped. However often you
+        call it, nothing is done twice. If somebody else changes the plan in between, it goes on as long as what is left
+        can be done; else `stopped` of the act says why. While the desk is away, it is asked again for `wait` seconds.
+        Raises Desk.Refused with status 412 if somebody changed the plan before its first statement, and ValueError if
+        the act is none of a desk."""
+        if not act.key:
+            raise ValueError("the act is none of a desk; `Desk.act` with `dry_run=True` returns one")
+        until = time.monotonic() + wait
+        body, key, tag = {"stream": act.stream}, {"Idempotency-Key": act.key}, act.tag
+        for _ in range(MOST_SENT):
+            found = self._acts(body, {**key, "If-Match": tag}, until)
+            if found["is_whole"]:
+                break
+            found = self._acts(body, key, until)
+            if found["act"] is None:
+                break
+            tag = found["tag"]
+        stopped = "" if found["is_whole"] else found["why_not"] or "others kept changing the plan"
+        return dataclasses.replace(act, answers=tuple(map(answer_of, found["answers"])), stopped=stopped)
+
+    def _acts(self, body: Mapping[str, Any], heads: client.Heads = client.NO_HEADS, until: float = 0.0) -> Any:
+        """The answer to `POST /acts`; while the desk is away, it is asked again until a moment of the steady clock."""
+        while True:
+            try:
+                return json.loads(self._client.request("POST", "/acts", json.dumps(body).encode(), heads)[1])
+            except (client.DeskUnreachable, client.RequestRefused) as why:
+                is_away = isinstance(why, client.DeskUnreachable) or why.status == UNAVAILABLE
+                if not is_away or time.monotonic() + REST > until:
+                    raise
+                time.sleep(REST)
 
     def edit(self, *words: str, first: datetime.date | str | None = None, last: datetime.date | str | None = None,
              dry_run: bool = False) -> Edit:
@@ -439,8 +475,7 @@ def row_of_object(fields: Mapping[str, Any], name: str) -> Row:
 def answer_of(fields: Mapping[str, Any]) -> Answer:
     """The Answer of an object in a desk's answer."""
     return Answer(fields["statement"], fields["reply"], fields["seq"], fields["job"], tuple(fields["rows"]),
-                  fields.get("at"),
-                  fields.get("key"))
+                  fields.get("at"), fields.get("key"), fields.get("means", ""))
 
 
 def events_of(answer: http.client.HTTPResponse) -> Iterator[tuple[str, Mapping[str, Any]]]:

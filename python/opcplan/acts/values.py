@@ -2,14 +2,16 @@
 
 import dataclasses
 import re
-from collections.abc import Mapping
+from collections.abc import Mapping, Sequence
 from typing import Any
 
-from opcplan.acts import previews, resolver, several, steps, undoing, verbs
+from opcplan.acts import previews, resolver, rest, several, steps, undoing, verbs
 from opcplan.acts.undoing import Done
 from opcplan.acts.verbs import Ambiguous, Intention, InvalidIntention, NotDoable
 from opcplan.acts.world import World
 from opcplan.errors import UsageError
+from opcplan.rules.known import Known
+from opcplan.rules.stream import Item
 
 MOST_TEXT, MOST_ENTRY, MOST_DONE = 100, 999_999_999_999_999, 100_000
 FIELDS = {"verb": str, "of": str, "to": str, "due": str, "chain": bool, "followers": bool, "entry": int, "each": list}
@@ -105,6 +107,17 @@ def rest_of(world: World, stream: str, done: int) -> dict[str, Any]:
     if not left:
         return {"act": None, "found": None, "why_not": "nothing of it is left"}
     return {"act": previews.of_rest(world, tuple(left)).values(), "found": None, "why_not": ""}
+
+
+def answer_of_rest(world: World, items: Sequence[Item], done: Sequence[Done], known: Known) -> dict[str, Any]:
+    """What is left of an act as JSON has it: `act`, or `why_not` if it can't be done any more; neither if nothing is
+    left."""
+    if not items:
+        return {"act": None, "found": None, "why_not": ""}
+    try:
+        return {"act": rest.preview(world, items, done, known).values(), "found": None, "why_not": ""}
+    except NotDoable as why:
+        return {"act": None, "found": None, "why_not": str(why)}
 
 
 def lines_of(found: Mapping[str, Any]) -> list[str]:

@@ -16,6 +16,7 @@ from opcplan.desk import client
 from opcplan.errors import Error, UsageError
 from opcplan.plans import plan_file
 
+AGAIN = "type the same command again, and it goes on with what is left"
 KEY = "APP, APP DAY, APP HH.MM, APP DAY/HH.MM, or a serial"
 IS_NUMBER = re.compile("[0-9]{1,9}")
 IS_OCCURRENCE = re.compile("[A-Za-z@#$][A-Za-z0-9@#$]{0,15}|#?[0-9]{1,9}")

@@ -4,8 +4,9 @@ import io
 import os
 import sys
 import time
+from collections.abc import Sequence
 
-from opcplan.acts import loaded, previews, resolver, steps, undoing, verbs
+from opcplan.acts import loaded, previews, resolver, rest, steps, undoing, verbs
 from opcplan.acts.previews import Preview
 from opcplan.acts.undoing import Done
 from opcplan.acts.verbs import Act, Ambiguous, NotDoable
@@ -14,11 +15,11 @@ from opcplan.cli import words
 from opcplan.commands import acting, edit_change, run, send
 from opcplan.commands.acting import NotChosen, Settings
 from opcplan.errors import Error, Unreadable
-from opcplan.plans import begun_acts, job_numbers, journal, plan_file, printed_numbers
+from opcplan.plans import begun_acts, job_numbers, journal, plan_file, printed_numbers, stream_state
 from opcplan.plans.begun_acts import Begun
 from opcplan.plans.plan_file import Plan
 from opcplan.plans.program import built_program
-from opcplan.rules import moments, printable, statement_words, stream
+from opcplan.rules import moments, printable, stream
 
 
 def done(settings: Settings, path: str) -> int:
@@ -32,14 +33,11 @@ def done(settings: Settings, path: str) -> int:
             return left
     before = plan_file.stamps(name)
     found = previewed(settings, path)
-    for line in found.lines:
-        print(printable.fit(line))
-    sys.stdout.flush()
+    show(found.lines)
     if settings.is_dry:
         return 0
     acting.agree(settings)
-    if plan_file.stamps(name) != before:
-        raise Error(f"{path}: nothing was done, because another program wrote to it meanwhile; type it again")
+    check_unchanged(path, before)
     text = numbered(path, found)
     begun_acts.note(name, wanted, Begun(text))
     return sent(settings, path, text)
@@ -100,35 +98,54 @@ def numbered(path: str, found: Preview) -> str:
 
 
 def goes_on(settings: Settings, path: str, begun: Begun) -> int | None:
-    """Goes on with an act that was begun: the exit status; None if nothing of it was done, so that it begins anew."""
+    """Goes on with an act that was begun: the exit status; None if nothing of it was done, so that it begins anew.
+    Raises Error if what is left can't be done any more."""
     name, wanted = os.path.realpath(path), settings.wanted.text
-    lines = [one.splitlines()[0] for one in statements_of(begun.stream)]
+    items = list(stream.items(stream.Source(io.BytesIO(begun.stream.encode()), "the act")))
+    before = plan_file.stamps(name)
     with plan_file.opened(path) as plan:
-        kept = sum(is_kept(plan, line) for line in lines)
-    if not kept:
-        begun_acts.drop(name, wanted)
-        return None
-    print(f"`{wanted}` was stopped: {kept} of its {len(lines)} statements {'is' if kept == 1 else 'are'} done.")
-    for line in lines[kept:]:
-        print(printable.fit(f"  left: {line}"))
-    sys.stdout.flush()
-    if kept < len(lines):
-        acting.agree(settings, "Go on?")
+        done = done_of(plan, items)
+        if not done:
+            begun_acts.drop(name, wanted)
+            return None
+        counted = f"{len(done)} of its {len(items)} statements {'is' if len(done) == 1 else 'are'} done"
+        print(f"`{wanted}` was stopped: {counted}.")
+        sys.stdout.flush()
+        if len(done) < len(items):
+            try:
+                left = rest.preview(loaded.world_of(plan), items[len(done):], done, stream_state.of_plan(plan))
+            except NotDoable as why:
+                begun_acts.drop(name, wanted)
+                raise Error(f"{why}. So nothing more was done: {counted}, which `undo` takes back if it can be taken "
+                            "back") from None
+            show(left.lines)
+            acting.agree(settings, "Go on?")
+    check_unchanged(path, before)
     return sent(settings, path, begun.stream)
 
 
-def statements_of(text: str) -> list[str]:
-    """The statements of a stream, each with its data."""
-    found = [item.line for item in stream.items(stream.Source(io.BytesIO(text.encode()), "the act"))]
-    lines = text.splitlines(keepends=True)
-    return ["".join(lines[begin - 1:end - 1]) for begin, end in zip(found, [*found[1:], len(lines) + 1])]
+def done_of(plan: Plan, items: Sequence[stream.Item]) -> list[Done]:
+    """The statements, from the first one on, that a plan keeps under their job numbers."""
+    found = []
+    for item in items:
+        kept = loaded.kept_job(plan, item.asked.job or 0)
+        if kept is None or kept.line != item.text.decode("ascii", "replace"):
+            break
+        found.append(kept)
+    return found
 
 
-def is_kept(plan: Plan, line: str) -> bool:
-    """Whether a plan keeps a statement under its job number."""
-    statement, _ = statement_words.read(line.split(" "))
-    kept = loaded.kept_job(plan, statement.job) if statement is not None and statement.job is not None else None
-    return kept is not None and kept.line == line
+def show(lines: Sequence[str]) -> None:
+    """Prints what would be done."""
+    for line in lines:
+        print(printable.fit(line))
+    sys.stdout.flush()
+
+
+def check_unchanged(path: str, before: list[plan_file.Stamp]) -> None:
+    """Asks that nobody has written to a plan since. Raises Error."""
+    if plan_file.stamps(os.path.realpath(path)) != before:
+        raise Error(f"{path}: nothing was done, because another program wrote to it meanwhile; type it again")
 
 
 def sent(settings: Settings, path: str, text: str) -> int:
@@ -143,5 +160,5 @@ def sent(settings: Settings, path: str, text: str) -> int:
     if status in (0, 4):
         begun_acts.drop(os.path.realpath(path), settings.wanted.text)
     else:
-        words.print_message("type the same command again, and it goes on with what is left")
+        words.print_message(acting.AGAIN)
     return status

@@ -1,14 +1,20 @@
-"""`POST /acts`: what an operator wants, as statements with their preview; and these statements done.
+"""`POST /acts`: what an operator wants, as statements with their preview; these statements done; and what is left of
+them if they were stopped.
 
 A process of its own finds the preview in a copy of the plan. With `If-Match` the desk does the statements of a preview
-as it does a stream of `POST /statements`: under the caller's key, each in the state that the one before it left."""
+as it does a stream of `POST /statements`: under the caller's key, each in the state that the one before it left. So:
+
+- what is done of an act is a beginning of it, up to its first refusal, and the answer says what is left and why;
+- the same request under its key goes on, with the tag of now, and does nothing twice;
+- without a tag it says what is left and what that would do now, or in words why it can't be done any more. `done` in
+  place of a key says how many statements are done, for a caller who knows that."""
 
 import asyncio
 import contextlib
 import json
 import os
 import sys
-from collections.abc import Callable
+from collections.abc import AsyncIterator, Callable, Iterable, Mapping, Sequence
 from typing import Any, NamedTuple, TYPE_CHECKING
 
 from aiohttp import web
@@ -42,12 +48,16 @@ class Asked(NamedTuple):
 
 
 class Answered(NamedTuple):
-    """The answers to statements as objects of JSON, the state of the plan after the last one, and whether each
-    statement has one."""
+    """The answers to statements, the state of the plan after the last one, and whether each statement has one."""
 
-    found: list[dict[str, Any]]
+    items: list[body.AnsweredItem]
     state: body.PlanState
     is_whole: bool = True
+
+    @property
+    def found(self) -> list[dict[str, Any]]:
+        """The answers as objects of JSON."""
+        return [json.loads(b"".join(body.as_json(one))) for one in self.items]
 
 
 class Acts:
@@ -70,76 +80,157 @@ class Acts:
                 raise StatementRejected(400, "`If-Match` goes with the `stream` of a preview, not with what asks for "
                                         "one; nothing was done")
             return await self.preview(request, asked.look)
+        if tag is None and key is None:
+            raise StatementRejected(400, "a `stream` needs `If-Match` with the `ETag` of its preview; or, for what is "
+                                    "left of it, the `Idempotency-Key` under which it was begun, or `done`; nothing "
+                                    "was done")
         if tag is None:
-            raise StatementRejected(400, "a `stream` needs `If-Match` with the `ETag` of its preview, or `done` for "
-                                    "the preview of what is left; nothing was done")
+            return await self.rest(request, asked.stream, key)
         return await self.do(request, asked.stream, tag.strip().strip('"'), key)
 
     # Previews.
 
     async def preview(self, request: web.Request, look: dict[str, Any]) -> web.StreamResponse:
         """What would be done, or which occurrence is meant. Raises HTTPServiceUnavailable."""
-        async with self.finding.turn(request["who"]):
-            with tempfiles.folder("desk-") as folder:
-                copy = os.path.join(folder, "plan.db")
-                try:
-                    stands = await snapshot.copied(self.desk, self.path, copy, request["who"])
-                except (OSError, Unreadable, FileReplaced) as error:
-                    raise web.HTTPServiceUnavailable(text=f"the desk can't copy the plan: {error}\n") from None
-                if look.get("verb") == "undo":
-                    with contextlib.suppress(LogUnwritable):  # then the last entries can't be undone for now
-                        await self.desk.keep_replies()
-                words = [copy, os.path.abspath(self.journal), str(stands.position), request["who"]]
-                found = await found_by(PROCESS, words, look)
-        state = body.PlanState(stands.tag, stands.position)
-        return answer({**found, "answers": [], "is_whole": False}, state)
+        async with self.finding.turn(request["who"]), self.copied(request["who"]) as (copy, state):
+            if look.get("verb") == "undo":
+                with contextlib.suppress(LogUnwritable):  # then the last entries can't be undone for now
+                    await self.desk.keep_replies()
+            found = await self.found(copy, state, request["who"], look)
+        return answer({**found, "answers": [], "left": [], "is_whole": False}, state)
+
+    async def rest(self, request: web.Request, stream: bytes, key: str | None) -> web.StreamResponse:
+        """What is left of a stream under a key, and what it would do now. Raises StatementRejected and
+        HTTPServiceUnavailable."""
+        who, items = request["who"], items_of(stream)
+        with self.desk.work(who) as work:
+            taken = body.Body(self.desk, items, who, key, None)
+            await taken.claim(work)
+            taken.is_put = True
+            taken.release()
+        async with self.finding.turn(who), self.copied(who) as (copy, state):
+            done = taken.done(state.position)
+            look = {"rest": stream.decode("utf-8", "surrogateescape"),
+                    "answered": [(one.ask.entry.line, one.ask.reply) for one in done if one.ask.entry is not None]}
+            found = await self.found(copy, state, who, look)
+        answers = await self.with_means(who, Answered(done, state))
+        if has_refusal(answers):
+            found["why_not"] = why_not(answers, len(items))
+        return answer({**found, "answers": answers, "left": lines_of(items[len(done):]),
+                       "is_whole": len(done) == len(items)}, state)
+
+    @contextlib.asynccontextmanager
+    async def copied(self, who: str) -> AsyncIterator[tuple[str, body.PlanState]]:
+        """A copy of the plan for a caller, and its state. Raises HTTPServiceUnavailable."""
+        with tempfiles.folder("desk-") as folder:
+            copy = os.path.join(folder, "plan.db")
+            try:
+                stands = await snapshot.copied(self.desk, self.path, copy, who)
+            except (OSError, Unreadable, FileReplaced) as error:
+                raise web.HTTPServiceUnavailable(text=f"the desk can't copy the plan: {error}\n") from None
+            yield copy, body.PlanState(stands.tag, stands.position)
+
+    async def found(self, copy: str, state: body.PlanState, who: str, look: dict[str, Any]) -> Any:
+        """What the process finds in a copy of the plan. Raises HTTPServiceUnavailable."""
+        return await found_by(PROCESS, [copy, os.path.abspath(self.journal), str(state.position), who], look)
 
     # What is done.
 
     async def do(self, request: web.Request, stream: bytes, tag: str, key: str | None) -> web.StreamResponse:
-        """Does the statements of a preview in the state of a tag. Raises StatementRejected and PlannerStopped."""
+        """Does the statements of a preview. Raises StatementRejected and PlannerStopped."""
         done = await self.done(request, stream, tag, key)
-        values = {"act": None, "found": None, "why_not": "", "answers": done.found, "is_whole": done.is_whole}
-        return answer(values, done.state)
+        answers, items = await self.with_means(request["who"], done), items_of(stream)
+        return answer({"act": None, "found": None, "why_not": why_not(answers, len(items)), "answers": answers,
+                       "left": lines_of(items[len(answers):]), "is_whole": done.is_whole}, done.state)
 
     async def done(self, request: web.Request, stream: bytes, tag: str, key: str | None) -> Answered:
-        """The answers to the statements of a preview, done in the state of a tag. Raises StatementRejected and
-        PlannerStopped."""
-        try:
-            items = requests.of_stream(stream)
-        except requests.BadStream as why:
-            raise StatementRejected(400, f"{why}; nothing was done") from None
-        if not any(one.changes for one in items):
-            raise StatementRejected(400, "the `stream` has no statement that changes something; nothing was done")
+        """The answers to the statements of a preview, done in the state of a tag, up to the first that is refused.
+        Raises StatementRejected and PlannerStopped."""
+        items = items_of(stream)
         for one in items:
             guard.needed(request, one.role, one.name)
         with self.desk.work(request["who"]) as work:
             taken = body.Body(self.desk, items, request["who"], key, None)
             self.desk.agents.sent(request["who"], key)
-            taken.condition = tag
+            taken.condition, taken.ends_at_refusal = tag, True
             await taken.claim(work)
             if not taken.take_at_once():
                 self.keep(asyncio.create_task(taken.take()))
             found = await answers_of(taken)
-        return found._replace(is_whole=len(found.found) == len(items))
+        return found._replace(is_whole=len(found.items) == len(items))
+
+    async def with_means(self, who: str, done: Answered) -> list[dict[str, Any]]:
+        """Answers as objects of JSON, each with what its refusal means by what the plan has now: in `means`, which is
+        empty if it was accepted, or if that can't be found now."""
+        answers = done.found
+        refused = [place for place, one in enumerate(answers) if not one["reply"].startswith("ok")]
+        texts: dict[int, str] = {}
+        if refused:
+            look = {"refused": [(text_of(done.items[place]), answers[place]["reply"]) for place in refused]}
+            with contextlib.suppress(web.HTTPServiceUnavailable):
+                async with self.finding.turn(who), self.copied(who) as (copy, state):
+                    texts = dict(zip(refused, await self.found(copy, state, who, look)))
+        return [{**one, "means": texts.get(place, "")} for place, one in enumerate(answers)]
+
+
+def items_of(data: bytes) -> list[requests.StreamItem]:
+    """The statements of a stream, which all change something. Raises StatementRejected."""
+    try:
+        items = requests.of_stream(data)
+    except requests.BadStream as why:
+        raise StatementRejected(400, f"{why}; nothing was done") from None
+    if not items:
+        raise StatementRejected(400, "the `stream` has no statement; nothing was done")
+    for one in items:
+        if not one.changes:
+            raise StatementRejected(400, f"the `stream` has `{one.words[:60]}`, which is no statement that changes "
+                                    "something; nothing was done")
+    return items
+
+
+def lines_of(items: Iterable[requests.StreamItem]) -> list[str]:
+    """The lines of statements."""
+    return [one.words for one in items]
+
+
+def text_of(one: body.AnsweredItem) -> str:
+    """The text of an answered statement, with its data."""
+    return "" if one.ask.entry is None else one.ask.entry.text.decode("utf-8", "surrogateescape")
+
+
+def has_refusal(answers: Iterable[Mapping[str, Any]]) -> bool:
+    """Whether a statement was refused."""
+    return any(not one["reply"].startswith("ok") for one in answers)
+
+
+def why_not(answers: Sequence[Mapping[str, Any]], count: int) -> str:
+    """Why not all of an act was done, in a sentence; empty if all was."""
+    for one in answers:
+        if not one["reply"].startswith("ok"):
+            means = f": {one['means']}" if one["means"] else ""
+            rest = "" if len(answers) == count else "; so the rest wasn't done"
+            return f"`{one['statement'].partition(' --job')[0]}` was {one['reply']}{means}{rest}"
+    if len(answers) == count:
+        return ""
+    return (f"somebody else changed the plan after statement {len(answers)} of {count}, so the rest wasn't done; look "
+            "at what is left of it")
 
 
 async def answers_of(taken: body.Body) -> Answered:
-    """The answers to the statements of a body, up to the first that isn't done because somebody else changed the plan.
-    Raises StatementRejected and PlannerStopped if that is the first one, or something else keeps one from its
-    answer."""
-    found: list[dict[str, Any]] = []
+    """The answers to the statements of a body, up to the first that isn't done because somebody else changed the plan
+    or the one before it was refused. Raises StatementRejected and PlannerStopped if that is the first one, or something
+    else keeps one from its answer."""
+    found: list[body.AnsweredItem] = []
     try:
         for _ in taken.asked:
-            one = await taken.next()
-            found.append(json.loads(b"".join(body.as_json(one))))
+            found.append(await taken.next())
     except (StatementRejected, PlannerStopped) as why:
         if not found:
             raise
-        if not isinstance(why, StatementRejected) or why.status != body.CHANGED:
+        if not isinstance(why, StatementRejected) or why.status not in (body.CHANGED, body.REFUSED):
             text = f"{why}".removesuffix("; nothing was done")
             raise StatementRejected(503, f"there is no answer to statement {len(found) + 1} of the act, and those "
-                                    f"before it are answered: {text}; send it again under its key") from None
+                                    f"before it are answered: {text}. The same request under its key goes on") from None
     finally:
         taken.leave()
     return Answered(found, taken.state)
@@ -164,7 +255,7 @@ def of_body(data: bytes) -> Asked:
     return Asked(None, found["stream"].encode("utf-8", "replace"))
 
 
-async def found_by(module: str, words: list[str], look: dict[str, Any]) -> dict[str, Any]:
+async def found_by(module: str, words: list[str], look: dict[str, Any]) -> Any:
     """What the process of a module finds. Raises HTTPServiceUnavailable."""
     process = await asyncio.create_subprocess_exec(
         sys.executable, "-E", "-B", "-m", module, *words, cwd=PYTHON, stdin=asyncio.subprocess.PIPE,
@@ -181,8 +272,7 @@ async def found_by(module: str, words: list[str], look: dict[str, Any]) -> dict[
     if process.returncode:
         why = said.decode("utf-8", "replace").strip().split("\n")[-1]
         raise web.HTTPServiceUnavailable(text=f"the desk can't find what would change: {why}\n")
-    found: dict[str, Any] = json.loads(out)
-    return found
+    return json.loads(out)
 
 
 def answer(found: dict[str, Any], state: body.PlanState) -> web.Response:

@@ -21,6 +21,7 @@ if TYPE_CHECKING:
 # statements of one stream that are in the queue at once
 WINDOW = 32
 CHANGED = 412  # HTTP's status if the plan isn't in the state that If-Match names
+REFUSED = 424  # HTTP's status if an earlier statement of an act was refused
 KEY = re.compile(routes.KEY)
 # how many bytes of an answer wait for the state after its last statement, and for how many seconds: callers who have
 # several desks wait 30 seconds for the first byte
@@ -76,6 +77,9 @@ class Body:
         self.desk, self.asked, self.who, self.key, self.condition = desk, asked, who, key, condition
         self.at = entry.moment_now()
         self.last: Submission | None = None  # the change after which the next one comes, if there is a condition
+        # of an act: no statement is done after one that was refused. It needs a condition
+        self.ends_at_refusal = False
+        self.before: Submission | None = None  # the statement in front of the next one
         # after the last answered statement; before the first one, that in which the stream came
         self.state = PlanState(desk.tag(), desk.position)
         self.asks: asyncio.Queue[SubmittedItem] = asyncio.Queue()
@@ -161,6 +165,8 @@ class Body:
         ask = self.desk.ask_change(one.name, self.wanted(one, place), self.condition and (self.last or self.condition))
         if ask.is_change:  # one that was done before under its key needs no state
             self.last = ask
+            ask.accepted = self.before if self.ends_at_refusal else None
+        self.before = ask
         return ask
 
     def wanted(self, one: StreamItem, place: int) -> entry.Wanted:
@@ -183,6 +189,17 @@ class Body:
         if changes:
             self.desk.claim(self.who, self.key, self.digest)
             self.is_claimed = True
+
+    def done(self, upto: int) -> list[AnsweredItem]:
+        """The statements, from the first one on, that were done under the key and are answered, up to an entry. Raises
+        StatementRejected if the key is that of others."""
+        found: list[AnsweredItem] = []
+        for place, one in enumerate(self.asked):
+            ask = self.desk.known(self.wanted(one, place))
+            if ask is None or ask.reply is None or ask.entry is None or ask.entry.seq > upto:
+                break
+            found.append(self.answered(one, ask))
+        return found
 
     async def next(self) -> AnsweredItem:
         """Waits for the next answered statement. Raises StatementRejected and PlannerStopped."""

@@ -178,7 +178,9 @@ class Feed:
             if await self.log.ask_last(time.monotonic() + PATIENCE) != self.log.given:
                 return []  # what others appended comes first
             await self.desk.planner.idle_or_stopped()
-            if not (self.desk.state.is_state(ask.asked_tag) or self.is_done(ask)):
+            if ask.is_after_refusal and not self.is_done(ask):
+                why = StatementRejected(424, "an earlier statement was refused, so this one wasn't done")
+            elif not (self.desk.state.is_state(ask.asked_tag) or self.is_done(ask)):
                 why = StatementRejected(412, "the plan is no longer in the state that If-Match names; nothing was done")
         except LogUnwritable as error:
             why = StatementRejected(503, f"{error}; nothing was done")

@@ -74,6 +74,7 @@ class Submission:
         self.is_again = False  # its entry was answered before, at this desk or another one
         # the tag of the state that it needs, or the change of its stream after which the plan must be unchanged
         self.condition: str | Submission | None = None
+        self.accepted: Submission | None = None  # what must be accepted before it, if it has a condition
         self.streams: list["Body"] = []  # that wait for it
         self.begun = time.monotonic()
         self.tries = 0
@@ -102,6 +103,11 @@ class Submission:
     def is_change(self) -> bool:
         """Whether it has to go into the log, and isn't there yet."""
         return self.wanted is not None and self.entry is None
+
+    @property
+    def is_after_refusal(self) -> bool:
+        """Whether what must be accepted before it was refused."""
+        return self.accepted is not None and (self.accepted.reply or "").startswith("refused")
 
     @property
     def asked_tag(self) -> str:

@@ -94,7 +94,8 @@ ROUTES = (
     Route("POST", "/acts", Role.READ, "acts.handle", JSON,
           "the body says what is to be done, as an object of JSON: `verb`, `of` and so on. The answer has the "
           "statements that do it and what they would do, and nothing is done. With `If-Match` and the `stream` of that "
-          "answer the desk does them; each needs its role", OF_STATEMENTS, body=JSON,
+          "answer the desk does them; each needs its role. With the `stream` alone and its `Idempotency-Key`, the "
+          "answer has what is left of it", OF_STATEMENTS, body=JSON,
           statuses=("408", "409", "412", "413"), is_of_state=True),
     Route("POST", "/edits", Role.READ, "edits.handle", JSON,
           "the body has in `edit` the words of a change of definitions, as `./plan edit` takes them (`EDITS.md`). The "

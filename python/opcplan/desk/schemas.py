@@ -89,6 +89,8 @@ OF_MEMBER = {"bytes": COUNT, "in use": COUNT, "quota": maybe(COUNT), "leads": FL
 COMPONENTS: Mapping[str, Schema] = {
     "Answer": {"description": "the answer to a statement, and the state of the plan after it", **record(
         **CHANGE | STATE | {"seq": maybe(COUNT), "job": maybe(COUNT), "key": maybe(TEXT)})},
+    "ActAnswer": {"description": "the answer to a statement of an act; `means` has a refusal in words", **record(
+        **CHANGE | STATE | {"key": maybe(TEXT)}, means=TEXT)},
     "Entry": {"description": "an answered change", **record(**CHANGE, key=maybe(TEXT), who=TEXT)},
     "State": {"description": "a state of the plan: its tag, and the last entry that the plan has", **record(**STATE)},
     **{f"Row_{name}": {"description": f"a row of the list `{name}`", **of_line(line)}
@@ -133,7 +135,8 @@ PAGE: Schema = record(
     plan=of_type(page_values.Data),
     desk=record(**STATE, who=TEXT, role=ROLE, clock=NUMBER, zone=NUMBER, stands=FLAG, signs=FLAG,
                 acts=by_name(record(**{"from": TEXT, "alone": FLAG, "done": TEXT})), reply=TEXT))
-ACTS: Schema = record(**STATE, act=maybe(ref("Act")), why_not=TEXT, answers=listed(ref("Answer")), is_whole=FLAG,
+ACTS: Schema = record(**STATE, act=maybe(ref("Act")), why_not=TEXT, answers=listed(ref("ActAnswer")),
+                      left=listed(TEXT), is_whole=FLAG,
                       found=maybe(record(choices=listed(ref("ActRow")), row=maybe(ref("ActRow")), why=TEXT,
                                          before=maybe(ref("ActRow")), after=maybe(ref("ActRow")),
                                          lines=listed(TEXT))))

@@ -22,11 +22,12 @@ FOLDER, LONGEST = "acts", 86_400
 
 
 class Begun(NamedTuple):
-    """An act that was begun: its stream, with job numbers over a file; the key for a desk and the entry before it."""
+    """An act that was begun: its stream, with job numbers over a file; for a desk the key, and the tag of the state in
+    which its first statement is done."""
 
     stream: str
     key: str = ""
-    position: int = 0
+    tag: str = ""
 
 
 def folder() -> str:
@@ -51,7 +52,7 @@ def find(plan: str, wanted: str) -> Begun | None:
             return None
         with open(path, encoding="utf-8") as file:
             found = json.load(file)
-        return Begun(str(found["stream"]), str(found["key"]), int(found["position"]))
+        return Begun(str(found["stream"]), str(found["key"]), str(found["tag"]))
     return None
 
 
