@@ -50,9 +50,9 @@ dp-extend --to 2026-11-25/00.00 --job 6
 """ + "".join(f"cp-{what} --app {app} --ia 2026-11-23/0{hour}.00 --job {number}\n" for hour, app, what, number in (
     (6, "PAY", "start", 60), (6, "PAY", "complete", 61), (7, "BANK", "start", 70), (7, "BANK", "complete", 71),
     (8, "MAIL", "start", 80), (8, "MAIL", "complete", 81)))
-# does the first statements of a stream, and is then killed
+# does the first lines of a stream as they come, and is then killed
 STOPPED = """#!/bin/sh
-head -n %d | %s "$@" >/dev/null 2>&1
+sed -u %s | %s "$@" 2>&1
 kill -9 $$
 """
 
@@ -177,10 +177,7 @@ class OverAFile(Case):
             for count in range(len(lengths) + 1):
                 with self.subTest(verb=verb, count=count):
                     self.plan = plans.copy_of(plans.of_stream(PLAN), self.room)
-                    stopped = self.room / "stopped"
-                    stopped.write_text(STOPPED % (sum(lengths[:count]), plans.PROGRAM), encoding="ascii")
-                    stopped.chmod(0o755)
-                    self.words = ("--program", stopped)
+                    self.words = ("--program", self.stopped(sum(lengths[:count])))
                     ran = self.ask(verb, *words, status=8)
                     self.assertIn("type the same command again", ran.stderr)
                     self.words = ("--program", plans.PROGRAM)
@@ -189,6 +186,59 @@ class OverAFile(Case):
                     self.assertEqual(expected.of_file(self.plan), expected.of_stream(PLAN, whole))
                     self.assertEqual(self.jobs(), plans.as_bytes(PLAN + whole).count(b" --job "))
                     self.assertEqual(self.states(), [])
+
+    def stopped(self, lines, by=""):
+        """A program that does the first lines of a stream and is killed; then somebody does a statement."""
+        stopped = self.room / "stopped"
+        text = STOPPED % (f"{lines}q" if lines else "-n 1q", plans.PROGRAM)
+        if by:
+            text = text.replace("kill", f"echo '{by}' | {plans.PROGRAM} \"$@\" >&2\nkill")
+        stopped.write_text(text, encoding="ascii")
+        stopped.chmod(0o755)
+        return stopped
+
+    def test_somebody_changes_the_plan_between_a_kill_and_the_same_call(self):
+        """The cases and their results are those of the rules."""
+        rerun = [f"cp-add --app {app} --ia 2026-11-23/{hour}.01" for hour, app in (("06", "PAY"), ("07", "BANK"), (
+            "08", "MAIL"))]
+        move = ["cp-add --app BANK --ia 2026-11-24/09.30", "cp-delete --app BANK --ia 2026-11-24/07.00"]
+        cases = (
+            (("rerun", "PAY", "2026-11-23", "--with-followers"), rerun, 2, "cp-start --app PAY --ia 2026-11-24/06.00",
+             ""),
+            (("rerun", "PAY", "2026-11-23", "--with-followers"), rerun, 1, rerun[1], "would be refused 27 now: "),
+            (("rerun", "PAY", "2026-11-23", "--with-followers"), rerun, 1, rerun[0].replace("add", "delete"),
+             "what was done of it has been taken back since"),
+            (("move", "BANK", "2026-11-24/07.00", "09.30"), move, 1, move[1], "would be refused 28 now: "),
+            (("move", "BANK", "2026-11-24/07.00", "09.30"), move, 1, "cp-fail --app PAY --ia 2026-11-24/06.00", ""))
+        for call, lines, count, by, why in cases:
+            with self.subTest(call=call[0], by=by):
+                self.plan = plans.copy_of(plans.of_stream(PLAN), self.room)
+                self.words = ("--program", self.stopped(count, f"{by} --job 900000000"))
+                self.ask(*call, status=8)
+                self.words = ("--program", plans.PROGRAM)
+                ran = self.ask(*call, status=1 if why else 0)
+                self.assertIn(f"{count} of its {len(lines)} statements", ran.stdout)
+                self.assert_plan(*lines[:count], by, *([] if why else lines[count:]))
+                self.assertEqual(self.states(), [])
+                if why:
+                    self.assertIn(why, ran.stderr)
+                    self.assertIn(" So nothing more was done", ran.stderr)
+                    ran = plan(*call[:1], self.plan, *call[1:], *self.words, "--dry-run")
+                    self.assertNotIn("was stopped", ran.stdout)  # the next call begins anew
+
+    def test_an_act_goes_no_further_than_its_first_refusal(self):
+        """Somebody takes the place of the new run just before opcplan gets the first statement."""
+        line = "cp-add --app BANK --ia 2026-11-24/09.30"
+        first = self.room / "first"
+        first.write_text(f"#!/bin/sh\necho '{line} --job 900000000' | {plans.PROGRAM} \"$@\" >/dev/null\n"
+                         f"exec {plans.PROGRAM} \"$@\"\n", encoding="ascii")
+        first.chmod(0o755)
+        self.words = ("--program", first)
+        ran = self.ask("move", "BANK", "2026-11-24/07.00", "09.30", status=4)
+        self.assertEqual(ran.stdout.splitlines()[-1], "refused 27")
+        self.assertIn("1 of its 2 statements was left out, because the one before was refused", ran.stderr)
+        self.assert_plan(line)
+        self.assertEqual(self.states(), [])
 
     def test_a_kept_job_is_undone_without_a_journal(self):
         self.ask("start", "PAY", "2026-11-24")

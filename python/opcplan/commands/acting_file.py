@@ -15,7 +15,7 @@ from opcplan.cli import words
 from opcplan.commands import acting, edit_change, run, send
 from opcplan.commands.acting import NotChosen, Settings
 from opcplan.errors import Error, Unreadable
-from opcplan.plans import begun_acts, job_numbers, journal, plan_file, printed_numbers, stream_state
+from opcplan.plans import begun_acts, job_numbers, journal, own_runs, plan_file, printed_numbers, stream_state
 from opcplan.plans.begun_acts import Begun
 from opcplan.plans.plan_file import Plan
 from opcplan.plans.program import built_program
@@ -135,6 +135,13 @@ def done_of(plan: Plan, items: Sequence[stream.Item]) -> list[Done]:
     return found
 
 
+def statements_of(text: bytes) -> list[bytes]:
+    """The statements of a stream, each with its data."""
+    begins = [item.line - 1 for item in stream.items(stream.Source(io.BytesIO(text), "the act"))]
+    lines = text.splitlines(keepends=True)
+    return [b"".join(lines[begin:end]) for begin, end in zip(begins, [*begins[1:], len(lines)])]
+
+
 def show(lines: Sequence[str]) -> None:
     """Prints what would be done."""
     for line in lines:
@@ -149,16 +156,22 @@ def check_unchanged(path: str, before: list[plan_file.Stamp]) -> None:
 
 
 def sent(settings: Settings, path: str, text: str) -> int:
-    """Has opcplan do a stream over the plan, and prints its answers; the exit status."""
+    """Has opcplan do a stream over the plan up to its first refusal, and prints its answers; the exit status."""
     program = os.path.abspath(settings.program or built_program())
     data = text.encode("ascii")
+    statements = statements_of(data)
     try:
-        ran = send.sent(program, path, data, 0)
+        ran = own_runs.ran_in_turn(program, path, statements)
     except OSError as error:
         raise Unreadable(f"{program}: it can't be run: {error.strerror}") from None
     status = send.shown(data, ran, path=path)
     if status in (0, 4):
         begun_acts.drop(os.path.realpath(path), settings.wanted.text)
+        left = len(statements) - len(own_runs.REPLY.findall(ran.stdout))
+        if left:
+            were = "was" if left == 1 else "were"
+            words.print_message(f"{left} of its {len(statements)} statements {were} left out, because the one before "
+                                "was refused")
     else:
         words.print_message(acting.AGAIN)
     return status

@@ -3,6 +3,7 @@ when that is known)."""
 
 import contextlib
 import fcntl
+import functools
 import io
 import os
 import re
@@ -13,7 +14,8 @@ import subprocess
 import termios
 import threading
 import time
-from collections.abc import Callable, Iterator
+from collections.abc import Callable, Iterator, Sequence
+from typing import IO
 
 from opcplan.errors import Unreadable
 from opcplan.plans import kept_checks, plan_file, successions, tempfiles
@@ -32,14 +34,32 @@ LOOK, SETTLES = 1.0, 0.1
 
 def ran(program: str, path: str, text: bytes) -> Ran:
     """What opcplan answers to a text over a file. Where the file was found sound before, its new state is kept."""
-    words = [program, "--db", os.path.abspath(path)]
     sound = sound_state(program, path)
     count = None if sound is None else replies_to(text)
     if sound is None or count is None:
-        return subprocess.run(words, input=text, capture_output=True, check=False)
+        return subprocess.run(words_of(program, path), input=text, capture_output=True, check=False)
+    return looked_at(path, sound, functools.partial(talked, words_of(program, path), text, count))
+
+
+def ran_in_turn(program: str, path: str, statements: Sequence[bytes]) -> Ran:
+    """What opcplan answers to statements over a file, up to the first that isn't accepted: it gets each after the reply
+    to the one before it. Where the file was found sound before, its new state is kept."""
+    words, sound = words_of(program, path), sound_state(program, path)
+    if sound is None:
+        return talked_in_turn(words, statements, lambda: None)
+    return looked_at(path, sound, functools.partial(talked_in_turn, words, statements))
+
+
+def words_of(program: str, path: str) -> list[str]:
+    """The words that run a program over a file."""
+    return [program, "--db", os.path.abspath(path)]
+
+
+def looked_at(path: str, sound: State, talk: Callable[[Callable[[], None]], Ran]) -> Ran:
+    """What a run answers over a file that is in a sound state; `talk` takes the look at it. Its new state is kept."""
     with tempfiles.folder("run-") as folder:
         looked = Look(os.path.realpath(path), sound, os.path.join(folder, "plan.db"))
-        found = talked(words, text, count, looked.take)
+        found = talk(looked.take)
         if successions.ended_well(found.returncode, found.stderr):
             looked.keep()
     return found
@@ -173,11 +193,39 @@ def talked(words: list[str], text: bytes, count: int, look: Callable[[], None]) 
     return subprocess.CompletedProcess(words, process.returncode, bytes(replies.data), b"".join(errors))
 
 
+def talked_in_turn(words: list[str], statements: Sequence[bytes], look: Callable[[], None]) -> Ran:
+    """What a program answers to statements, of which it gets each once the one before it was accepted. Before the
+    program is told that there are no more, there is a look."""
+    with subprocess.Popen(words, stdin=subprocess.PIPE, stdout=subprocess.PIPE, stderr=subprocess.PIPE) as process:
+        assert process.stdin is not None and process.stdout is not None and process.stderr is not None
+        errors: list[bytes] = []
+        thread = threading.Thread(target=read, args=(process.stderr, errors), daemon=True)
+        try:
+            thread.start()
+            replies = Replies()
+            for count, text in enumerate(statements, 1):
+                write(process.stdin, text)
+                while replies.count < count and (piece := os.read(process.stdout.fileno(), PIECE)):
+                    replies.take(piece)
+                if replies.count < count or not replies.is_accepted:
+                    break
+            if replies.count and not replies.has_fault:
+                look()
+            with contextlib.suppress(OSError, ValueError):
+                process.stdin.close()
+            replies.take(process.stdout.read())
+            thread.join()
+        except BaseException:
+            process.kill()
+            raise
+    return subprocess.CompletedProcess(words, process.returncode, bytes(replies.data), b"".join(errors))
+
+
 class Replies:
-    """The output of a program, and how many replies it has."""
+    """The output of a program, how many replies it has, and whether each of them accepts."""
 
     def __init__(self) -> None:
-        self.data, self.place, self.count, self.has_fault = bytearray(), 0, 0, False
+        self.data, self.place, self.count, self.has_fault, self.is_accepted = bytearray(), 0, 0, False, True
 
     def take(self, piece: bytes) -> None:
         """Takes more of it."""
@@ -186,10 +234,11 @@ class Replies:
         for found in REPLY.finditer(self.data, self.place, end):
             self.count += 1
             self.has_fault |= found.group().startswith(b"fault")
+            self.is_accepted &= found.group().startswith(b"ok")
         self.place = max(self.place, end)
 
 
-def write(file: io.BufferedWriter, text: bytes) -> None:
+def write(file: IO[bytes], text: bytes) -> None:
     """Writes a text to a program that may end before it has read it."""
     with contextlib.suppress(OSError, ValueError):
         file.write(text)
