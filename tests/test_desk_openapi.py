@@ -127,10 +127,27 @@ class Document(desks.Case):
         self.assertEqual(self.check("POST", "/acts", do, If_Match='"x"')[0], 412)
         done = self.check("POST", "/acts", do, If_Match=found["tag"], Idempotency_Key="an-act")
         self.assertTrue(json.loads(done[2])["is_whole"], done)
+        left = json.loads(self.check("POST", "/acts", do, Idempotency_Key="an-act")[2])
+        self.assertEqual((left["left"], left["is_whole"]), ([], True))
         self.assertEqual(self.check("POST", "/acts", do)[0], 400)
         self.assertEqual(self.check("POST", "/acts", do, token="read", If_Match=found["tag"])[0], 403)
+        self.check_stopped(left["tag"])
         self.assertEqual(self.check("POST", "/acts", json.dumps({"verb": "go"}))[0], 400)
         self.check("POST", "/acts", "{")
+
+    def check_stopped(self, tag):
+        """Asks an act that ends at a refusal, and what is left of it."""
+        lines = [f"cp-delete --app APP99 --ia 2024-01-0{day}/06.00" for day in (1, 2)]
+        do = json.dumps({"stream": "".join(f"{line}\n" for line in lines)})
+        self.assertTrue(json.loads(self.check("POST", "/acts", do, Idempotency_Key="a-stop")[2])["why_not"])
+        found = json.loads(self.check("POST", "/acts", do, If_Match=tag, Idempotency_Key="a-stop")[2])
+        self.assertEqual((found["left"], found["is_whole"], found["act"]), (lines[1:], False, None))
+        self.assertTrue(found["answers"][0]["means"])
+        left = json.loads(self.check("POST", "/acts", do, Idempotency_Key="a-stop")[2])
+        self.assertEqual((left["answers"][0]["means"], left["why_not"]), (
+            found["answers"][0]["means"], found["why_not"]))
+        left = json.loads(self.check("POST", "/acts", json.dumps({**json.loads(do), "done": 1}))[2])
+        self.assertEqual((left["act"]["statements"], left["act"]["replies"]), (lines[1:], ["refused 28"]))
 
     def check_edits(self):
         """Asks edits: a preview, what can't be done, and what is done in a state."""

@@ -21,8 +21,8 @@ BUILTIN = {name for name, one in vars(builtins).items() if isinstance(one, type)
 SIGNAL = ("cli/signals.py", "SignalReceived", "BaseException")
 SAYS = {"print_message", "print_sentences", "print"}
 # what a process is run by: the command itself, and those that make the page and the lists of a desk
-MAINS = {"__main__.py", "desk/acts_process.py", "desk/edits_process.py", "desk/needs_process.py", "desk/page_process.py",
-         "desk/rows_process.py"}
+MAINS = {"__main__.py", "desk/acts_process.py", "desk/edits_process.py", "desk/needs_process.py",
+         "desk/page_process.py", "desk/rows_process.py"}
 
 
 def trees():
