@@ -35,9 +35,14 @@ def pairs(apps=APPS, days=DAYS):
             yield from {(base + number, base + number - 1), (base + number, base + number // 2)}
 
 
-@functools.cache
 def planned(apps=APPS, days=DAYS):
     """The file of a plan with all rows in the long-term plan."""
+    return made(apps, days)  # which is made once, however it is called
+
+
+@functools.cache
+def made(apps, days):
+    """Makes such a file."""
     path = plans.folder() / f"planned-{apps}-{days}.db"
     first = moments.day_of(FIRST)
     with closing(sqlite3.connect(path)) as db:
