@@ -7,6 +7,7 @@ import io
 import json
 import os
 import pty
+import re
 import select
 import signal
 import sqlite3
@@ -248,6 +249,23 @@ class OverAFile(Case):
         self.assert_plan(*(f"cp-{what} --app PAY --ia 2026-11-24/06.00" for what in ("start", "fail", "reset")))
         self.assertIn("keeps no job 999", self.ask("undo", "--job", "999", status=1).stderr)
         self.assertIn("none that takes `dp-extend` back", self.ask("undo", "--job", "6", status=1).stderr)
+
+    def test_what_is_printed_takes_it_back(self):
+        """Without a journal `undo` needs a job number, so the command with it is printed; other acts offer none."""
+        ran = self.ask("add", "PAY", "2026-11-27/12.00")
+        self.assertIn("`undo --job N` takes it back", ran.stdout)
+        job = re.search(r"undo \S+ --job (\d+)` takes it back", ran.stderr)[1]
+        self.ask("undo", "--job", job)
+        key = "--app PAY --ia 2026-11-27/12.00"
+        self.assert_plan(f"ltp-add {key}", f"ltp-delete {key}")
+        ran = self.ask("add", "PAY", "2026-11-27/13.00", "--due", "14.00")
+        self.assertIn("only with a journal", ran.stdout)
+        self.assertEqual(ran.stderr, "")
+
+    def test_a_plan_that_is_not_there(self):
+        ran = plan("rerun", self.room / "no.db", "PAY", *self.words)
+        says = f"plan: {self.room}/no.db: there is no such file (did you mean {self.plan}?)\n"
+        self.assertEqual((ran.returncode, ran.stderr), (1, says))
 
     def test_why_and_send_take_the_same_texts(self):
         ran = plan("why", self.plan, "pay", "2026-11-24")

@@ -16,6 +16,7 @@ from opcplan.rules import moments, statuses, usual_due
 from opcplan.rules.naming_words import count_text
 
 MOST_LINES, MOST_NOTES = 20, 10
+TAKES_BACK = "`undo` takes it back."
 LISTS = {**dict.fromkeys("WSECD", "cp"), "L": "ltp", "H": "history", **dict.fromkeys("owp", "deletions")}
 
 
@@ -169,7 +170,7 @@ def lines_of(found: Preview) -> list[str]:
     count = len(found.act.steps)
     lines.append(f"{count_text(count, 'statement')}: {', '.join(few([one.line for one in found.act.steps], 3))}.")
     if found.inverse.steps:
-        return [*lines, "`undo` takes it back."]
+        return [*lines, TAKES_BACK]
     return [*lines, f"It can't be undone: {found.inverse.why_not}."] if found.inverse.why_not else lines
 
 

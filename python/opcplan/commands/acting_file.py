@@ -2,6 +2,8 @@
 
 import io
 import os
+import re
+import shlex
 import sys
 import time
 from collections.abc import Sequence
@@ -24,7 +26,7 @@ from opcplan.rules import moments, printable, stream
 
 def done(settings: Settings, path: str) -> int:
     """Does what is wanted, once it was shown and somebody said so; the exit status."""
-    run.ask_file(path, False)
+    run.ask_file(path, False, makes_new=False)
     name, wanted = os.path.realpath(path), settings.wanted.text
     begun = begun_acts.find(name, wanted)
     if begun is not None and not settings.is_dry:
@@ -33,14 +35,30 @@ def done(settings: Settings, path: str) -> int:
             return left
     before = plan_file.stamps(name)
     found = previewed(settings, path)
-    show(found.lines)
+    is_kept = settings.journal is not None or os.path.isfile(journal.beside(path))
+    show(found.lines if is_kept else lines_without_journal(found))
     if settings.is_dry:
         return 0
     acting.agree(settings)
     check_unchanged(path, before)
     text = numbered(path, found)
     begun_acts.note(name, wanted, Begun(text))
-    return sent(settings, path, text)
+    status = sent(settings, path, text)
+    if status == 0 and not is_kept and found.inverse.steps and len(found.act.steps) == 1:
+        number = re.findall(r" --job (\d+)", text)[-1]
+        words.print_message(f"`{words.CALLED} undo {shlex.quote(path)} --job {number}` takes it back")
+    return status
+
+
+def lines_without_journal(found: Preview) -> Sequence[str]:
+    """What is to be said of an act over a plan that has no journal beside it: there `undo` needs the job number of a
+    statement, which is printed once it is done."""
+    *lines, last = found.lines
+    if last != previews.TAKES_BACK:
+        return found.lines
+    if len(found.act.steps) == 1:
+        return [*lines, "`undo --job N` takes it back; N is printed once it is done."]
+    return [*lines, "`undo` takes it back only with a journal beside the plan, as a desk keeps it."]
 
 
 def previewed(settings: Settings, path: str) -> Preview:

@@ -228,8 +228,9 @@ def show_part(
         words.print_message(f"{desk.name} did it, but its answers can't be shown: {why_of(error)}")
 
 
-def ask_file(path: str, is_new: bool) -> None:
-    """Asks that the plan is there, or where a new one is wanted, that nothing is. Raises Unreadable."""
+def ask_file(path: str, is_new: bool, makes_new: bool = True) -> None:
+    """Asks that the plan is there, or where a new one is wanted, that nothing is; `makes_new` says whether the command
+    can make one. Raises Unreadable."""
     if is_new and os.path.lexists(path):
         raise Unreadable(f"{path}: the file exists already; leave --new away to run the stream over it")
     if not is_new and os.path.isfile(path) and locks.is_held(path, locks.OF_A_DESK):
@@ -240,7 +241,8 @@ def ask_file(path: str, is_new: bool) -> None:
         plans = [other for other in others if plan_file.is_database(os.path.join(folder, other))]
         near = difflib.get_close_matches(name, plans, 1)
         meant = f" (did you mean {os.path.join(os.path.dirname(path), near[0])}?)" if near else ""
-        raise Unreadable(f"{path}: there is no such file{meant}; --new makes a new plan there")
+        new = "; --new makes a new plan there" if makes_new else ""
+        raise Unreadable(f"{path}: there is no such file{meant}{new}")
 
 
 def show(tried: Trial[check.Checked], color: str) -> None:
